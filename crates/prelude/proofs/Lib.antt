@@ -1,0 +1,6 @@
+pub mod Cases
+pub mod Picks
+pub mod Tables
+pub mod Suffix
+pub mod Stores
+pub mod Rest

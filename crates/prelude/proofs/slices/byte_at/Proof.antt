@@ -1,0 +1,32 @@
+use denote.Ref.{now}
+use native.Mathlib.Omega.{arith}
+use mathlib.Core.Path.{sym}
+use Rattle.prelude.proofs.Rest.{beyond}
+use lib.Seq.{getD-drop}
+use borrow.Author.Needs.{needs}
+use Rattle.prelude.proofs.slices.byte_at.Statement.{statement}
+use Rattle.prelude.proofs.slices.byte_at.Tie as tie
+use Rattle.prelude.proofs.slices.byte_at.Reads as reads
+use Rattle.prelude.proofs.slices.byte_at.Lts as lts
+
+sub-if2 : tie.Need-sub-if2
+sub-if2 c = search needs
+
+add-result : tie.Need-add-result
+add-result c = search needs
+
+shared-slice-read-result : tie.Need-shared-slice-read-result
+shared-slice-read-result c = search needs
+
+returns : tie.Need-returns
+returns c = simp getD-drop
+
+returns-2 : tie.Need-returns-2
+returns-2 c = let a = c .before .before .args in sym (beyond (now (a .s)) (a .at) (a .k) (omega arith))
+
+returns-3 : tie.Need-returns-3
+returns-3 c = let a = c .before .args in sym (beyond (now (a .s)) (a .at) (a .k) (omega arith))
+
+pub byte-at-spec : {M : Type 1} → statement M
+byte-at-spec =
+    tie.close (tie.spec sub-if2 add-result shared-slice-read-result returns returns-2 returns-3)

@@ -1,0 +1,51 @@
+-- The refusal numbers of document 01, each with its row of the table.
+-- Assumes nothing.
+use Prim.Native.Nat.{ℕ}
+
+-- "a lent buffer, table or state is unfit"
+abbrev pub unfit : ℕ
+unfit = 1
+
+-- "string or JSON8 text over 32,768 bytes, or a line over 1,024"
+abbrev pub tooLong : ℕ
+tooLong = 2
+
+-- "a string text doesn't begin with `"` `'` `u'` `b'`"
+abbrev pub noOpening : ℕ
+noOpening = 3
+
+-- "the text ends where more is needed"
+abbrev pub cutOff : ℕ
+cutOff = 4
+
+-- "ill-formed UTF-8"
+abbrev pub illFormed : ℕ
+illFormed = 5
+
+-- "literal control byte, below 0x20"
+abbrev pub control : ℕ
+control = 6
+
+-- "escape unknown, cut off or malformed"
+abbrev pub badEscape : ℕ
+badEscape = 7
+
+-- "single-quoted `\u{h}` of one to six digits, from d800 to dfff"
+abbrev pub surrogate : ℕ
+surrogate = 8
+
+-- "single-quoted `\u{h}` of one to six digits, above 10ffff"
+abbrev pub tooLarge : ℕ
+tooLarge = 9
+
+-- "`\y` in `u''` or `''`, whatever follows it"
+abbrev pub byteEscape : ℕ
+byteEscape = 10
+
+-- "bytes after the closing quote"
+abbrev pub trailing : ℕ
+trailing = 11
+
+-- "all else is right, and the result is longer than the room"
+abbrev pub noRoom : ℕ
+noRoom = 12

@@ -1,0 +1,25 @@
+// The refusal numbers of document 01; specs/Refusals.antt has each one's row of the table.
+
+pub const UNFIT: u32 = 1;
+
+pub const TOO_LONG: u32 = 2;
+
+pub const NO_OPENING: u32 = 3;
+
+pub const CUT_OFF: u32 = 4;
+
+pub const ILL_FORMED: u32 = 5;
+
+pub const CONTROL: u32 = 6;
+
+pub const BAD_ESCAPE: u32 = 7;
+
+pub const SURROGATE: u32 = 8;
+
+pub const TOO_LARGE: u32 = 9;
+
+pub const BYTE_ESCAPE: u32 = 10;
+
+pub const TRAILING: u32 = 11;
+
+pub const NO_ROOM: u32 = 12;

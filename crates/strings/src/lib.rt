@@ -1,0 +1,2 @@
+// J8 strings: the token reader, the string reader and the string writer.
+pub mod answers;

@@ -1,0 +1,5 @@
+pub mod Styles
+pub mod Hex
+pub mod Escapes
+pub mod Units
+pub mod Written

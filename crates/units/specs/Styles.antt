@@ -1,0 +1,27 @@
+-- The three styles of a J8 string: `""`; `u''`, which `''` means; `b''`.
+-- Assumes nothing.
+use Prim.Native.Nat.{ℕ}
+use mathlib.Core.List.{List}
+use Rattle.utf8.specs.Utf8.{fewOf}
+use Rattle.units.specs.declared.styles.Style.{Style}
+use Rattle.units.specs.declared.styles.Style.the-variants.{Json, Unicode, Bytes}
+use Rattle.units.specs.declared.styles.Unit.{Unit as Found}
+use Rattle.units.specs.declared.styles.Unit.the-variants.{Close, Took, Fault}
+
+-- the closing quote
+abbrev pub quote : Style → ℕ
+quote Json = 34
+quote Unicode = 39
+quote Bytes = 39
+
+-- what stands at the head of a text: the closing quote; n bytes that denote these bytes; or a refusal, at the unit's place
+pub data StringUnit : Type 0 where
+  close : StringUnit
+  took : ℕ → List ℕ → StringUnit
+  fault : ℕ → StringUnit
+
+-- the code's answer as such a unit
+abbrev pub unitOf : Found → StringUnit
+unitOf Close = close
+unitOf (Took n few) = took n (fewOf few)
+unitOf (Fault number) = fault number

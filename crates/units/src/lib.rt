@@ -1,0 +1,2 @@
+// One unit of a J8 string in any style: a literal character, an escape, the closing quote, or a refusal.
+pub mod styles;

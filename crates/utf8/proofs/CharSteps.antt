@@ -1,0 +1,49 @@
+-- The character check in code, place by place: the definition's decision list, with the class of the byte that stands there.
+-- Assumes nothing.
+use mathlib.Core.Path.{_≡_, refl, sym, ap, _∙_}
+use mathlib.Core.List.{List, [], _∷_}
+use Prim.Native.Nat.{ℕ, zero, suc, _+_, _≤_, _<_}
+use native.Mathlib.Omega.{arith}
+use borrow.Author.Tests.{lt-ltb, le-ltb}
+use lib.ListN.{length, getD, drop, drop-of-length-le}
+use lib.Seq.{drop-cons}
+use Rattle.prelude.specs.Pick.{pick}
+use Rattle.utf8.specs.Class.{classOf}
+use Rattle.utf8.specs.Utf8.{twoBytes, threeBytes, fourBytes, longLen, lenBy, charLen, charBy, charAt}
+use Rattle.utf8.specs.declared.chars.Char.{Char}
+use Rattle.utf8.specs.declared.chars.Char.the-variants.{Good, Bad}
+
+pub four-way : (k b c d x y z v : ℕ) → v ≡ fourBytes k x y z → x ≡ b → y ≡ c → z ≡ d → 10 ≤ k → k < 13 → v ≡ longLen k b c d
+unfolding longLen pick
+four-way k b c d x y z v e p q r l m = rw (le-ltb k 7 (omega arith), le-ltb k 10 l, lt-ltb k 13 m, ← p, ← q, ← r) e
+
+pub char-end : (s : List ℕ) (at : ℕ) → length s ≤ at → charLen (drop at s) ≡ 0
+unfolding charLen
+char-end s at h = rw (drop-of-length-le s h)
+
+module _ (s : List ℕ) (at k : ℕ) (h : at < length s) (ek : k ≡ classOf (getD s at 0)) where
+  abbrev long : ℕ
+  long = longLen k (getD (drop at s) 1 0) (getD (drop at s) 2 0) (getD (drop at s) 3 0)
+
+  len-is : charLen (drop at s) ≡ lenBy k (getD (drop at s) 1 0) (getD (drop at s) 2 0) (getD (drop at s) 3 0)
+  unfolding charLen
+  len-is = rw (drop-cons s at 0 h, ← ek)
+
+  pub one-byte : k < 5 → charLen (drop at s) ≡ 1
+  unfolding lenBy pick
+  one-byte l = len-is ∙ rw (lt-ltb k 5 l)
+
+  pub lone-tail : 5 ≤ k → k < 6 → charLen (drop at s) ≡ 0
+  unfolding lenBy pick
+  lone-tail l m = len-is ∙ rw (le-ltb k 5 l, lt-ltb k 6 m)
+
+  pub long-char : (n : ℕ) → n ≡ long → 6 ≤ k → charLen (drop at s) ≡ n
+  unfolding lenBy pick
+  long-char n e l = len-is ∙ rw (le-ltb k 5 (omega arith), le-ltb k 6 l) (sym e)
+
+pub bad : (r : List ℕ) → charLen r ≡ 0 → Bad 5 ≡ charAt r
+bad r e = rw e
+
+pub good : (r : List ℕ) (n : ℕ) → charLen r ≡ n → (n ≡ 0 → ⊥) → Good n ≡ charAt r
+good r zero e h = absurd (h refl)
+good r (suc n) e h = rw e

@@ -1,0 +1,4 @@
+pub mod PlainRuns
+pub mod CharSteps
+pub mod Characters
+pub mod Validity

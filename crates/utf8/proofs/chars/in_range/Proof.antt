@@ -1,0 +1,21 @@
+use Rattle.utf8.proofs.chars.in_range.Statement.{statement}
+use Rattle.utf8.proofs.chars.in_range.Tie as tie
+use Rattle.utf8.proofs.chars.in_range.Reads as reads
+use Rattle.utf8.proofs.chars.in_range.Lts as lts
+use mathlib.Core.Path.{_≡_, refl, sym, _∙_}
+use Rattle.prelude.specs.Pick.{pick}
+use Rattle.utf8.specs.Utf8.{between, tail, second, lowOf, highOf, twoBytes, threeBytes, fourBytes, longLen}
+use Rattle.prelude.proofs.Picks.{picks}
+
+returns : tie.Need-returns
+unfolding pick
+returns c =
+    search picks
+
+returns-2 : tie.Need-returns-2
+unfolding pick
+returns-2 c =
+    search picks
+
+pub in-range-spec : {M : Type 1} → statement M
+in-range-spec = tie.close (tie.spec returns returns-2)

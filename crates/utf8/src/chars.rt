@@ -1,0 +1,159 @@
+// The character check, and validity of a whole text.
+ghost use mathlib.Core.Path.{_≡_};
+ghost use Prim.Native.Nat.{_≤_};
+ghost use lib.ListN.{length, getD, drop};
+ghost use Rattle.utf8.specs.Class.{IsTable};
+ghost use Rattle.utf8.specs.Utf8.{between, lowOf, highOf, twoBytes, threeBytes, fourBytes, longLen, charAt, validUtf8};
+use crate::classes;
+use prelude::refusals;
+use prelude::slices;
+
+// A well-formed character of so many bytes, or the number of the refusal.
+pub enum Char {
+    Good(usize),
+    Bad(u32),
+}
+
+fn in_range(low: u8, high: u8, b: u8) -> bool
+    ensures { λ r. ⌜ r ≡ between low high b ⌝ }
+{
+    if b < low {
+        return false;
+    }
+    b <= high
+}
+
+fn low_of(k: u8) -> u8
+    ensures { λ r. ⌜ r ≡ lowOf k ⌝ }
+{
+    if k == 8 {
+        return 0xa0;
+    }
+    if k == 11 {
+        return 0x90;
+    }
+    0x80
+}
+
+fn high_of(k: u8) -> u8
+    ensures { λ r. ⌜ r ≡ highOf k ⌝ }
+{
+    if k == 9 {
+        return 0x9f;
+    }
+    if k == 12 {
+        return 0x8f;
+    }
+    0xbf
+}
+
+fn two_bytes(b: u8) -> usize
+    ensures { λ r. ⌜ r ≡ twoBytes b ⌝ }
+{
+    if in_range(0x80, 0xbf, b) {
+        return 2;
+    }
+    0
+}
+
+fn three_bytes(k: u8, b: u8, c: u8) -> usize
+    ensures { λ r. ⌜ r ≡ threeBytes k b c ⌝ }
+{
+    if in_range(low_of(k), high_of(k), b) {
+        if in_range(0x80, 0xbf, c) {
+            return 3;
+        }
+        return 0;
+    }
+    0
+}
+
+fn four_bytes(k: u8, b: u8, c: u8, d: u8) -> usize
+    ensures { λ r. ⌜ r ≡ fourBytes k b c d ⌝ }
+{
+    if in_range(low_of(k), high_of(k), b) {
+        if in_range(0x80, 0xbf, c) {
+            if in_range(0x80, 0xbf, d) {
+                return 4;
+            }
+            return 0;
+        }
+        return 0;
+    }
+    0
+}
+
+// The length of the character at a place whose first byte has class k, a lead's; 0 where none stands.
+pub fn long_len(s: &[u8], at: usize, k: u8) -> usize
+    ensures { λ r. ⌜ r ≡ longLen k (getD (drop at (now (s .entry))) 1 0) (getD (drop at (now (s .entry))) 2 0) (getD (drop at (now (s .entry))) 3 0) ⌝ }
+{
+    if k < 7 {
+        return two_bytes(slices::byte_at(s, at, 1));
+    }
+    if k < 10 {
+        return three_bytes(k, slices::byte_at(s, at, 1), slices::byte_at(s, at, 2));
+    }
+    if k < 13 {
+        return four_bytes(
+            k,
+            slices::byte_at(s, at, 1),
+            slices::byte_at(s, at, 2),
+            slices::byte_at(s, at, 3),
+        );
+    }
+    0
+}
+
+// The character at a place.
+pub fn char_at(t: &[u8; 256], s: &[u8], at: usize) -> Char
+    requires { ⌜ IsTable (now t) ⌝ }
+    ensures { λ r. ⌜ r ≡ charAt (drop at (now (s .entry))) ⌝ }
+{
+    if s.len() <= at {
+        return Char::Bad(refusals::ILL_FORMED);
+    }
+    let k = classes::class_in(t, s[at]);
+    if k < 5 {
+        return Char::Good(1);
+    }
+    if k < 6 {
+        return Char::Bad(refusals::ILL_FORMED);
+    }
+    let n = long_len(s, at, k);
+    if n == 0 {
+        return Char::Bad(refusals::ILL_FORMED);
+    }
+    Char::Good(n)
+}
+
+// Whether a text is valid UTF-8, with the table lent.
+pub fn valid_in(t: &[u8; 256], s: &[u8]) -> bool
+    requires { ⌜ IsTable (now t) ⌝ }
+    ensures { λ r. ⌜ r ≡ validUtf8 (now (s .entry)) ⌝ }
+{
+    let mut at = classes::eights(t, s, 0);
+    while at < s.len() {
+        let k = classes::class_in(t, s[at]);
+        if k < 5 {
+            at += 1;
+            continue;
+        }
+        if k < 6 {
+            return false;
+        }
+        let n = long_len(s, at, k);
+        if n == 0 {
+            return false;
+        }
+        at += n;
+    }
+    true
+}
+
+// Whether a text is valid UTF-8.
+pub fn valid(s: &[u8]) -> bool
+    ensures { λ r. ⌜ r ≡ validUtf8 (now (s .entry)) ⌝ }
+{
+    let t = classes::table();
+    valid_in(&t, s)
+}
