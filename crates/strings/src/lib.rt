@@ -1,2 +1,3 @@
 // J8 strings: the token reader, the string reader and the string writer.
 pub mod answers;
+pub mod write;

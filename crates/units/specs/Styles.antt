@@ -14,6 +14,12 @@ quote Json = 34
 quote Unicode = 39
 quote Bytes = 39
 
+-- the class of the quote that may stand bare: "In single-quoted styles `"` may stand bare, in `""` a `'` may."
+abbrev pub bareClass : Style → ℕ
+bareClass Json = 3
+bareClass Unicode = 2
+bareClass Bytes = 2
+
 -- what stands at the head of a text: the closing quote; n bytes that denote these bytes; or a refusal, at the unit's place
 pub data StringUnit : Type 0 where
   close : StringUnit

@@ -24,6 +24,10 @@ byNumber Bytes x = 92 ∷ 121 ∷ hexDigit (x / 16) ∷ hexDigit (x % 16) ∷ []
 abbrev pub escaped : Style → List (ℕ × ℕ)
 escaped st = (quote st, quote st) ∷ (92, 92) ∷ (8, 98) ∷ (12, 102) ∷ (10, 110) ∷ (13, 114) ∷ (9, 116) ∷ []
 
+-- a byte that isn't written as it is: by its letter, or else by its number
+unfoldable pub escapeByte : Style → ℕ → List ℕ
+escapeByte st x = pick (eqb (lookup x (escaped st)) 0) (byNumber st x) (92 ∷ lookup x (escaped st) ∷ [])
+
 -- the character of n bytes that x begins, or the byte x where n is 0; r follows x
 unfoldable pub written : Style → ℕ → ℕ → List ℕ → List ℕ
 written st zero x r = byNumber st x

@@ -1,2 +1,4 @@
 // One unit of a J8 string in any style: a literal character, an escape, the closing quote, or a refusal.
+pub mod literals;
 pub mod styles;
+pub mod written;

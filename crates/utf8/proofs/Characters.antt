@@ -1,21 +1,21 @@
 -- Laws of the character check: by the class of its first byte a character has a size and that many continuation bytes less one,
 -- which is counted along the list; the laws of validity then go character by character.
 -- Assumes nothing.
-use Prim.Native.Nat.{ℕ, zero, suc, pred, _+_, _-_, _≤_, _<_, zero-le, suc-le-suc}
+use Prim.Native.Nat.{ℕ, zero, suc, pred, _≤_, _<_, zero-le, suc-le-suc}
 use mathlib.Core.Bool.{Bool, true, false, _&&_}
 use mathlib.Core.List.{List, [], _∷_, _++_}
 use mathlib.Core.Path.{_≡_, refl, sym, ap, _∙_}
 use native.Mathlib.Omega.{arith}
-use lib.Dec.{ltb, leb, eqb, lit≤}
+use lib.Dec.{ltb, eqb, lit≤}
 use lib.ListN.{length, take, drop, getD}
-use lib.Seq.{drop-nil, getD-drop, take-length, drop-append-seam}
+use lib.Seq.{drop-nil, take-length, drop-append-seam}
 use borrow.Author.Tests.{eqb-true, ltb-true, ltb-false, lt-ltb, le-ltb, lt-leb, ne-eqb}
 use Rattle.prelude.specs.Pick.{pick}
 use Rattle.prelude.proofs.Cases.{split, and-left, and-right}
 use Rattle.prelude.proofs.Picks.{pick-case}
 use Rattle.prelude.proofs.Tables.{at-below}
 use Rattle.utf8.specs.Class.{classOf, plainRun}
-use Rattle.utf8.specs.Utf8.{between, tail, lowOf, highOf, second, twoBytes, threeBytes, fourBytes, longLen, lenBy, charLen, positive, validFrom}
+use Rattle.utf8.specs.Utf8.{between, tail, lowOf, highOf, twoBytes, threeBytes, fourBytes, longLen, lenBy, charLen, positive, validFrom}
 
 -- n bytes stand first: one from low to high, and then continuation bytes
 unfoldable pub tails : ℕ → ℕ → ℕ → List ℕ → Bool
@@ -66,21 +66,26 @@ len-is k r =
     (λ e. simp (a, b, c, d, e) (sym (tails-first (lowOf k) (highOf k) 2 4 r (low-bound k) ∙ rw (tails-next 1 4 1 r, tails-next 0 4 2 r))))
     (λ e. simp (a, b, c, d, e))))))
 
+pub char-is : (a : ℕ) (r : List ℕ)
+    → charLen (a ∷ r) ≡ pick (tails (lowOf (classOf a)) (highOf (classOf a)) (pred (sizeOf (classOf a))) r) (sizeOf (classOf a)) 0
+unfolding charLen
+char-is a r = len-is (classOf a) r
+
 -- a character at the head: its first byte tells its length, and the rest of it is there
 pub char-tails : (a : ℕ) (r : List ℕ) (n : ℕ) → charLen (a ∷ r) ≡ suc n
     → (sizeOf (classOf a) ≡ suc n) × (tails (lowOf (classOf a)) (highOf (classOf a)) n r ≡ true)
-unfolding charLen pick
+unfolding pick
 char-tails a r n e =
     let k : ℕ = classOf a in
-    let f : pick (tails (lowOf k) (highOf k) (pred (sizeOf k)) r) (sizeOf k) 0 ≡ suc n = sym (len-is k r) ∙ e in
+    let f : pick (tails (lowOf k) (highOf k) (pred (sizeOf k)) r) (sizeOf k) 0 ≡ suc n = sym (char-is a r) ∙ e in
     split (tails (lowOf k) (highOf k) (pred (sizeOf k)) r)
     (λ q. let l : sizeOf k ≡ suc n = rw q at f in (l, rw l at q))
     (λ q. let z : _≡_ {A = ℕ} 0 (suc n) = rw q at f in (cc, cc))
 
 pub tails-char : (a : ℕ) (r : List ℕ) (n : ℕ) → sizeOf (classOf a) ≡ suc n → tails (lowOf (classOf a)) (highOf (classOf a)) n r ≡ true
     → charLen (a ∷ r) ≡ suc n
-unfolding charLen pick
-tails-char a r n l q = len-is (classOf a) r ∙ simp (l, q)
+unfolding pick
+tails-char a r n l q = char-is a r ∙ simp (l, q)
 
 tails-length : (low high n : ℕ) (r : List ℕ) → tails low high n r ≡ true → n ≤ length r
 unfolding tails

@@ -2,3 +2,4 @@ pub mod PlainRuns
 pub mod CharSteps
 pub mod Characters
 pub mod Validity
+pub mod Encoded

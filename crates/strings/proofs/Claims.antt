@@ -1,0 +1,64 @@
+-- The claims of specs/Claims.antt, each from the law that has it.
+-- Assumes nothing.
+use mathlib.Core.List.{[]}
+use mathlib.Core.Path.{refl}
+use native.Mathlib.Omega.{arith}
+use Rattle.prelude.specs.Pick.{pick}
+use Rattle.utf8.specs.Class.{classOf}
+use Rattle.utf8.specs.Utf8.{lowOf, highOf, twoBytes, threeBytes, fourBytes, longLen, lenBy, charLen, encode}
+use Rattle.units.specs.declared.styles.Style.the-variants.{Bytes}
+use Rattle.units.specs.Hex.{hexVal, hexDigits, hexFrom}
+use Rattle.units.specs.Escapes.{lookup, lowHalf, codeUnit, fourDigits, scalar, braced, rawByte, escape}
+use Rattle.units.specs.Units.{unitAt}
+use Rattle.units.proofs.Sizes.{took-size}
+use Rattle.strings.specs.Read.{readUnits, opening, readToken, readString}
+use Rattle.strings.specs.Write.{writeBytes, writeString}
+use Rattle.strings.specs.Claims.{Example-Strings, Written-Reads-Back, Bytes-Form-Reads-Back, Written-Token-Reads-Back, Bytes-Form-Token-Reads-Back, Unicode-Is-Utf8, Writer-Is-Injective, Written-Is-One-Line, Bytes-Form-Is-One-Line, Places-Inside, Cut-Off-At-End, Units-Progress, Written-Length, Read-Length}
+use Rattle.strings.proofs.RoundTrip.{quoted-back, token-back, text-back, write-injective}
+use Rattle.strings.proofs.Places.{string-inside, text-inside}
+use Rattle.strings.proofs.Utf8Denoted.{unicode-valid}
+use Rattle.strings.proofs.Plain.{quoted-plain, write-plain, plain-at}
+use Rattle.strings.proofs.Lengths.{write-length, string-length}
+
+pub example-strings : Example-Strings
+unfolding classOf lowOf highOf twoBytes threeBytes fourBytes longLen lenBy charLen encode hexVal hexDigits hexFrom lookup lowHalf codeUnit fourDigits scalar braced rawByte escape unitAt readUnits opening readToken readString pick
+example-strings = refl
+
+pub written-reads-back : Written-Reads-Back
+written-reads-back room s b = text-back room s (writeString s) (token-back s [] b)
+
+pub bytes-form-reads-back : Bytes-Form-Reads-Back
+bytes-form-reads-back room s b = text-back room s (writeBytes s) (quoted-back Bytes s [] b tt)
+
+pub written-token-reads-back : Written-Token-Reads-Back
+written-token-reads-back = token-back
+
+pub bytes-form-token-reads-back : Bytes-Form-Token-Reads-Back
+bytes-form-token-reads-back s t b = quoted-back Bytes s t b tt
+
+pub unicode-is-utf8 : Unicode-Is-Utf8
+unicode-is-utf8 s bs n e o r = rw r at (unicode-valid s n o)
+
+pub writer-is-injective : Writer-Is-Injective
+writer-is-injective = write-injective
+
+pub written-is-one-line : Written-Is-One-Line
+written-is-one-line s = plain-at (writeString s) (write-plain s)
+
+pub bytes-form-is-one-line : Bytes-Form-Is-One-Line
+bytes-form-is-one-line s = plain-at (writeBytes s) (quoted-plain Bytes s)
+
+pub places-inside : Places-Inside
+places-inside room s number at r = (rw r at (text-inside room s)) .0 .1
+
+pub cut-off-at-end : Cut-Off-At-End
+cut-off-at-end s at r = (rw r at (string-inside s)) .1 refl
+
+pub units-progress : Units-Progress
+units-progress = took-size
+
+pub written-length : Written-Length
+written-length = write-length
+
+pub read-length : Read-Length
+read-length s bs e r = omega (arith, rw r at (string-length s), rw r at (string-inside s))

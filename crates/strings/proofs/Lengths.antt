@@ -1,0 +1,118 @@
+-- How long texts are: a written text by the length of each unit, and what a text denotes by the bytes that each unit takes.
+-- Assumes nothing.
+use Prim.Native.Nat.{ℕ, zero, suc, pred, _+_, _*_, _≤_, _<_}
+use mathlib.Core.Bool.{false}
+use mathlib.Core.List.{List, [], _∷_, _++_}
+use mathlib.Core.Path.{_≡_, refl, sym, ap, _∙_}
+use native.Mathlib.Omega.{arith}
+use lib.Dec.{eqb}
+use lib.ListN.{length, take, drop, length-append, length-drop}
+use lib.Seq.{take-add}
+use Rattle.prelude.proofs.Picks.{pick-case}
+use Rattle.prelude.proofs.Suffix.{by-suffix}
+use Rattle.utf8.specs.Utf8.{charLen, validFrom, validUtf8}
+use Rattle.utf8.proofs.Characters.{char-le}
+use Rattle.units.specs.declared.styles.Style.{Style}
+use Rattle.units.specs.declared.styles.Style.the-variants.{Json, Bytes}
+use Rattle.units.specs.Styles.{quote, StringUnit, close, took, fault}
+use Rattle.units.specs.Units.{unitAt}
+use Rattle.units.specs.Written.{written}
+use Rattle.units.proofs.Sizes.{took-size, took-raw}
+use Rattle.units.proofs.WrittenUnits.{written-length, limit, limit-more}
+use Rattle.strings.specs.Read.{StringRead, accepted, refused, more, whole, readUnits, Opening, opens, unopened, opening, readFrom, readToken, readString}
+use Rattle.strings.specs.Write.{writeUnits, mark, quoted, writeString}
+use Rattle.strings.proofs.Steps.{read-skip, read-closes, read-took, read-fault, write-skip}
+
+-- written
+
+abbrev Short : Style → List ℕ → Type 0
+Short st s = length (writeUnits st 0 s) ≤ limit st (length s)
+
+units-one : (st : Style) (x : ℕ) (r : List ℕ) → ((k : ℕ) → Short st (drop k r)) → Short st (x ∷ r)
+unfolding writeUnits
+units-one st x r ih =
+    let n : ℕ = charLen (x ∷ r) in
+    let a : List ℕ = written st n x r in
+    let l : suc (pred n) + length (drop (pred n) r) ≡ suc (length r) = omega (arith, length-drop (pred n) r, char-le (x ∷ r)) in
+    rw (length-append a (writeUnits st (pred n) r), write-skip st (pred n) r, ← l)
+    (limit-more st (length a) (length (writeUnits st 0 (drop (pred n) r))) (pred n) (length (drop (pred n) r)) (written-length st n x r refl) (ih (pred n)))
+
+pub units-length : (st : Style) (s : List ℕ) → length (writeUnits st 0 s) ≤ limit st (length s)
+unfolding writeUnits
+units-length st = by-suffix (Short st) (omega arith) (units-one st)
+
+quoted-length : (st : Style) (s : List ℕ) → length (quoted st s) ≤ length (mark st) + limit st (length s) + 1
+unfolding quoted
+quoted-length st s =
+    omega (arith, length-append (mark st) (writeUnits st 0 s ++ (quote st ∷ [])), length-append (writeUnits st 0 s) (quote st ∷ []), units-length st s)
+
+invalid-some : (s : List ℕ) → validUtf8 s ≡ false → 0 < length s
+unfolding validFrom
+invalid-some [] e = let z : _≡_ {A = ℕ} 0 1 = cc in absurd (omega arith)
+invalid-some (x ∷ r) e = omega arith
+
+abbrev Within : ℕ → List ℕ → Type 0
+Within m l = length l ≤ m
+
+pub write-length : (s : List ℕ) → length (writeString s) ≤ 6 * length s + 2
+unfolding writeString
+write-length s =
+    pick-case (Within (6 * length s + 2)) (validUtf8 s) (quoted Json s) (quoted Bytes s)
+    (λ e. omega (arith, quoted-length Json s))
+    (λ e. omega (arith, quoted-length Bytes s, invalid-some s e))
+
+-- read: what stands between p and the closing quote denotes no more bytes than it has, and itself where it denotes as many
+
+abbrev pub Raw : ℕ → List ℕ → StringRead → Type 0
+Raw p s (accepted bs e) = (p + length bs + 1 ≤ e) × (p + length bs + 1 ≡ e → bs ≡ take (length bs) s)
+Raw p s (refused number at) = Unit
+
+raw-more : (p n : ℕ) (bs s : List ℕ) (r : StringRead) → length bs ≤ n → (length bs ≡ n → bs ≡ take n s) → Raw (p + n) (drop n s) r → Raw p s (more bs r)
+raw-more p n bs s (accepted cs e) l f b =
+    let a : length (bs ++ cs) ≡ length bs + length cs = length-append bs cs in (
+      omega (arith, b .0),
+      λ h. let m : length bs ≡ n = omega (arith, b .0) in
+          let c : cs ≡ take (length cs) (drop n s) = b .1 (omega arith) in
+          (λ i. f m i ++ c i) ∙ sym (take-add n (length cs) s) ∙ ap (λ (k : ℕ). take k s) (let q : n + length cs ≡ length (bs ++ cs) = omega arith in q),
+    )
+raw-more p n bs s (refused number at) l f b = tt
+
+raw-one : (st : Style) (x : ℕ) (r : List ℕ) → ((k p : ℕ) → Raw p (drop k r) (readUnits st p 0 (drop k r))) → (p : ℕ) → Raw p (x ∷ r) (readUnits st p 0 (x ∷ r))
+raw-one st x r ih p = go (unitAt st (x ∷ r)) refl
+  where
+    go : (u : StringUnit) → unitAt st (x ∷ r) ≡ u → Raw p (x ∷ r) (readUnits st p 0 (x ∷ r))
+    go close e = rw (read-closes st p (x ∷ r) e) (omega arith, λ h. refl)
+    go (took zero bs) e = absurd (omega (arith, took-size st (x ∷ r) 0 bs e))
+    go (took (suc n) bs) e =
+        let t = took-raw st (x ∷ r) (suc n) bs e in
+        rw (read-took st p (x ∷ r) (suc n) bs e) (raw-more p (suc n) bs (x ∷ r) (readUnits st (p + suc n) 0 (drop n r)) (t .0) (t .1) (ih n (p + suc n)))
+    go (fault number) e = rw (read-fault st p (x ∷ r) number e) tt
+
+pub units-raw : (st : Style) (s : List ℕ) (p : ℕ) → Raw p s (readUnits st p 0 s)
+unfolding readUnits
+units-raw st = by-suffix (λ s. (p : ℕ) → Raw p s (readUnits st p 0 s)) (λ p. tt) (raw-one st)
+
+-- bytes denoted in front of the end
+abbrev pub Less : StringRead → Type 0
+Less (accepted bs e) = length bs < e
+Less (refused number at) = Unit
+
+less-raw : (p : ℕ) (s : List ℕ) (r : StringRead) → Raw p s r → Less r
+less-raw p s (accepted bs e) h = omega (arith, h .0)
+less-raw p s (refused number at) h = tt
+
+from-less : (o : Opening) (s : List ℕ) → Less (readFrom o s)
+from-less (opens st n) s = rw (read-skip st n n s) (less-raw n (drop n s) (readUnits st n 0 (drop n s)) (units-raw st (drop n s) n))
+from-less unopened s = tt
+
+whole-less : (m : ℕ) (r : StringRead) → Less r → Less (whole m r)
+whole-less m (accepted bs e) h = pick-case Less (eqb e m) _ _ (λ q. h) (λ q. tt)
+whole-less m (refused number at) h = tt
+
+pub token-length : (s : List ℕ) → Less (readToken s)
+unfolding readToken
+token-length s = from-less (opening s) s
+
+pub string-length : (s : List ℕ) → Less (readString s)
+unfolding readString
+string-length s = whole-less (length s) (readToken s) (token-length s)

@@ -1,0 +1,10 @@
+pub mod Claims
+pub mod Ends
+pub mod Lengths
+pub mod Places
+pub mod Plain
+pub mod RoundTrip
+pub mod Runs
+pub mod Steps
+pub mod Utf8Denoted
+pub mod Writing

@@ -1,0 +1,117 @@
+-- A byte string, written and read, is itself: unit by unit in any style that writes it, with any text behind the closing quote.
+-- Assumes nothing.
+use Prim.Native.Nat.{ℕ, suc, pred, _+_, _≤_}
+use mathlib.Core.Bool.{true}
+use mathlib.Core.List.{List, [], _∷_, _++_, append-assoc, append-nil}
+use mathlib.Core.Path.{_≡_, refl, sym, ap, _∙_}
+use native.Mathlib.Omega.{arith}
+use lib.ListN.{length, take, drop, length-append, take-append-drop}
+use lib.Seq.{drop-append-seam, getD-drop}
+use borrow.Author.Tests.{eq-eqb, le-ltb}
+use Rattle.prelude.specs.Pick.{pick}
+use Rattle.prelude.proofs.Cases.{and-left, and-right}
+use Rattle.prelude.proofs.Picks.{pick-case}
+use Rattle.prelude.proofs.Suffix.{by-suffix}
+use Rattle.utf8.specs.Utf8.{charLen, positive, validFrom, validUtf8}
+use Rattle.utf8.proofs.Characters.{valid-skip}
+use Rattle.units.specs.declared.styles.Style.{Style}
+use Rattle.units.specs.declared.styles.Style.the-variants.{Json, Unicode, Bytes}
+use Rattle.units.specs.Styles.{quote, took}
+use Rattle.units.specs.Units.{unitAt}
+use Rattle.units.specs.Written.{written}
+use Rattle.units.proofs.WrittenBack.{Writes, unit-back}
+use Rattle.strings.specs.Read.{accepted, readUnits, opens, opening, readToken, readString, readText, textMax}
+use Rattle.strings.specs.Write.{writeUnits, mark, quoted, writeString}
+use Rattle.strings.specs.Claims.{IsBytes}
+use Rattle.strings.proofs.Steps.{read-skip, write-skip, read-close, read-took}
+
+bytes-drop : (k : ℕ) (s : List ℕ) → IsBytes s → IsBytes (drop k s)
+bytes-drop k s h i = rw getD-drop (h (k + i))
+
+-- the byte strings that a style writes
+abbrev pub Writable : Style → List ℕ → Type 0
+Writable Json s = validUtf8 s ≡ true
+Writable Unicode s = validUtf8 s ≡ true
+Writable Bytes s = Unit
+
+valid-head : (x : ℕ) (r : List ℕ) → validFrom 0 (x ∷ r) ≡ true
+    → (positive (charLen (x ∷ r)) ≡ true) × (validFrom 0 (drop (pred (charLen (x ∷ r))) r) ≡ true)
+unfolding validFrom
+valid-head x r w = (and-left _ _ w, sym (valid-skip (pred (charLen (x ∷ r))) r) ∙ and-right (positive (charLen (x ∷ r))) _ w)
+
+writable-head : (st : Style) (x : ℕ) (r : List ℕ) → Writable st (x ∷ r) → Writes st (charLen (x ∷ r)) × Writable st (drop (pred (charLen (x ∷ r))) r)
+writable-head Json x r w = valid-head x r w
+writable-head Unicode x r w = valid-head x r w
+writable-head Bytes x r w = (tt, tt)
+
+-- a unit u and the units v behind it
+read-both : (st : Style) (p : ℕ) (a c u v z : List ℕ) → unitAt st (u ++ (v ++ z)) ≡ took (length u) a
+    → readUnits st (p + length u) 0 (v ++ z) ≡ accepted c (p + length u + (length v + 1))
+    → readUnits st p 0 ((u ++ v) ++ z) ≡ accepted (a ++ c) (p + (length (u ++ v) + 1))
+read-both st p a c u v z e h =
+    rw (append-assoc u v z, read-took st p (u ++ (v ++ z)) (length u) a e, drop-append-seam u (v ++ z), h)
+    (ap (accepted (a ++ c)) (omega (arith, length-append u v)))
+
+abbrev Back : Style → List ℕ → Type 0
+Back st s = (p : ℕ) (t : List ℕ) → IsBytes s → Writable st s
+    → readUnits st p 0 (writeUnits st 0 s ++ (quote st ∷ t)) ≡ accepted s (p + (length (writeUnits st 0 s) + 1))
+
+units-one : (st : Style) (x : ℕ) (r : List ℕ) → ((k : ℕ) → Back st (drop k r)) → Back st (x ∷ r)
+unfolding writeUnits
+units-one st x r ih p t b w =
+    let n : ℕ = charLen (x ∷ r) in
+    rw (write-skip st (pred n) r)
+    (rw (take-append-drop (pred n) r) at
+    (read-both st p (x ∷ take (pred n) r) (drop (pred n) r) (written st n x r) (writeUnits st 0 (drop (pred n) r)) (quote st ∷ t)
+    (unit-back st x r _ n (writable-head st x r w .0) (b 0) refl)
+    (ih (pred n) _ t (bytes-drop (pred n) r (λ i. b (suc i))) (writable-head st x r w .1))))
+
+pub units-back : (st : Style) (s : List ℕ) (p : ℕ) (t : List ℕ) → IsBytes s → Writable st s
+    → readUnits st p 0 (writeUnits st 0 s ++ (quote st ∷ t)) ≡ accepted s (p + (length (writeUnits st 0 s) + 1))
+unfolding writeUnits
+units-back st = by-suffix (Back st) (λ p t b w. read-close st p t) (units-one st)
+
+opening-mark : (st : Style) (r : List ℕ) → opening (mark st ++ r) ≡ opens st (length (mark st))
+unfolding opening pick
+opening-mark Json r = refl
+opening-mark Unicode r = refl
+opening-mark Bytes r = refl
+
+-- a text with its marks, and any text behind it
+pub quoted-back : (st : Style) (s t : List ℕ) → IsBytes s → Writable st s → readToken (quoted st s ++ t) ≡ accepted s (length (quoted st s))
+unfolding readToken quoted
+quoted-back st s t b w =
+    let u : List ℕ = writeUnits st 0 s in
+    let n : ℕ = length (mark st) in
+    rw (
+      append-assoc (mark st) (u ++ (quote st ∷ [])) t,
+      append-assoc u (quote st ∷ []) t,
+      opening-mark st (u ++ (quote st ∷ t)),
+      read-skip st n n (mark st ++ (u ++ (quote st ∷ t))),
+      drop-append-seam (mark st) (u ++ (quote st ∷ t)),
+      units-back st s n t b w,
+    )
+    (ap (accepted s) (omega (arith, length-append (mark st) (u ++ (quote st ∷ [])), length-append u (quote st ∷ []))))
+
+pub token-back : (s t : List ℕ) → IsBytes s → readToken (writeString s ++ t) ≡ accepted s (length (writeString s))
+unfolding writeString
+token-back s t b =
+    pick-case (λ w. readToken (w ++ t) ≡ accepted s (length w)) (validUtf8 s) _ _ (λ e. quoted-back Json s t b e) (λ e. quoted-back Bytes s t b tt)
+
+-- a text that reads back as a token, read as a whole and into a room
+pub whole-back : (s w : List ℕ) → readToken (w ++ []) ≡ accepted s (length w) → readString w ≡ accepted s (length w)
+unfolding readString pick
+whole-back s w e =
+    let f : readToken w ≡ accepted s (length w) = rw append-nil at e in
+    simp (f, eq-eqb (length w) (length w) refl)
+
+pub text-back : (room : ℕ) (s w : List ℕ) → readToken (w ++ []) ≡ accepted s (length w) → length w ≤ textMax → length s ≤ room
+    → readText room w ≡ accepted s (length w)
+unfolding readText pick
+text-back room s w e h g = simp (le-ltb textMax (length w) h, whole-back s w e, le-ltb room (length s) g)
+
+pub round-trip : (s : List ℕ) → IsBytes s → readString (writeString s) ≡ accepted s (length (writeString s))
+round-trip s b = whole-back s (writeString s) (token-back s [] b)
+
+pub write-injective : (s t : List ℕ) → IsBytes s → IsBytes t → writeString s ≡ writeString t → s ≡ t
+write-injective s t b c e = cc (round-trip s b, round-trip t c, ap readString e)

@@ -1,0 +1,133 @@
+// The string writer: `""` for valid UTF-8, else `b''`; and the `b''` form by itself.
+ghost use mathlib.Core.Path.{_≡_};
+ghost use lib.ListN.{length};
+ghost use lib.Seq.{sets};
+ghost use Rattle.utf8.specs.Class.{IsTable};
+ghost use Rattle.units.specs.declared.styles.Style.the-variants.{Json};
+ghost use Rattle.units.specs.Units.{literalRun};
+ghost use Rattle.strings.specs.Write.{mark, quoted, writeBytes, writeString, writtenIn, wroteInto, Passed};
+use crate::answers::Written;
+use prelude::refusals;
+use prelude::slices;
+use units::literals;
+use units::styles;
+use units::styles::Style;
+use units::written;
+use utf8::chars;
+use utf8::classes;
+
+// Stores the opening mark of a style, as far as there is room; its length.
+fn put_mark(style: Style, out: &mut [u8]) -> usize
+    ensures { λ r. ⌜ (r ≡ length (mark style)) × (now (out .exit) ≡ sets (now (out .entry)) 0 (mark style)) ⌝ }
+{
+    match style {
+        Style::Json => {
+            slices::put(34, 0, out);
+            1
+        }
+        Style::Unicode => {
+            let text = [117u8, 39];
+            slices::copy_run(&text, 0, 2, 0, out);
+            2
+        }
+        Style::Bytes => {
+            let text = [98u8, 39];
+            slices::copy_run(&text, 0, 2, 0, out);
+            2
+        }
+    }
+}
+
+// Writes the data in a style, as far as the buffer reaches: the text's length, or 0 as soon as it passes the room.
+// Every text has two bytes, so 0 is no length; and the count stops at the room, so it can't run over.
+fn pass(t: &[u8; 256], style: Style, s: &[u8], room: usize, out: &mut [u8]) -> usize
+    requires { ⌜ IsTable (now t) ⌝ }
+    ensures { λ r. ⌜ Passed (quoted style (now (s .entry))) room r (now (out .entry)) (now (out .exit)) ⌝ }
+{
+    let first = put_mark(style, out);
+    if room <= first {
+        return 0;
+    }
+    let cap = room - 1;
+    let mut o = first;
+    let mut at = 0;
+    while at < s.len() {
+        let e = literals::literal_run(t, s, at, style);
+        if e == at {
+            let x = s[at];
+            let m = written::escape_len(style, x);
+            if cap - o < m {
+                return 0;
+            }
+            written::put_escape(style, x, o, out);
+            o += m;
+            at += 1;
+        } else {
+            let n = e - at;
+            if cap - o < n {
+                return 0;
+            }
+            slices::copy_run(s, at, n, o, out);
+            o += n;
+            at = e;
+        }
+    }
+    slices::put(styles::quote_of(style), o, out);
+    o + 1
+}
+
+// The text of the data in a style, or 12: one pass over no buffer to measure it, one to store it.
+fn write_quoted(t: &[u8; 256], style: Style, s: &[u8], out: &mut [u8]) -> Written
+    requires { ⌜ IsTable (now t) ⌝ }
+    ensures answer { λ r. ⌜ r ≡ writtenIn (length (now (out .entry))) (quoted style (now (s .entry))) ⌝ }
+    ensures stored { λ r. ⌜ now (out .exit) ≡ wroteInto (quoted style (now (s .entry))) (now (out .entry)) ⌝ }
+{
+    let room = out.len();
+    let n = pass(t, style, s, room, &mut out[..0]);
+    if n == 0 {
+        return Written::Full(refusals::NO_ROOM);
+    }
+    pass(t, style, s, room, out);
+    Written::Wrote(n)
+}
+
+// The text of data that is one run of literal characters: a quote, the data, a quote.
+fn write_literal(s: &[u8], out: &mut [u8]) -> Written
+    requires { ⌜ literalRun Json 0 (now s) ≡ length (now s) ⌝ }
+    ensures answer { λ r. ⌜ r ≡ writtenIn (length (now (out .entry))) (quoted Json (now (s .entry))) ⌝ }
+    ensures stored { λ r. ⌜ now (out .exit) ≡ wroteInto (quoted Json (now (s .entry))) (now (out .entry)) ⌝ }
+{
+    let n = s.len();
+    if out.len() < n + 2 {
+        return Written::Full(refusals::NO_ROOM);
+    }
+    slices::put(34, 0, out);
+    slices::copy_run(s, 0, n, 1, out);
+    slices::put(34, n + 1, out);
+    Written::Wrote(n + 2)
+}
+
+// Writes the data as a J8 string: its text in front of out, or 12 and out as it was.
+pub fn write(s: &[u8], out: &mut [u8]) -> Written
+    ensures answer { λ r. ⌜ r ≡ writtenIn (length (now (out .entry))) (writeString (now (s .entry))) ⌝ }
+    ensures stored { λ r. ⌜ now (out .exit) ≡ wroteInto (writeString (now (s .entry))) (now (out .entry)) ⌝ }
+{
+    let t = classes::table();
+    let e = literals::literal_run(&t, s, 0, Style::Json);
+    if e == s.len() {
+        return write_literal(s, out);
+    }
+    if chars::valid_in(&t, s) {
+        return write_quoted(&t, Style::Json, s, out);
+    }
+    write_quoted(&t, Style::Bytes, s, out)
+}
+
+// Writes the data in the `b''` form, also where it is valid UTF-8.
+pub fn write_bytes(s: &[u8], out: &mut [u8]) -> Written
+    ensures answer { λ r. ⌜ r ≡ writtenIn (length (now (out .entry))) (writeBytes (now (s .entry))) ⌝ }
+    ensures stored { λ r. ⌜ now (out .exit) ≡ wroteInto (writeBytes (now (s .entry))) (now (out .entry)) ⌝ }
+{
+    let t = classes::table();
+    write_quoted(&t, Style::Bytes, s, out)
+}

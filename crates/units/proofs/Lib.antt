@@ -1,0 +1,9 @@
+pub mod Agreement
+pub mod EscapeStores
+pub mod LiteralClasses
+pub mod LiteralLaws
+pub mod LiteralRuns
+pub mod OneCharacter
+pub mod Sizes
+pub mod WrittenBack
+pub mod WrittenUnits

@@ -1,0 +1,114 @@
+-- Literal characters and runs of them: one is a unit that denotes itself and is written as it is, and what holds of a run is shown
+-- character by character, by one induction for all such laws.
+-- Assumes nothing.
+use Prim.Native.Nat.{ℕ, zero, suc, _+_, _≤_, _<_}
+use mathlib.Core.Bool.{true, false}
+use mathlib.Core.List.{List, [], _∷_}
+use mathlib.Core.Path.{_≡_, refl, sym, ap, _∙_, subst}
+use native.Mathlib.Omega.{arith}
+use lib.Dec.{ltb, eqb, lit<, lit≤}
+use lib.ListN.{length, take, drop, length-drop, drop-of-length-le}
+use lib.Seq.{drop-drop}
+use borrow.Author.Tests.{ltb-false, ne-eqb}
+use Rattle.prelude.specs.Pick.{pick}
+use Rattle.prelude.proofs.Cases.{split}
+use Rattle.prelude.proofs.Suffix.{by-suffix}
+use Rattle.utf8.specs.Utf8.{charLen, validFrom}
+use Rattle.utf8.proofs.Characters.{char-le, valid-step}
+use Rattle.units.specs.declared.styles.Style.{Style}
+use Rattle.units.specs.declared.styles.Style.the-variants.{Json, Unicode, Bytes}
+use Rattle.units.specs.Styles.{quote, took}
+use Rattle.units.specs.Escapes.{lookup}
+use Rattle.units.specs.Units.{unitAt, literalLen, literalRun, onward}
+use Rattle.units.specs.Written.{escaped, written}
+
+pub quote-ascii : (st : Style) → (32 ≤ quote st) × (quote st < 128)
+quote-ascii Json = (lit≤ tt, lit< tt)
+quote-ascii Unicode = (lit≤ tt, lit< tt)
+quote-ascii Bytes = (lit≤ tt, lit< tt)
+
+-- the first byte of a literal character
+record Literal (st : Style) (x : ℕ) (r : List ℕ) (n : ℕ) : Type 0 where
+  no-quote : eqb x (quote st) ≡ false
+  no-slash : eqb x 92 ≡ false
+  no-control : ltb x 32 ≡ false
+  size : charLen (x ∷ r) ≡ suc n
+
+literal-is : (st : Style) (x : ℕ) (r : List ℕ) (n : ℕ) → literalLen st (x ∷ r) ≡ suc n → Literal st x r n
+unfolding literalLen pick
+literal-is st x r n e =
+    split (eqb x (quote st)) (λ a. absurd (omega (arith, rw a at e)))
+    (λ a. split (eqb x 92) (λ b. absurd (omega (arith, simp (a, b) at e)))
+    (λ b. split (ltb x 32) (λ c. absurd (omega (arith, simp (a, b, c) at e)))
+    (λ c. record { no-quote = a; no-slash = b; no-control = c; size = simp (a, b, c) at e })))
+
+literal-nil : (st : Style) → literalLen st [] ≡ 0
+unfolding literalLen
+literal-nil st = refl
+
+pub literal-char : (st : Style) (s : List ℕ) (n : ℕ) → literalLen st s ≡ suc n → charLen s ≡ suc n
+literal-char st [] n e = absurd (omega (arith, literal-nil st))
+literal-char st (x ∷ r) n e = literal-is st x r n e .size
+
+pub literal-unit : (st : Style) (s : List ℕ) (n : ℕ) → literalLen st s ≡ suc n → unitAt st s ≡ took (suc n) (take (suc n) s)
+unfolding unitAt pick
+literal-unit st [] n e = absurd (omega (arith, literal-nil st))
+literal-unit st (x ∷ r) n e = let l = literal-is st x r n e in simp (l .no-quote, l .no-slash, l .no-control, l .size)
+
+-- as it is written
+no-escape : (st : Style) (x : ℕ) → eqb x (quote st) ≡ false → eqb x 92 ≡ false → ltb x 32 ≡ false → lookup x (escaped st) ≡ 0
+unfolding lookup pick
+no-escape st x q b c =
+    let h : 32 ≤ x = ltb-false x 32 c in
+    simp (q, b, ne-eqb x 8 (λ z. omega arith), ne-eqb x 12 (λ z. omega arith), ne-eqb x 10 (λ z. omega arith), ne-eqb x 13 (λ z. omega arith), ne-eqb x 9 (λ z. omega arith))
+
+pub literal-written : (st : Style) (x : ℕ) (r : List ℕ) (n : ℕ) → literalLen st (x ∷ r) ≡ suc n → written st (charLen (x ∷ r)) x r ≡ x ∷ take n r
+unfolding written pick
+literal-written st x r n e =
+    let l = literal-is st x r n e in
+    simp (l .size, no-escape st x (l .no-quote) (l .no-slash) (l .no-control), l .no-control)
+
+-- what holds of no bytes where no literal character stands, and of a literal character and a run behind it, holds of every run
+run-skip : (st : Style) (k : ℕ) (s : List ℕ) → k ≤ length s → literalRun st k s ≡ k + literalRun st 0 (drop k s)
+unfolding literalRun
+run-skip st zero s h = omega arith
+run-skip st (suc k) [] h = absurd (omega arith)
+run-skip st (suc k) (x ∷ r) h = omega (arith, run-skip st k r (omega arith))
+
+module _ (st : Style) (P : List ℕ → ℕ → Type 0) (stop : (s : List ℕ) → literalLen st s ≡ 0 → P s 0)
+    (on : (s : List ℕ) (n m : ℕ) → literalLen st s ≡ suc n → suc n ≤ length s → P (drop (suc n) s) m → P s (suc n + m)) where
+  one : (x : ℕ) (r : List ℕ) → ((k : ℕ) → P (drop k r) (literalRun st 0 (drop k r))) → P (x ∷ r) (literalRun st 0 (x ∷ r))
+  unfolding literalRun
+  one x r ih = go (literalLen st (x ∷ r)) refl
+    where
+      go : (n : ℕ) → literalLen st (x ∷ r) ≡ n → P (x ∷ r) (onward n (λ m. literalRun st m r))
+      go zero e = stop (x ∷ r) e
+      go (suc n) e =
+          let f : suc n ≤ suc (length r) = rw (literal-char st (x ∷ r) n e) at (char-le (x ∷ r)) in
+          let g : suc n + literalRun st 0 (drop n r) ≡ suc (literalRun st n r) = omega (arith, run-skip st n r (omega arith)) in
+          subst (P (x ∷ r)) g (on (x ∷ r) n (literalRun st 0 (drop n r)) e f (ih n))
+
+  pub by-run : (s : List ℕ) → P s (literalRun st 0 s)
+  unfolding literalRun
+  by-run = by-suffix (λ s. P s (literalRun st 0 s)) (stop [] (literal-nil st)) one
+
+pub run-fits : (st : Style) (s : List ℕ) → literalRun st 0 s ≤ length s
+run-fits st = by-run st (λ s n. n ≤ length s) (λ s e. omega arith) (λ s n m e f h. omega (arith, length-drop (suc n) s))
+
+-- no literal character stands behind a run
+pub run-ends : (st : Style) (s : List ℕ) → literalLen st (drop (literalRun st 0 s) s) ≡ 0
+run-ends st =
+    by-run st (λ s n. literalLen st (drop n s) ≡ 0) (λ s e. e)
+    (λ s n m e f h. ap (literalLen st) (sym (drop-drop m (suc n) s)) ∙ h)
+
+-- a run is characters
+pub run-valid : (st : Style) (s : List ℕ) → validFrom 0 s ≡ validFrom 0 (drop (literalRun st 0 s) s)
+run-valid st =
+    by-run st (λ s n. validFrom 0 s ≡ validFrom 0 (drop n s)) (λ s e. refl)
+    (λ s n m e f h.
+    let c : charLen s ≡ suc n = literal-char st s n e in
+    valid-step s (λ z. omega arith) ∙ ap (λ (k : ℕ). validFrom 0 (drop k s)) c ∙ h ∙ ap (validFrom 0) (drop-drop m (suc n) s))
+
+pub all-literal : (st : Style) (s : List ℕ) → literalRun st 0 s ≡ length s → validFrom 0 s ≡ true
+unfolding validFrom
+all-literal st s e = run-valid st s ∙ rw (e, drop-of-length-le s {i = length s} (omega arith))

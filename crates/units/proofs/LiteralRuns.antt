@@ -1,0 +1,107 @@
+-- Runs of literal characters, by induction on the text: a run goes on over a character and stops where none stands; plain bytes are
+-- characters.
+-- Assumes nothing.
+use mathlib.Core.Path.{_≡_, refl, sym, ap, _∙_}
+use mathlib.Core.Bool.{Bool, true, false}
+use mathlib.Core.List.{List, [], _∷_}
+use Prim.Native.Nat.{ℕ, zero, suc, _+_, _-_, _*_, _/_, _≤_, _<_, zero-le}
+use native.Mathlib.Nat.{not-suc-le-zero}
+use native.Mathlib.Omega.{arith}
+use borrow.Author.Tests.{eqb-true}
+use lib.Dec.{eqb, ltb}
+use lib.ListN.{length, getD, drop, length-drop, drop-of-length-le}
+use lib.Seq.{drop-drop}
+use Rattle.prelude.specs.Pick.{pick}
+use Rattle.prelude.proofs.Cases.{split}
+use Rattle.prelude.proofs.Picks.{pick-true, pick-case}
+use Rattle.utf8.specs.Class.{classOf, plainRun}
+use Rattle.utf8.specs.Utf8.{charLen}
+use Rattle.utf8.proofs.PlainRuns.{run-plain, run-stop, after-eights}
+use Rattle.utf8.proofs.Characters.{char-le}
+use Rattle.units.specs.declared.styles.Style.{Style}
+use Rattle.units.specs.Styles.{quote}
+use Rattle.units.specs.Units.{literalLen, onward, literalRun}
+use Rattle.units.proofs.LiteralClasses.{literal-class}
+
+module _ (st : Style) where
+  pub literal-fits : (s : List ℕ) → literalLen st s ≤ length s
+  unfolding literalLen
+  literal-fits [] = zero-le
+  literal-fits (x ∷ r) =
+      let Fits : ℕ → Type 0 = λ n. n ≤ suc (length r) in
+      pick-case Fits (eqb x (quote st)) 0 _ (λ _. zero-le)
+      (λ _. pick-case Fits (eqb x 92) 0 _ (λ _. zero-le)
+      (λ _. pick-case Fits (ltb x 32) 0 _ (λ _. zero-le) (λ _. char-le (x ∷ r))))
+
+  nil-run : (k : ℕ) → literalRun st k [] ≡ 0
+  unfolding literalRun
+  nil-run zero = refl
+  nil-run (suc k) = refl
+
+  cons-run : (x : ℕ) (r : List ℕ) → literalRun st 0 (x ∷ r) ≡ onward (literalLen st (x ∷ r)) (λ m. literalRun st m r)
+  unfolding literalRun
+  cons-run x r = refl
+
+  skip-run : (k x : ℕ) (r : List ℕ) → literalRun st (suc k) (x ∷ r) ≡ suc (literalRun st k r)
+  unfolding literalRun
+  skip-run k x r = refl
+
+  skipped : (k : ℕ) (s : List ℕ) → k ≤ length s → literalRun st k s ≡ k + literalRun st 0 (drop k s)
+  skipped zero s h = omega arith
+  skipped (suc k) [] h = absurd (not-suc-le-zero h)
+  skipped (suc k) (x ∷ r) h =
+      skip-run k x r ∙ (let i : literalRun st k r ≡ k + literalRun st 0 (drop k r) = skipped k r (omega arith) in omega arith)
+
+  pub run-stop-at : (s : List ℕ) → literalLen st s ≡ 0 → literalRun st 0 s ≡ 0
+  run-stop-at [] e = nil-run 0
+  run-stop-at (x ∷ r) e = cons-run x r ∙ ap (λ (n : ℕ). onward n (λ m. literalRun st m r)) e
+
+  pub run-on : (n : ℕ) (s : List ℕ) → literalLen st s ≡ n → literalRun st 0 s ≡ n + literalRun st 0 (drop n s)
+  run-on zero s e = omega arith
+  run-on (suc n) [] e = absurd (let f : suc n ≤ 0 = rw e at (literal-fits []) in not-suc-le-zero f)
+  run-on (suc n) (x ∷ r) e =
+      let f : suc n ≤ suc (length r) = rw e at (literal-fits (x ∷ r)) in
+      cons-run x r ∙ ap (λ (k : ℕ). onward k (λ m. literalRun st m r)) e
+      ∙ (let i : literalRun st n r ≡ n + literalRun st 0 (drop n r) = skipped n r (omega arith) in omega arith)
+
+  plain-one : (x : ℕ) (r : List ℕ) → eqb (classOf x) 0 ≡ true → literalLen st (x ∷ r) ≡ 1
+  plain-one x r e = sym (literal-class st x r) ∙ pick-true (eqb (classOf x) 0) _ _ e
+
+  plain-chars : (n : ℕ) (s : List ℕ) → n ≤ plainRun s → n ≤ length s → literalRun st 0 s ≡ n + literalRun st 0 (drop n s)
+  plain-chars zero s h l = omega arith
+  plain-chars (suc n) [] h l = absurd (not-suc-le-zero l)
+  plain-chars (suc n) (x ∷ r) h l =
+      split (eqb (classOf x) 0)
+      (λ e. let f : plainRun (x ∷ r) ≡ suc (plainRun r) = run-plain x r e in
+      let u : literalRun st 0 (x ∷ r) ≡ 1 + literalRun st 0 r = run-on 1 (x ∷ r) (plain-one x r e) in
+      let g : literalRun st 0 r ≡ n + literalRun st 0 (drop n r) = plain-chars n r (omega arith) (omega arith) in omega arith)
+      (λ e. let f : plainRun (x ∷ r) ≡ 0 = run-stop x r e in absurd (let b : ⊥ = omega arith in b))
+
+  -- the loop's invariant at a place
+  pub record Running (s : List ℕ) (from at : ℕ) : Type 0 where
+    pub inside : at ≤ length s
+    pub same : at + literalRun st 0 (drop at s) ≡ from + literalRun st 0 (drop from s)
+
+  -- behind the eights that are plain
+  pub begun : (s : List ℕ) (from i : ℕ) → from ≤ length s → i ≡ from + 8 * (plainRun (drop from s) / 8) → Running s from i
+  begun s from i h e =
+      let n : ℕ = 8 * (plainRun (drop from s) / 8) in
+      let l : n ≤ plainRun (drop from s) = omega arith in
+      let a = after-eights s from i h e in
+      let d : n ≤ length (drop from s) = simp length-drop (omega (arith, a .0)) in
+      let m : literalRun st 0 (drop from s) ≡ n + literalRun st 0 (drop (from + n) s) =
+      plain-chars n (drop from s) l d ∙ ap (λ (x : List ℕ). n + literalRun st 0 x) (drop-drop n from s) in
+      record { inside = a .0; same = rw e (omega arith) }
+
+  pub moved : (s : List ℕ) (from at n : ℕ) → Running s from at → n ≡ literalLen st (drop at s) → Running s from (at + n)
+  moved s from at n k e =
+      let u : literalRun st 0 (drop at s) ≡ n + literalRun st 0 (drop (at + n) s) =
+      run-on n (drop at s) (sym e) ∙ ap (λ (x : List ℕ). n + literalRun st 0 x) (drop-drop n at s) in
+      let l : n ≤ length s - at = rw (← e, length-drop at s) at (literal-fits (drop at s)) in
+      record { inside = omega (arith, k .inside); same = omega (arith, k .same) }
+
+  pub stopped : (s : List ℕ) (from at : ℕ) → Running s from at → 0 ≡ literalLen st (drop at s) → at ≡ from + literalRun st 0 (drop from s)
+  stopped s from at k e = omega (arith, k .same, run-stop-at (drop at s) (sym e))
+
+  pub at-end : (s : List ℕ) (from at : ℕ) → Running s from at → length s ≤ at → at ≡ from + literalRun st 0 (drop from s)
+  at-end s from at k h = omega (arith, k .same, ap (literalRun st 0) (drop-of-length-le s h), nil-run 0)

@@ -1,0 +1,99 @@
+-- The shape of a unit as it is written: its bytes are from 0x20 up, and it is at most as long as an escape for each byte that it
+-- stands for; both kind by kind.
+-- Assumes nothing.
+use Prim.Native.Nat.{ℕ, zero, suc, pred, _+_, _*_, _≤_}
+use mathlib.Core.Bool.{true}
+use mathlib.Core.List.{List, [], _∷_, _++_}
+use mathlib.Core.Path.{_≡_, refl}
+use native.Mathlib.Omega.{arith}
+use lib.Dec.{ltb, leb, eqb, lit≤}
+use lib.ListN.{length, take}
+use lib.Seq.{length-take-le}
+use borrow.Author.Tests.{eqb-false, ltb-false, leb-true}
+use Rattle.prelude.proofs.Cases.{and-left, and-right}
+use Rattle.prelude.proofs.Picks.{pick-case}
+use Rattle.utf8.specs.Utf8.{between, charLen}
+use Rattle.utf8.proofs.Characters.{tails, low-bound, char-tails, char-length}
+use Rattle.units.specs.declared.styles.Style.{Style}
+use Rattle.units.specs.declared.styles.Style.the-variants.{Json, Unicode, Bytes}
+use Rattle.units.specs.Escapes.{lookup}
+use Rattle.units.specs.Written.{hexDigit, byNumber, escaped, written}
+use Rattle.units.proofs.LiteralLaws.{quote-ascii}
+use Rattle.units.proofs.WrittenBack.{lookup-each}
+
+-- every byte is 0x20 or above
+abbrev pub Plain : List ℕ → Type 0
+Plain [] = Unit
+Plain (x ∷ r) = (32 ≤ x) × Plain r
+
+pub plain-append : (s t : List ℕ) → Plain s → Plain t → Plain (s ++ t)
+plain-append [] t h g = g
+plain-append (x ∷ s) t h g = (h .0, plain-append s t (h .1) g)
+
+digit-plain : (d : ℕ) → 32 ≤ hexDigit d
+unfolding hexDigit
+digit-plain d = pick-case (λ v. 32 ≤ v) (ltb d 10) _ _ (λ e. omega arith) (λ e. omega arith)
+
+number-plain : (st : Style) (x : ℕ) → Plain (byNumber st x)
+unfolding byNumber
+number-plain Json x = (lit≤ tt, (lit≤ tt, (lit≤ tt, (lit≤ tt, (digit-plain _, (digit-plain _, tt))))))
+number-plain Unicode x = (lit≤ tt, (lit≤ tt, (lit≤ tt, (digit-plain _, (digit-plain _, (lit≤ tt, tt))))))
+number-plain Bytes x = (lit≤ tt, (lit≤ tt, (digit-plain _, (digit-plain _, tt))))
+
+letter-plain : (st : Style) (x : ℕ) → (lookup x (escaped st) ≡ 0 → ⊥) → 32 ≤ lookup x (escaped st)
+letter-plain st =
+    lookup-each (λ k v. 32 ≤ v) (escaped st) (quote-ascii st .0, (lit≤ tt, (lit≤ tt, (lit≤ tt, (lit≤ tt, (lit≤ tt, (lit≤ tt, tt)))))))
+
+tails-plain : (low high n : ℕ) (r : List ℕ) → 0x80 ≤ low → tails low high n r ≡ true → Plain (take n r)
+unfolding tails
+tails-plain low high zero r h e = tt
+tails-plain low high (suc n) [] h e = tt
+tails-plain low high (suc n) (b ∷ r) h e = (
+  omega (arith, leb-true low b (and-left (leb low b) _ (and-left (between low high b) _ e))),
+  tails-plain 0x80 0xbf n r (lit≤ tt) (and-right (between low high b) _ e),
+)
+
+pub written-plain : (st : Style) (n x : ℕ) (r : List ℕ) → charLen (x ∷ r) ≡ n → Plain (written st n x r)
+unfolding written
+written-plain st zero x r c = number-plain st x
+written-plain st (suc n) x r c =
+    pick-case Plain (eqb (lookup x (escaped st)) 0) _ _
+    (λ e. pick-case Plain (ltb x 32) _ _ (λ l. number-plain st x) (λ l. (ltb-false x 32 l, tails-plain _ _ n r (low-bound _) (char-tails x r n c .1))))
+    (λ e. (lit≤ tt, (letter-plain st x (eqb-false _ 0 e), tt)))
+
+-- the longest escape that a style writes
+abbrev pub widest : Style → ℕ
+widest Json = 6
+widest Unicode = 6
+widest Bytes = 4
+
+number-length : (st : Style) (x : ℕ) → (2 ≤ widest st) × (length (byNumber st x) ≡ widest st)
+unfolding byNumber
+number-length Json x = (lit≤ tt, refl)
+number-length Unicode x = (lit≤ tt, refl)
+number-length Bytes x = (lit≤ tt, refl)
+
+abbrev Within : ℕ → List ℕ → Type 0
+Within m l = length l ≤ m
+
+pub written-length : (st : Style) (n x : ℕ) (r : List ℕ) → charLen (x ∷ r) ≡ n → length (written st n x r) ≤ widest st + pred n
+unfolding written
+written-length st zero x r c = omega (arith, number-length st x)
+written-length st (suc n) x r c =
+    let w : 2 ≤ widest st = number-length st x .0 in
+    pick-case (Within (widest st + n)) (eqb (lookup x (escaped st)) 0) _ _
+    (λ e. pick-case (Within (widest st + n)) (ltb x 32) _ _
+    (λ l. omega (arith, number-length st x .1))
+    (λ l. omega (arith, length-take-le n r (char-length x r n c))))
+    (λ e. omega arith)
+
+-- at most so many bytes for n bytes
+abbrev pub limit : Style → ℕ → ℕ
+limit Json n = 6 * n
+limit Unicode n = 6 * n
+limit Bytes n = 4 * n
+
+pub limit-more : (st : Style) (a b n m : ℕ) → a ≤ widest st + n → b ≤ limit st m → a + b ≤ limit st (suc n + m)
+limit-more Json a b n m h g = omega arith
+limit-more Unicode a b n m h g = omega arith
+limit-more Bytes a b n m h g = omega arith

@@ -1,0 +1,104 @@
+// One unit as it is written, where the byte doesn't stand for itself.
+ghost use mathlib.Core.Path.{_≡_};
+ghost use Prim.Native.Nat.{_<_};
+ghost use lib.ListN.{length};
+ghost use lib.Seq.{sets};
+ghost use Rattle.units.specs.Escapes.{lookup};
+ghost use Rattle.units.specs.Written.{hexDigit, byNumber, escaped, escapeByte};
+use crate::styles;
+use crate::styles::Style;
+use prelude::slices;
+
+fn hex_digit(d: u8) -> u8
+    requires { ⌜ d < 16 ⌝ }
+    ensures { λ r. ⌜ r ≡ hexDigit d ⌝ }
+{
+    if d < 10 {
+        return 48 + d;
+    }
+    87 + d
+}
+
+// What follows the backslash of a byte's two-byte escape, 0 where it has none.
+fn letter_of(style: Style, x: u8) -> u8
+    ensures { λ r. ⌜ r ≡ lookup x (escaped style) ⌝ }
+{
+    let q = styles::quote_of(style);
+    if x == q {
+        return q;
+    }
+    if x == 92 {
+        return 92;
+    }
+    if x == 8 {
+        return 98;
+    }
+    if x == 12 {
+        return 102;
+    }
+    if x == 10 {
+        return 110;
+    }
+    if x == 13 {
+        return 114;
+    }
+    if x == 9 {
+        return 116;
+    }
+    0
+}
+
+fn number_len(style: Style, x: u8) -> usize
+    ensures { λ r. ⌜ r ≡ length (byNumber style x) ⌝ }
+{
+    match style {
+        Style::Json => 6,
+        Style::Unicode => 6,
+        Style::Bytes => 4,
+    }
+}
+
+// Stores a byte by its number, each digit if there is room for it.
+fn put_number(style: Style, x: u8, o: usize, out: &mut [u8])
+    ensures { λ r. ⌜ now (out .exit) ≡ sets (now (out .entry)) o (byNumber style x) ⌝ }
+{
+    let h = hex_digit(x / 16);
+    let l = hex_digit(x % 16);
+    match style {
+        Style::Json => {
+            let text = [92u8, 117, 48, 48, h, l];
+            slices::copy_run(&text, 0, 6, o, out);
+        }
+        Style::Unicode => {
+            let text = [92u8, 117, 123, h, l, 125];
+            slices::copy_run(&text, 0, 6, o, out);
+        }
+        Style::Bytes => {
+            let text = [92u8, 121, h, l];
+            slices::copy_run(&text, 0, 4, o, out);
+        }
+    }
+}
+
+// How long the escape of a byte is.
+pub fn escape_len(style: Style, x: u8) -> usize
+    ensures { λ r. ⌜ r ≡ length (escapeByte style x) ⌝ }
+{
+    if letter_of(style, x) != 0 {
+        return 2;
+    }
+    number_len(style, x)
+}
+
+// Stores the escape of a byte, as far as there is room.
+pub fn put_escape(style: Style, x: u8, o: usize, out: &mut [u8])
+    ensures { λ r. ⌜ now (out .exit) ≡ sets (now (out .entry)) o (escapeByte style x) ⌝ }
+{
+    let k = letter_of(style, x);
+    if k != 0 {
+        let text = [92u8, k];
+        slices::copy_run(&text, 0, 2, o, out);
+        return;
+    }
+    put_number(style, x, o, out);
+}

@@ -1,0 +1,60 @@
+//! What the tests share: the two implementations as calls of one shape, and a
+//! room that is watched on every side.
+
+use j8::raw::{self, j8_result};
+
+pub type Call = fn(&[u8], &mut [u8]) -> j8_result;
+
+pub fn library_read(text: &[u8], out: &mut [u8]) -> j8_result {
+    // SAFETY: both parts come from slices that don't overlap.
+    unsafe { raw::j8_string_read(text.as_ptr(), text.len(), out.as_mut_ptr(), out.len()) }
+}
+
+pub fn library_write(data: &[u8], out: &mut [u8]) -> j8_result {
+    // SAFETY: as above.
+    unsafe { raw::j8_string_write(data.as_ptr(), data.len(), out.as_mut_ptr(), out.len()) }
+}
+
+pub fn reference_read(text: &[u8], out: &mut [u8]) -> j8_result {
+    as_result(j8_reference::read(text, out))
+}
+
+pub fn reference_write(data: &[u8], out: &mut [u8]) -> j8_result {
+    as_result(j8_reference::write(data, out))
+}
+
+fn as_result(answer: Result<usize, j8_reference::Refusal>) -> j8_result {
+    match answer {
+        Ok(length) => j8_result {
+            number: 0,
+            place: 0,
+            length,
+        },
+        Err(refusal) => j8_result {
+            number: refusal.number,
+            place: refusal.place,
+            length: 0,
+        },
+    }
+}
+
+/// Bytes on each side of the lent room.
+pub const MARGIN: usize = 32;
+
+/// A room with its margins, filled by a pattern that differs from place to
+/// place; `flip` turns every bit of it, so that no byte can hide by being
+/// what the pattern has.
+pub fn patterned(room: usize, flip: bool) -> Vec<u8> {
+    let mask = if flip { 0xff } else { 0 };
+    (0..room + 2 * MARGIN)
+        .map(|i| (i.wrapping_mul(37).wrapping_add(11)) as u8 ^ mask)
+        .collect()
+}
+
+/// Lends exactly `room` bytes of a patterned buffer; gives the answer and the
+/// whole buffer afterwards.
+pub fn lend(call: Call, input: &[u8], room: usize, flip: bool) -> (j8_result, Vec<u8>) {
+    let mut buffer = patterned(room, flip);
+    let result = call(input, &mut buffer[MARGIN..MARGIN + room]);
+    (result, buffer)
+}
