@@ -1,3 +1,4 @@
 pub mod Read
+pub mod Turns
 pub mod Write
 pub mod Claims

@@ -1,9 +1,13 @@
 pub mod Agreement
+pub mod EscapeLaws
 pub mod EscapeStores
+pub mod HexLaws
 pub mod LiteralClasses
 pub mod LiteralLaws
 pub mod LiteralRuns
 pub mod OneCharacter
 pub mod Sizes
+pub mod Tests
+pub mod UnitLaws
 pub mod WrittenBack
 pub mod WrittenUnits

@@ -1,6 +1,6 @@
 -- The three styles of a J8 string: `""`; `u''`, which `''` means; `b''`.
 -- Assumes nothing.
-use Prim.Native.Nat.{ℕ}
+use Prim.Native.Nat.{ℕ, _≤_}
 use mathlib.Core.List.{List}
 use Rattle.utf8.specs.Utf8.{fewOf}
 use Rattle.units.specs.declared.styles.Style.{Style}
@@ -31,3 +31,9 @@ abbrev pub unitOf : Found → StringUnit
 unitOf Close = close
 unitOf (Took n few) = took n (fewOf few)
 unitOf (Fault number) = fault number
+
+-- a unit's bytes are four at most
+abbrev pub FewOf : Found → Type 0
+FewOf Close = Unit
+FewOf (Took n few) = few .count ≤ 4
+FewOf (Fault number) = Unit

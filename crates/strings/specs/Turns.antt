@@ -1,0 +1,36 @@
+-- The reader's own steps, which no caller sees: a run of literal characters and one unit, at a place of the text.
+-- Assumes nothing.
+use Prim.Native.Nat.{ℕ, _+_}
+use mathlib.Core.List.{List, [], _++_}
+use lib.ListN.{length, take, drop}
+use Rattle.units.specs.declared.styles.Style.{Style}
+use Rattle.units.specs.Styles.{StringUnit, close, took, fault}
+use Rattle.units.specs.Units.{unitAt, literalRun}
+use Rattle.strings.specs.declared.read.Mark.{Mark}
+use Rattle.strings.specs.declared.read.Mark.the-variants.{Opens, Unopened}
+use Rattle.strings.specs.declared.read.Step.{Step}
+use Rattle.strings.specs.declared.read.Step.the-variants.{On, Ended, Failed}
+use Rattle.strings.specs.Read.{Opening, opens, unopened}
+
+-- the code's opening mark as the definition's
+abbrev pub openingOf : Mark → Opening
+openingOf (Opens st n) = opens st n
+openingOf Unopened = unopened
+
+-- behind a unit at the place `at`, with o bytes before it
+abbrev pub stepOf : StringUnit → ℕ → ℕ → Step
+stepOf close at o = Ended (at + 1) o
+stepOf (took n bs) at o = On (at + n) (o + length bs)
+stepOf (fault number) at o = Failed number at
+
+abbrev pub bytesOf : StringUnit → List ℕ
+bytesOf close = []
+bytesOf (took n bs) = bs
+bytesOf (fault number) = []
+
+-- behind the run and the unit at the head of r, and the bytes that they denote
+unfoldable pub turnOf : Style → List ℕ → ℕ → ℕ → Step
+turnOf st r at o = stepOf (unitAt st (drop (literalRun st 0 r) r)) (at + literalRun st 0 r) (o + literalRun st 0 r)
+
+unfoldable pub turnBytes : Style → List ℕ → List ℕ
+turnBytes st r = take (literalRun st 0 r) r ++ bytesOf (unitAt st (drop (literalRun st 0 r) r))

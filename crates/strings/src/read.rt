@@ -1,0 +1,205 @@
+// The token reader and the string reader.
+ghost use mathlib.Core.Path.{_≡_};
+ghost use Prim.Native.Nat.{_≤_};
+ghost use lib.ListN.{length, drop};
+ghost use lib.Seq.{sets};
+ghost use Rattle.utf8.specs.Class.{IsTable};
+ghost use Rattle.utf8.specs.Utf8.{fewOf};
+ghost use Rattle.units.specs.Units.{unitAt};
+ghost use Rattle.strings.specs.Read.{opening, readUnits, readToken, readString, readText, whole, fitted, decodedOf, tokenOf, readInto, Stored};
+ghost use Rattle.strings.specs.Turns.{openingOf, stepOf, bytesOf, turnOf, turnBytes};
+use crate::answers::Decoded;
+use crate::answers::Token;
+use prelude::refusals;
+use prelude::slices;
+use units::literals;
+use units::styles;
+use units::styles::Style;
+use units::styles::Unit;
+use units::units;
+use utf8::classes;
+use utf8::encoding::Few;
+
+// An opening mark: its style and its length.
+pub enum Mark {
+    Opens(Style, usize),
+    Unopened,
+}
+
+// Behind a turn: the next place and the bytes stored so far; or the string's end and its length; or a refusal's number and place.
+pub enum Step {
+    On(usize, usize),
+    Ended(usize, usize),
+    Failed(u32, usize),
+}
+
+// The mark that a text begins with.
+fn mark_at(s: &[u8]) -> Mark
+    ensures { λ r. ⌜ openingOf r ≡ opening (now (s .entry)) ⌝ }
+{
+    let a = slices::byte_at(s, 0, 0);
+    if a == 34 {
+        return Mark::Opens(Style::Json, 1);
+    }
+    if a == 39 {
+        return Mark::Opens(Style::Unicode, 1);
+    }
+    if slices::byte_at(s, 0, 1) != 39 {
+        return Mark::Unopened;
+    }
+    if a == 117 {
+        return Mark::Opens(Style::Unicode, 2);
+    }
+    if a == 98 {
+        return Mark::Opens(Style::Bytes, 2);
+    }
+    Mark::Unopened
+}
+
+// Stores up to four bytes, each if there is room for it.
+fn put_few(few: Few, o: usize, out: &mut [u8])
+    requires { ⌜ few .count ≤ 4 ⌝ }
+    ensures { λ r. ⌜ now (out .exit) ≡ sets (now (out .entry)) o (fewOf few) ⌝ }
+{
+    let bytes = [few.a, few.b, few.c, few.d];
+    let n = few.count;
+    slices::copy_run(&bytes, 0, n, o, out);
+}
+
+// One unit: its bytes are stored as far as there is room.
+fn unit_turn(t: &[u8; 256], s: &[u8], at: usize, style: Style, o: usize, out: &mut [u8]) -> Step
+    requires { ⌜ IsTable (now t) × (at ≤ length (now s)) × (o ≤ at) ⌝ }
+    ensures is { λ r. ⌜ r ≡ stepOf (unitAt style (drop at (now (s .entry)))) at o ⌝ }
+    ensures stored { λ r. ⌜ now (out .exit) ≡ sets (now (out .entry)) o (bytesOf (unitAt style (drop at (now (s .entry))))) ⌝ }
+{
+    let unit = units::unit_at(t, s, at, style);
+    match unit {
+        Unit::Close => Step::Ended(at + 1, o),
+        Unit::Took(n, few) => {
+            let count = few.count;
+            put_few(few, o, out);
+            Step::On(at + n, o + count)
+        }
+        Unit::Fault(number) => Step::Failed(number, at),
+    }
+}
+
+// A run of literal characters, copied at once, and then one unit.
+fn turn(t: &[u8; 256], s: &[u8], at: usize, style: Style, o: usize, out: &mut [u8]) -> Step
+    requires { ⌜ IsTable (now t) × (at ≤ length (now s)) × (o ≤ at) ⌝ }
+    ensures is { λ r. ⌜ r ≡ turnOf style (drop at (now (s .entry))) at o ⌝ }
+    ensures stored { λ r. ⌜ now (out .exit) ≡ sets (now (out .entry)) o (turnBytes style (drop at (now (s .entry)))) ⌝ }
+{
+    let e = literals::literal_run(t, s, at, style);
+    let n = e - at;
+    slices::copy_run(s, at, n, o, out);
+    unit_turn(t, s, e, style, o + n, out)
+}
+
+// The units from a place on, up to the closing quote; their bytes are stored as far as there is room.
+fn read_units(t: &[u8; 256], s: &[u8], from: usize, style: Style, out: &mut [u8]) -> Token
+    requires { ⌜ IsTable (now t) × (from ≤ length (now s)) ⌝ }
+    ensures is { λ r. ⌜ r ≡ tokenOf (readUnits style from 0 (drop from (now (s .entry)))) ⌝ }
+    ensures stored { λ r. ⌜ Stored (readUnits style from 0 (drop from (now (s .entry)))) (now (out .entry)) (now (out .exit)) ⌝ }
+{
+    let mut at = from;
+    let mut o: usize = 0;
+    loop {
+        let step = turn(t, s, at, style, o, out);
+        match step {
+            Step::On(next, count) => {
+                at = next;
+                o = count;
+            }
+            Step::Ended(end, count) => {
+                return Token::Ended(end, count);
+            }
+            Step::Failed(number, place) => {
+                return Token::Failed(number, place);
+            }
+        }
+    }
+}
+
+// The string that a text begins with, whatever follows its closing quote. It stores as far as there is room: lend it a part without
+// room until the text is known to be right.
+pub fn token(t: &[u8; 256], s: &[u8], out: &mut [u8]) -> Token
+    requires { ⌜ IsTable (now t) ⌝ }
+    ensures is { λ r. ⌜ r ≡ tokenOf (readToken (now (s .entry))) ⌝ }
+    ensures stored { λ r. ⌜ Stored (readToken (now (s .entry))) (now (out .entry)) (now (out .exit)) ⌝ }
+{
+    let mark = mark_at(s);
+    match mark {
+        Mark::Opens(style, from) => read_units(t, s, from, style, out),
+        Mark::Unopened => Token::Failed(refusals::NO_OPENING, 0),
+    }
+}
+
+// The general case of a whole text: once to judge it, and once more to store its bytes.
+fn two_passes(t: &[u8; 256], s: &[u8], from: usize, style: Style, out: &mut [u8]) -> Decoded
+    requires { ⌜ IsTable (now t) × (from ≤ length (now s)) ⌝ }
+    ensures answer { λ r. ⌜ r ≡ decodedOf (fitted (length (now (out .entry))) (whole (length (now (s .entry))) (readUnits style from 0 (drop from (now (s .entry)))))) ⌝ }
+    ensures stored { λ r. ⌜ now (out .exit) ≡ readInto (fitted (length (now (out .entry))) (whole (length (now (s .entry))) (readUnits style from 0 (drop from (now (s .entry)))))) (now (out .entry)) ⌝ }
+{
+    let judged = read_units(t, s, from, style, &mut out[..0]);
+    match judged {
+        Token::Ended(end, count) => {
+            if end != s.len() {
+                return Decoded::Refused(refusals::TRAILING, end);
+            }
+            if out.len() < count {
+                return Decoded::Refused(refusals::NO_ROOM, 0);
+            }
+            read_units(t, s, from, style, out);
+            Decoded::Done(count)
+        }
+        Token::Failed(number, place) => Decoded::Refused(number, place),
+    }
+}
+
+// A text that is one run of literal characters between its quotes is scanned once and copied once.
+fn read_marked(t: &[u8; 256], s: &[u8], from: usize, style: Style, out: &mut [u8]) -> Decoded
+    requires { ⌜ IsTable (now t) × (from ≤ length (now s)) ⌝ }
+    ensures answer { λ r. ⌜ r ≡ decodedOf (fitted (length (now (out .entry))) (whole (length (now (s .entry))) (readUnits style from 0 (drop from (now (s .entry)))))) ⌝ }
+    ensures stored { λ r. ⌜ now (out .exit) ≡ readInto (fitted (length (now (out .entry))) (whole (length (now (s .entry))) (readUnits style from 0 (drop from (now (s .entry)))))) (now (out .entry)) ⌝ }
+{
+    let e = literals::literal_run(t, s, from, style);
+    if e < s.len() {
+        if e + 1 == s.len() {
+            if s[e] == styles::quote_of(style) {
+                let count = e - from;
+                if out.len() < count {
+                    return Decoded::Refused(refusals::NO_ROOM, 0);
+                }
+                slices::copy_run(s, from, count, 0, out);
+                return Decoded::Done(count);
+            }
+        }
+    }
+    two_passes(t, s, from, style, out)
+}
+
+// The string that a text of any length is, with the table lent.
+pub fn read_in(t: &[u8; 256], s: &[u8], out: &mut [u8]) -> Decoded
+    requires { ⌜ IsTable (now t) ⌝ }
+    ensures answer { λ r. ⌜ r ≡ decodedOf (fitted (length (now (out .entry))) (readString (now (s .entry)))) ⌝ }
+    ensures stored { λ r. ⌜ now (out .exit) ≡ readInto (fitted (length (now (out .entry))) (readString (now (s .entry)))) (now (out .entry)) ⌝ }
+{
+    let mark = mark_at(s);
+    match mark {
+        Mark::Opens(style, from) => read_marked(t, s, from, style, out),
+        Mark::Unopened => Decoded::Refused(refusals::NO_OPENING, 0),
+    }
+}
+
+// Reads the J8 string that a text is: its bytes in front of out, or a refusal and out as it was.
+pub fn read(text: &[u8], out: &mut [u8]) -> Decoded
+    ensures answer { λ r. ⌜ r ≡ decodedOf (readText (length (now (out .entry))) (now (text .entry))) ⌝ }
+    ensures stored { λ r. ⌜ now (out .exit) ≡ readInto (readText (length (now (out .entry))) (now (text .entry))) (now (out .entry)) ⌝ }
+{
+    if 32768 < text.len() {
+        return Decoded::Refused(refusals::TOO_LONG, 0);
+    }
+    let t = classes::table();
+    read_in(&t, text, out)
+}

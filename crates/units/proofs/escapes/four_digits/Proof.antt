@@ -1,0 +1,36 @@
+use borrow.Author.Needs.{needs}
+use Rattle.units.proofs.escapes.four_digits.Statement.{statement}
+use Rattle.units.proofs.escapes.four_digits.Tie as tie
+use Rattle.units.proofs.EscapeLaws.{four-not, four-inside, four-yes}
+
+digits-at-requires : tie.Need-digits-at-requires
+digits-at-requires c κs = search needs
+
+add-low-half : tie.Need-add-low-half
+add-low-half c = search needs
+
+low-half-requires : tie.Need-low-half-requires
+low-half-requires c κs =
+    search four-inside
+
+code-unit-requires : tie.Need-code-unit-requires
+code-unit-requires c κs = search needs
+
+returns : tie.Need-returns
+returns c =
+    (search four-yes, search needs)
+
+returns-2 : tie.Need-returns-2
+returns-2 c =
+    (search four-not, tt)
+
+pub four-digits-spec : {M : Type 1} → statement M
+four-digits-spec =
+    tie.close
+    (tie.spec
+    digits-at-requires
+    add-low-half
+    low-half-requires
+    code-unit-requires
+    returns
+    returns-2)

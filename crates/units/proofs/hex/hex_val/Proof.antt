@@ -1,0 +1,61 @@
+use borrow.Author.Needs.{needs}
+use Rattle.units.proofs.hex.hex_val.Statement.{statement}
+use Rattle.units.proofs.hex.hex_val.Tie as tie
+use native.Mathlib.Omega.{arith}
+use Rattle.units.specs.Hex.{hexVal}
+use Rattle.prelude.proofs.Picks.{picks}
+
+returns : tie.Need-returns
+unfolding hexVal
+returns c =
+    (search picks, omega arith)
+
+returns-2 : tie.Need-returns-2
+unfolding hexVal
+returns-2 c =
+    (search picks, omega arith)
+
+returns-3 : tie.Need-returns-3
+unfolding hexVal
+returns-3 c =
+    (search picks, omega arith)
+
+sub-result : tie.Need-sub-result
+sub-result c = search needs
+
+returns-4 : tie.Need-returns-4
+unfolding hexVal
+returns-4 c =
+    (search picks, omega arith)
+
+returns-5 : tie.Need-returns-5
+unfolding hexVal
+returns-5 c =
+    (search picks, omega arith)
+
+sub-result-2 : tie.Need-sub-result-2
+sub-result-2 c = search needs
+
+returns-6 : tie.Need-returns-6
+unfolding hexVal
+returns-6 c =
+    (search picks, omega arith)
+
+returns-7 : tie.Need-returns-7
+unfolding hexVal
+returns-7 c =
+    (search picks, omega arith)
+
+pub hex-val-spec : {M : Type 1} → statement M
+hex-val-spec =
+    tie.close
+    (tie.spec
+    returns
+    returns-2
+    returns-3
+    sub-result
+    returns-4
+    returns-5
+    sub-result-2
+    returns-6
+    returns-7)
