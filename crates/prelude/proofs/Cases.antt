@@ -1,7 +1,9 @@
--- A proof by the two values of a test, and what a test of two parts says of each.
+-- Proofs by cases: the two values of a test, what a test of two parts says of each, and cases that can't be.
 -- Assumes nothing.
 use mathlib.Core.Bool.{Bool, true, false, _&&_}
 use mathlib.Core.Path.{_≡_, refl}
+use Prim.Native.Nat.{ℕ}
+use native.Mathlib.Omega.{arith}
 
 pub split : {P : Type 0} (b : Bool) → (b ≡ true → P) → (b ≡ false → P) → P
 split true f g = f refl
@@ -14,3 +16,7 @@ and-left false b e = e
 pub and-right : (a b : Bool) → a && b ≡ true → b ≡ true
 and-right true b e = e
 and-right false b e = let z : _≡_ {A = Bool} false true = e in cc
+
+-- from equations that can't hold, as `cc` finds them, anything follows
+pub never : {P : Type 0} → _≡_ {A = ℕ} 0 1 → P
+never z = absurd (let y : ⊥ = omega arith in y)

@@ -3,8 +3,10 @@ pub mod Ends
 pub mod Lengths
 pub mod Places
 pub mod Plain
+pub mod Reading
 pub mod RoundTrip
 pub mod Runs
 pub mod Steps
 pub mod Utf8Denoted
+pub mod WholeTexts
 pub mod Writing

@@ -16,7 +16,6 @@ use units::literals;
 use units::styles;
 use units::styles::Style;
 use units::styles::Unit;
-use units::units;
 use utf8::classes;
 use utf8::encoding::Few;
 
@@ -72,7 +71,7 @@ fn unit_turn(t: &[u8; 256], s: &[u8], at: usize, style: Style, o: usize, out: &m
     ensures is { λ r. ⌜ r ≡ stepOf (unitAt style (drop at (now (s .entry)))) at o ⌝ }
     ensures stored { λ r. ⌜ now (out .exit) ≡ sets (now (out .entry)) o (bytesOf (unitAt style (drop at (now (s .entry))))) ⌝ }
 {
-    let unit = units::unit_at(t, s, at, style);
+    let unit = units::units::unit_at(t, s, at, style);
     match unit {
         Unit::Close => Step::Ended(at + 1, o),
         Unit::Took(n, few) => {

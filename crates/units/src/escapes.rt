@@ -204,18 +204,6 @@ fn code_point(s: &[u8], at: usize, style: Style) -> Unit
     }
 }
 
-// What follows `\y`.
-fn raw_byte(s: &[u8], at: usize, style: Style) -> Unit
-    ensures is { λ r. ⌜ unitOf r ≡ rawByte style (drop at (now (s .entry))) ⌝ }
-    ensures few { λ r. ⌜ FewOf r ⌝ }
-{
-    match style {
-        Style::Json => Unit::Fault(refusals::BAD_ESCAPE),
-        Style::Unicode => Unit::Fault(refusals::BYTE_ESCAPE),
-        Style::Bytes => two_digits(s, at),
-    }
-}
-
 // What follows `\y` in `b''`.
 fn two_digits(s: &[u8], at: usize) -> Unit
     ensures is { λ r. ⌜ unitOf r ≡ rawByte Bytes (drop at (now (s .entry))) ⌝ }
@@ -228,6 +216,18 @@ fn two_digits(s: &[u8], at: usize) -> Unit
         return byte_unit(4, v as u8);
     }
     Unit::Fault(refusals::BAD_ESCAPE)
+}
+
+// What follows `\y`.
+fn raw_byte(s: &[u8], at: usize, style: Style) -> Unit
+    ensures is { λ r. ⌜ unitOf r ≡ rawByte style (drop at (now (s .entry))) ⌝ }
+    ensures few { λ r. ⌜ FewOf r ⌝ }
+{
+    match style {
+        Style::Json => Unit::Fault(refusals::BAD_ESCAPE),
+        Style::Unicode => Unit::Fault(refusals::BYTE_ESCAPE),
+        Style::Bytes => two_digits(s, at),
+    }
 }
 
 // A backslash and one letter, which denotes the byte b, or nothing where b is 0.

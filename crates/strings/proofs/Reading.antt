@@ -1,0 +1,190 @@
+-- The reader's loop: the whole reading is what is decoded already and then the reading of the rest, a run and a unit at a time.
+-- Assumes nothing.
+use Prim.Native.Nat.{ℕ, zero, suc, _+_, _-_, _≤_, _<_, zero-le}
+use mathlib.Core.List.{List, [], _∷_, _++_, append-assoc, append-nil}
+use mathlib.Core.Path.{_≡_, refl, sym, ap, _∙_, subst}
+use native.Mathlib.Omega.{arith}
+use lib.ListN.{length, take, drop, length-drop, length-append}
+use lib.Seq.{sets, drop-drop, length-take-le}
+use Rattle.prelude.proofs.Cases.{never}
+use Rattle.prelude.proofs.Stores.{sets-append}
+use Rattle.utf8.specs.declared.chars.Char.{Char}
+use Rattle.units.specs.declared.styles.Style.{Style}
+use Rattle.units.specs.declared.styles.Unit.{Unit as Found}
+use Rattle.units.specs.declared.styles.Unit.the-variants.{Close, Took, Fault}
+use Rattle.utf8.specs.declared.encoding.Few.{Few}
+use Rattle.utf8.specs.Utf8.{fewOf}
+use Rattle.units.specs.Styles.{StringUnit, close, took, fault, unitOf, FewOf}
+use Rattle.units.specs.Units.{unitAt, literalRun}
+use Rattle.units.proofs.LiteralLaws.{run-fits}
+use Rattle.units.proofs.Sizes.{took-size, took-raw}
+use Rattle.strings.specs.declared.answers.Token.{Token}
+use Rattle.strings.specs.declared.answers.Token.the-variants.{Ended as TokenEnded, Failed as TokenFailed}
+use Rattle.strings.specs.declared.read.Step.{Step}
+use Rattle.strings.specs.declared.read.Step.the-variants.{On, Ended, Failed}
+use Rattle.strings.specs.Read.{StringRead, accepted, refused, more, readUnits, tokenOf, Stored}
+use Rattle.strings.specs.Turns.{stepOf, bytesOf, turnOf, turnBytes}
+use Rattle.strings.proofs.Steps.{read-closes, read-fault, read-took, more-none, more-more}
+use Rattle.strings.proofs.Runs.{run-law}
+
+-- one unit in code
+abbrev Turned : StringUnit → ℕ → ℕ → List ℕ → Step → List ℕ → Type 0
+Turned u at o out x new = (x ≡ stepOf u at o) × (new ≡ sets out o (bytesOf u))
+
+module _ (st : Style) (r : List ℕ) (at o : ℕ) (out : List ℕ) (u : Found) (i : unitOf u ≡ unitAt st r) where
+  pub on-close : u ≡ Close → Turned (unitAt st r) at o out (Ended (at + 1) o) out
+  on-close e = subst (λ (v : StringUnit). Turned v at o out (Ended (at + 1) o) out) (sym (ap unitOf e) ∙ i) (refl, refl)
+
+  pub took-is : (n : ℕ) (few : Few) → u ≡ Took n few → unitAt st r ≡ took n (fewOf few)
+  took-is n few e = sym i ∙ ap unitOf e
+
+  pub on-took : (n m : ℕ) (few : Few) (new : List ℕ) → u ≡ Took n few → m ≡ length (fewOf few) → new ≡ sets out o (fewOf few)
+      → Turned (unitAt st r) at o out (On (at + n) (o + m)) new
+  on-took n m few new e l w =
+      subst (λ (v : StringUnit). Turned v at o out (On (at + n) (o + m)) new) (sym (took-is n few e)) (ap (λ (k : ℕ). On (at + n) (o + k)) l, w)
+
+  pub on-fault : (number : ℕ) → u ≡ Fault number → Turned (unitAt st r) at o out (Failed number at) out
+  on-fault number e = subst (λ (v : StringUnit). Turned v at o out (Failed number at) out) (sym (ap unitOf e) ∙ i) (refl, refl)
+
+pub took-few : (u : Found) (n : ℕ) (few : Few) → u ≡ Took n few → FewOf u → few .count ≤ 4
+took-few u n few e h = rw e at h
+
+pub few-length : (few : Few) → few .count ≤ 4 → few .count ≡ length (fewOf few)
+few-length few h = sym (length-take-le (few .count) (few .a ∷ few .b ∷ few .c ∷ few .d ∷ []) h)
+
+-- a run and a unit in code
+module _ (st : Style) (s : List ℕ) (at o e : ℕ) (out o1 : List ℕ) (h : at ≤ length s) (ee : e ≡ at + literalRun st 0 (drop at s)) where
+  abbrev skip : ℕ
+  skip = literalRun st 0 (drop at s)
+
+  skip-is : e - at ≡ skip
+  skip-is = omega (arith, ee)
+
+  pub run-inside : e ≤ length s
+  run-inside = omega (arith, ee, run-fits st (drop at s), length-drop at s)
+
+  rest-is : drop skip (drop at s) ≡ drop e s
+  rest-is = drop-drop skip at s ∙ ap (λ (k : ℕ). drop k s) (sym ee)
+
+  pub run-turned : (x : Step) (new : List ℕ) → o1 ≡ sets out o (take (e - at) (drop at s)) → Turned (unitAt st (drop e s)) e (o + (e - at)) o1 x new
+      → (x ≡ turnOf st (drop at s) at o) × (new ≡ sets out o (turnBytes st (drop at s)))
+  unfolding turnOf turnBytes
+  run-turned x new w (ex, en) =
+      let l : length (take (e - at) (drop at s)) ≡ e - at = length-take-le (e - at) (drop at s) (omega (arith, skip-is, run-fits st (drop at s))) in (
+        ex ∙ (λ i. stepOf (unitAt st (sym rest-is i)) (ee i) (o + skip-is i)),
+        en ∙ ap (λ (y : List ℕ). sets y (o + (e - at)) (bytesOf (unitAt st (drop e s)))) w
+            ∙ sets-append (take (e - at) (drop at s)) (bytesOf (unitAt st (drop e s))) out o (o + (e - at)) (omega (arith, l))
+            ∙ (λ i. sets out o (take (skip-is i) (drop at s) ++ bytesOf (unitAt st (sym rest-is i)))),
+      )
+
+-- the loop's invariant: `done` is decoded and stored, and the rest is still to be read
+pub record Kept (st : Style) (s out₀ : List ℕ) (from : ℕ) (out : List ℕ) (at o : ℕ) : Type 0 where
+  pub done : List ℕ
+  pub inside : at ≤ length s
+  pub less : o ≤ at
+  pub count : o ≡ length done
+  pub stored : out ≡ sets out₀ 0 done
+  pub same : readUnits st from 0 (drop from s) ≡ more done (readUnits st at 0 (drop at s))
+
+pub begun : (st : Style) (s out : List ℕ) (from : ℕ) → from ≤ length s → Kept st s out from out from 0
+begun st s out from h =
+    record { done = []; inside = h; less = zero-le; count = refl; stored = refl; same = sym (more-none (readUnits st from 0 (drop from s))) }
+
+module _ {st : Style} {s out₀ : List ℕ} {from : ℕ} {out : List ℕ} {at o : ℕ} (k : Kept st s out₀ from out at o)
+    (x : Step) (new : List ℕ) (ex : x ≡ turnOf st (drop at s) at o) (en : new ≡ sets out o (turnBytes st (drop at s))) where
+  abbrev run : ℕ
+  run = literalRun st 0 (drop at s)
+
+  abbrev rest : List ℕ
+  rest = drop run (drop at s)
+
+  abbrev lit : List ℕ
+  lit = take run (drop at s)
+
+  abbrev all : StringRead
+  all = readUnits st from 0 (drop from s)
+
+  lit-length : length lit ≡ run
+  lit-length = length-take-le run (drop at s) (run-fits st (drop at s))
+
+  step-is : (u : StringUnit) → unitAt st rest ≡ u → x ≡ stepOf u (at + run) (o + run)
+  unfolding turnOf
+  step-is u e = ex ∙ ap (λ (v : StringUnit). stepOf v (at + run) (o + run)) e
+
+  new-is : (u : StringUnit) → unitAt st rest ≡ u → new ≡ sets out₀ 0 (k .done ++ (lit ++ bytesOf u))
+  unfolding turnBytes
+  new-is u e =
+      en ∙ ap (λ (v : StringUnit). sets out o (lit ++ bytesOf v)) e ∙ ap (λ (l : List ℕ). sets l o (lit ++ bytesOf u)) (k .stored)
+      ∙ sets-append (k .done) (lit ++ bytesOf u) out₀ 0 o (omega (arith, k .count))
+
+  -- behind the run
+  behind : all ≡ more (k .done ++ lit) (readUnits st (at + run) 0 rest)
+  behind = k .same ∙ ap (more (k .done)) (run-law st (drop at s) at) ∙ more-more (k .done) lit (readUnits st (at + run) 0 rest)
+
+  abbrev Moved : ℕ → ℕ → Type 0
+  Moved next count = Kept st s out₀ from new next count × (at < next)
+
+  move-took : (n : ℕ) (bs : List ℕ) → unitAt st rest ≡ took n bs → Moved (at + run + n) (o + run + length bs)
+  move-took n bs e =
+      let size = took-size st rest n bs e in
+      let d : drop n rest ≡ drop (at + run + n) s =
+      drop-drop n run (drop at s) ∙ drop-drop (run + n) at s ∙ ap (λ (i : ℕ). drop i s) (let z : at + (run + n) ≡ at + run + n = omega arith in z) in (
+        record {
+          done = k .done ++ (lit ++ bs);
+          inside = omega (arith, size .1, length-drop run (drop at s), length-drop at s, k .inside, run-fits st (drop at s));
+          less = omega (arith, took-raw st rest n bs e .0, k .less);
+          count = omega (arith, k .count, length-append (k .done) (lit ++ bs), length-append lit bs, lit-length);
+          stored = new-is (took n bs) e;
+          same = behind ∙ ap (more (k .done ++ lit)) (read-took st (at + run) rest n bs e)
+              ∙ more-more (k .done ++ lit) bs (readUnits st (at + run + n) 0 (drop n rest))
+              ∙ (λ i. more (append-assoc (k .done) lit bs i) (readUnits st (at + run + n) 0 (d i)));
+        },
+        omega (arith, size .0),
+      )
+
+  pub moved : (next count : ℕ) → x ≡ On next count → Moved next count
+  moved next count h = go (unitAt st rest) refl
+    where
+      go : (u : StringUnit) → unitAt st rest ≡ u → Moved next count
+      go close e = let z : On next count ≡ Ended (at + run + 1) (o + run) = sym h ∙ step-is close e in never (cc)
+      go (took n bs) e =
+          let z : On (at + run + n) (o + run + length bs) ≡ On next count = sym (step-is (took n bs) e) ∙ h in
+          let a : at + run + n ≡ next = cc in
+          let b : o + run + length bs ≡ count = cc in
+          rw (a, b) at (move-took n bs e)
+      go (fault number) e = let z : On next count ≡ Failed number (at + run) = sym h ∙ step-is (fault number) e in never (cc)
+
+  abbrev Last : Token → Type 0
+  Last r = (r ≡ tokenOf all) × Stored all out₀ new
+
+  last-of : (r : Token) (v : StringRead) → all ≡ v → r ≡ tokenOf v → Stored v out₀ new → Last r
+  last-of r v e w t = (w ∙ ap tokenOf (sym e), subst (λ (y : StringRead). Stored y out₀ new) (sym e) t)
+
+  pub ended : (end count : ℕ) → x ≡ Ended end count → Last (TokenEnded end count)
+  ended end count h = go (unitAt st rest) refl
+    where
+      go : (u : StringUnit) → unitAt st rest ≡ u → Last (TokenEnded end count)
+      go close e =
+          let z : Ended end count ≡ Ended (at + run + 1) (o + run) = sym h ∙ step-is close e in
+          let a : end ≡ at + run + 1 = cc in
+          let b : count ≡ o + run = cc in
+          let l : count ≡ length ((k .done ++ lit) ++ []) = omega (arith, b, k .count, length-append (k .done ++ lit) [], length-append (k .done) lit, lit-length) in
+          last-of (TokenEnded end count) (accepted ((k .done ++ lit) ++ []) (at + run + 1))
+          (behind ∙ ap (more (k .done ++ lit)) (read-closes st (at + run) rest e))
+          (λ i. TokenEnded (a i) (l i))
+          (new-is close e ∙ ap (sets out₀ 0) (sym (append-assoc (k .done) lit [])))
+      go (took n bs) e = let z : Ended end count ≡ On (at + run + n) (o + run + length bs) = sym h ∙ step-is (took n bs) e in never (cc)
+      go (fault number) e = let z : Ended end count ≡ Failed number (at + run) = sym h ∙ step-is (fault number) e in never (cc)
+
+  pub failed : (number place : ℕ) → x ≡ Failed number place → Last (TokenFailed number place)
+  failed number place h = go (unitAt st rest) refl
+    where
+      go : (u : StringUnit) → unitAt st rest ≡ u → Last (TokenFailed number place)
+      go close e = let z : Failed number place ≡ Ended (at + run + 1) (o + run) = sym h ∙ step-is close e in never (cc)
+      go (took n bs) e = let z : Failed number place ≡ On (at + run + n) (o + run + length bs) = sym h ∙ step-is (took n bs) e in never (cc)
+      go (fault m) e =
+          let z : Failed number place ≡ Failed m (at + run) = sym h ∙ step-is (fault m) e in
+          let a : number ≡ m = cc in
+          let b : place ≡ at + run = cc in
+          last-of (TokenFailed number place) (refused m (at + run)) (behind ∙ ap (more (k .done ++ lit)) (read-fault st (at + run) rest m e))
+          (λ i. TokenFailed (a i) (b i)) tt

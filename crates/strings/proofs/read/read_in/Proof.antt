@@ -1,0 +1,45 @@
+use borrow.Author.Needs.{needs}
+use Rattle.strings.proofs.read.read_in.Statement.{statement}
+use Rattle.strings.proofs.read.read_in.Tie as tie
+use Rattle.strings.proofs.read.read_in.Reads as reads
+use Rattle.strings.proofs.read.read_in.Lts as lts
+use Rattle.strings.proofs.read.mark_at.Reads as mark-at-reads
+use Rattle.strings.proofs.read.read_marked.Reads as read-marked-reads
+use denote.Ref.{now}
+use Rattle.strings.proofs.WholeTexts.{mark-inside, marked, unmarked}
+
+mark-at-requires : tie.Need-mark-at-requires
+mark-at-requires c κs = search needs
+
+enum-known-mark : tie.Need-enum-known-mark
+enum-known-mark c = search needs
+
+read-marked-requires : tie.Need-read-marked-requires
+read-marked-requires c κs =
+    (c .before .before .before .before .before .before .before .pre, mark-inside (now (c .before .before .before .before .before .before .before .args .s)) (c .before .before .before .before .mark-at .result) (c .before .before .before .before .mark-at .ensures) _ _ (c .before .before .mark .given .1))
+
+enum-told : tie.Need-enum-told
+enum-told c = search needs
+
+same-length : tie.Need-same-length
+same-length c = search needs
+
+returns : tie.Need-returns
+returns c =
+    marked (now (c .before .before .before .before .before .before .before .before .before .before .args .s)) (c .before .before .before .before .before .before .before .mark-at .result) (c .before .before .before .before .before .before .before .mark-at .ensures) _ _ (c .before .before .before .before .before .mark .given .1) (now (c .before .before .before .before .before .before .before .before .before .before .args .out)) (c .before .before .read-marked .ensures)
+
+returns-2 : tie.Need-returns-2
+returns-2 c =
+    unmarked (now (c .before .before .before .before .before .args .s)) (c .before .before .mark-at .result) (c .before .before .mark-at .ensures) (now (c .before .before .before .before .before .args .out)) (c .enum-told .given .1)
+
+pub read-in-spec : {M : Type 1} → statement M
+read-in-spec =
+    tie.close
+    (tie.spec
+    mark-at-requires
+    enum-known-mark
+    read-marked-requires
+    enum-told
+    same-length
+    returns
+    returns-2)

@@ -1,0 +1,72 @@
+use borrow.Author.Needs.{needs}
+use Rattle.strings.proofs.read.unit_turn.Statement.{statement}
+use Rattle.strings.proofs.read.unit_turn.Tie as tie
+use Rattle.strings.proofs.read.unit_turn.Reads as reads
+use Rattle.strings.proofs.read.unit_turn.Lts as lts
+use Rattle.strings.proofs.read.put_few.Reads as put-few-reads
+use Rattle.units.proofs.units.unit_at.Reads as unit-at-reads
+use denote.Ref.{now}
+use native.Mathlib.Omega.{arith}
+use mathlib.Core.Path.{sym, _∙_}
+use lib.ListN.{length, drop, length-drop}
+use Rattle.units.proofs.Sizes.{took-size}
+use Rattle.strings.proofs.Reading.{on-close, took-is, took-few, on-took, on-fault, few-length}
+
+unit-at-requires : tie.Need-unit-at-requires
+unit-at-requires c κs = search needs
+
+enum-told : tie.Need-enum-told
+enum-told c = search needs
+
+add-t13 : tie.Need-add-t13
+add-t13 c = search needs
+
+enum-known-unit : tie.Need-enum-known-unit
+enum-known-unit c = search needs
+
+put-few-requires : tie.Need-put-few-requires
+put-few-requires c κs =
+    took-few _ _ _ (c .before .before .unit .given .1) (c .before .before .before .before .unit-at .ensures .1)
+
+add-t17 : tie.Need-add-t17
+add-t17 c =
+    omega (arith, took-size (c .before .before .before .before .before .before .before .before .before .before .args .style) (drop (c .before .before .before .before .before .before .before .before .before .before .args .at) (now (c .before .before .before .before .before .before .before .before .before .before .args .s))) _ _ (took-is (c .before .before .before .before .before .before .before .before .before .before .args .style) (drop (c .before .before .before .before .before .before .before .before .before .before .args .at) (now (c .before .before .before .before .before .before .before .before .before .before .args .s))) (c .before .before .before .before .before .before .before .before .before .before .args .at) (c .before .before .before .before .before .before .before .before .before .before .args .o) (now (c .before .before .before .before .before .before .before .before .before .before .args .out)) (c .before .before .before .before .before .before .before .unit-at .result) (c .before .before .before .before .before .before .before .unit-at .ensures .0) _ _ (c .before .before .before .before .before .unit .given .1)) .1, length-drop (c .before .before .before .before .before .before .before .before .before .before .args .at) (now (c .before .before .before .before .before .before .before .before .before .before .args .s)))
+
+add-t18 : tie.Need-add-t18
+add-t18 c =
+    omega (arith, took-few _ _ _ (c .before .before .before .before .before .unit .given .1) (c .before .before .before .before .before .before .before .unit-at .ensures .1))
+
+enum-known-unit-2 : tie.Need-enum-known-unit-2
+enum-known-unit-2 c = search needs
+
+returns : tie.Need-returns
+returns c =
+    on-close (c .before .before .before .before .before .args .style) (drop (c .before .before .before .before .before .args .at) (now (c .before .before .before .before .before .args .s))) (c .before .before .before .before .before .args .at) (c .before .before .before .before .before .args .o) (now (c .before .before .before .before .before .args .out)) (c .before .before .unit-at .result) (c .before .before .unit-at .ensures .0) (c .enum-told .given .1)
+
+same-length : tie.Need-same-length
+same-length c = search needs
+
+returns-2 : tie.Need-returns-2
+returns-2 c =
+    on-took (c .before .before .before .before .before .before .before .before .before .before .args .style) (drop (c .before .before .before .before .before .before .before .before .before .before .args .at) (now (c .before .before .before .before .before .before .before .before .before .before .args .s))) (c .before .before .before .before .before .before .before .before .before .before .args .at) (c .before .before .before .before .before .before .before .before .before .before .args .o) (now (c .before .before .before .before .before .before .before .before .before .before .args .out)) (c .before .before .before .before .before .before .before .unit-at .result) (c .before .before .before .before .before .before .before .unit-at .ensures .0) _ _ _ _ (c .before .before .before .before .before .unit .given .1) (few-length _ (took-few _ _ _ (c .before .before .before .before .before .unit .given .1) (c .before .before .before .before .before .before .before .unit-at .ensures .1))) (c .before .before .put-few .ensures)
+
+returns-3 : tie.Need-returns-3
+returns-3 c =
+    on-fault (c .before .before .before .before .before .before .args .style) (drop (c .before .before .before .before .before .before .args .at) (now (c .before .before .before .before .before .before .args .s))) (c .before .before .before .before .before .before .args .at) (c .before .before .before .before .before .before .args .o) (now (c .before .before .before .before .before .before .args .out)) (c .before .before .before .unit-at .result) (c .before .before .before .unit-at .ensures .0) _ (c .before .unit2 .given .1)
+
+pub unit-turn-spec : {M : Type 1} → statement M
+unit-turn-spec =
+    tie.close
+    (tie.spec
+    unit-at-requires
+    enum-told
+    add-t13
+    enum-known-unit
+    put-few-requires
+    add-t17
+    add-t18
+    enum-known-unit-2
+    returns
+    same-length
+    returns-2
+    returns-3)
