@@ -1,0 +1,49 @@
+-- The enum answers of the layers below as the C interface's struct, case by case.
+-- Assumes nothing.
+use mathlib.Core.Bool.{Bool, true, false}
+use mathlib.Core.List.{List}
+use mathlib.Core.Path.{_≡_, refl, sym, ap, _∙_}
+use Prim.Native.Nat.{ℕ}
+use lib.Dec.{leb}
+use lib.ListN.{length}
+use Rattle.prelude.specs.Pick.{pick}
+use Rattle.prelude.proofs.Cases.{split, never}
+use Rattle.strings.specs.declared.answers.Decoded.{Decoded}
+use Rattle.strings.specs.declared.answers.Decoded.the-variants.{Done, Refused}
+use Rattle.strings.specs.declared.answers.Written.{Written}
+use Rattle.strings.specs.declared.answers.Written.the-variants.{Wrote, Full}
+use Rattle.strings.specs.Read.{StringRead, accepted, refused, decodedOf}
+use Rattle.strings.specs.Write.{writtenIn}
+use Rattle.j8.specs.Results.{done, refusal, readResult, writeResult}
+
+module _ (d : Decoded) where
+  pub read-done : (v : StringRead) (n : ℕ) → d ≡ decodedOf v → d ≡ Done n → done n ≡ readResult v
+  read-done (accepted bs e) n p q = let z : n ≡ length bs = cc in ap done z
+  read-done (refused m at) n p q = never (cc)
+
+  pub read-refused : (v : StringRead) (number place : ℕ) → d ≡ decodedOf v → d ≡ Refused number place → refusal number place ≡ readResult v
+  read-refused (accepted bs e) number place p q = never (cc)
+  read-refused (refused m at) number place p q = let a : number ≡ m = cc in let b : place ≡ at = cc in (λ i. refusal (a i) (b i))
+
+module _ (w : Written) (room : ℕ) (text : List ℕ) (p : w ≡ writtenIn room text) where
+  fits-is : leb (length text) room ≡ true → w ≡ Wrote (length text)
+  unfolding writtenIn pick
+  fits-is e = p ∙ rw e
+
+  full-is : leb (length text) room ≡ false → w ≡ Full 12
+  unfolding writtenIn pick
+  full-is e = p ∙ rw e
+
+  pub write-done : (n : ℕ) → w ≡ Wrote n → done n ≡ writeResult room text
+  unfolding writeResult pick
+  write-done n q =
+      split (leb (length text) room)
+      (λ e. let f : w ≡ Wrote (length text) = fits-is e in let z : n ≡ length text = cc in rw e (ap done z))
+      (λ e. let f : w ≡ Full 12 = full-is e in never (cc))
+
+  pub write-full : (number : ℕ) → w ≡ Full number → refusal number 0 ≡ writeResult room text
+  unfolding writeResult pick
+  write-full number q =
+      split (leb (length text) room)
+      (λ e. let f : w ≡ Wrote (length text) = fits-is e in never (cc))
+      (λ e. let f : w ≡ Full 12 = full-is e in let z : number ≡ 12 = cc in rw e (ap (λ (k : ℕ). refusal k 0) z))

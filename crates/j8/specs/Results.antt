@@ -1,0 +1,25 @@
+-- What the C functions return: "number 0: done, place 0, length is the result's; else a refusal at place, length 0" (include/j8.h).
+-- Assumes nothing.
+use Prim.Native.Nat.{ℕ}
+use mathlib.Core.List.{List}
+use lib.Dec.{leb}
+use lib.ListN.{length}
+use Rattle.prelude.specs.Pick.{pick}
+use Rattle.prelude.specs.Refusals.{noRoom}
+use Rattle.strings.specs.Read.{StringRead, accepted, refused}
+use Rattle.j8.specs.declared.J8Result.{J8Result}
+
+abbrev pub done : ℕ → J8Result
+done n = record { number = 0; place = 0; length = n }
+
+abbrev pub refusal : ℕ → ℕ → J8Result
+refusal number place = record { number = number; place = place; length = 0 }
+
+-- a string read
+abbrev pub readResult : StringRead → J8Result
+readResult (accepted bs e) = done (length bs)
+readResult (refused number at) = refusal number at
+
+-- a text written into so much room
+unfoldable pub writeResult : ℕ → List ℕ → J8Result
+writeResult room text = pick (leb (length text) room) (done (length text)) (refusal noRoom 0)
