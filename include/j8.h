@@ -48,7 +48,7 @@ extern "C" {
 /* literal control byte, below 0x20; place: that byte */
 #define J8_CONTROL 6
 /* escape unknown, cut off or malformed; place: the backslash */
-#define J8_ESCAPE 7
+#define J8_BAD_ESCAPE 7
 /* single-quoted \u{h} of one to six digits, from d800 to dfff; place: the backslash */
 #define J8_SURROGATE 8
 /* single-quoted \u{h} of one to six digits, above 10ffff; place: the backslash */

@@ -75,7 +75,7 @@ pub const ILL_FORMED: u32 = 5;
 /// A literal control byte, below 0x20.
 pub const CONTROL: u32 = 6;
 /// An escape is unknown, cut off or malformed.
-pub const ESCAPE: u32 = 7;
+pub const BAD_ESCAPE: u32 = 7;
 /// A single-quoted `\u{h}` from d800 to dfff.
 pub const SURROGATE: u32 = 8;
 /// A single-quoted `\u{h}` above 10ffff.
@@ -118,7 +118,7 @@ impl Refusal {
             CUT_OFF => "the text ends where more is needed",
             ILL_FORMED => "ill-formed UTF-8",
             CONTROL => "a literal control byte",
-            ESCAPE => "an escape is unknown, cut off or malformed",
+            BAD_ESCAPE => "an escape is unknown, cut off or malformed",
             SURROGATE => "\\u{h} is a surrogate, from d800 to dfff",
             TOO_LARGE => "\\u{h} is above 10ffff",
             BYTE_ESCAPE => "\\y stands in b'' only",

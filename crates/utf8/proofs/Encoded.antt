@@ -15,6 +15,7 @@ use Rattle.prelude.proofs.Cases.{split, and-left, and-right}
 use Rattle.prelude.proofs.Picks.{pick-case}
 use Rattle.prelude.proofs.Tables.{allBelow, at-below}
 use Rattle.utf8.specs.Class.{classOf}
+use Rattle.utf8.specs.Claims.{IsScalar}
 use Rattle.utf8.specs.Utf8.{between, lowOf, highOf, charLen, encode}
 use Rattle.utf8.proofs.Characters.{tails, sizeOf, char-tails, tails-char, ascii-len}
 
@@ -114,10 +115,7 @@ four-char a b c d h g k l f e m n o q =
     (rw (low-le a b k (λ e. omega arith) f, high-ge a b l (λ e. omega arith) e, cont c m n, cont d o q))
 
 -- the numbers that UTF-8 encodes
-abbrev pub Scalar : ℕ → Type 0
-Scalar v = (v < 0x110000) × (0xd800 ≤ v → v ≤ 0xdfff → ⊥)
-
-encode-three : (v : ℕ) → 0x800 ≤ v → v < 0x10000 → Scalar v → OneChar ((0xe0 + v / 0x1000) ∷ (0x80 + v / 0x40 % 0x40) ∷ (0x80 + v % 0x40) ∷ [])
+encode-three : (v : ℕ) → 0x800 ≤ v → v < 0x10000 → IsScalar v → OneChar ((0xe0 + v / 0x1000) ∷ (0x80 + v / 0x40 % 0x40) ∷ (0x80 + v % 0x40) ∷ [])
 encode-three v a b n =
     three-char (0xe0 + v / 0x1000) (0x80 + v / 0x40 % 0x40) (0x80 + v % 0x40)
     (omega arith) (omega arith) (omega arith) (omega arith) (λ e. omega arith)
@@ -126,7 +124,7 @@ encode-three v a b n =
     (λ l. let m : v < 0xd800 = leb-false 0xd800 v l in omega arith))
     (omega arith) (omega arith)
 
-pub encode-char : (v : ℕ) → Scalar v → OneChar (encode v)
+pub encode-char : (v : ℕ) → IsScalar v → OneChar (encode v)
 unfolding encode
 encode-char v n =
     pick-case OneChar (ltb v 0x80) _ _ (λ e. ascii-len v [] (ltb-true v 0x80 e))
@@ -177,7 +175,7 @@ high-of a b h =
     (λ d. let g : b ≤ 0x8f = simp (e, d) at h in record { most = omega arith; at-ed = λ z. absurd (eqb-false a 0xed e z); at-f4 = λ _. g })
     (λ d. let g : b ≤ 0xbf = simp (e, d) at h in record { most = g; at-ed = λ z. absurd (eqb-false a 0xed e z); at-f4 = λ z. absurd (eqb-false a 0xf4 d z) }))
 
-two : (v a b : ℕ) → 0xc2 ≤ a → a < 0xe0 → 0x80 ≤ b → b ≤ 0xbf → v ≡ (a - 0xc0) * 0x40 + (b - 0x80) → Scalar v × (encode v ≡ a ∷ b ∷ [])
+two : (v a b : ℕ) → 0xc2 ≤ a → a < 0xe0 → 0x80 ≤ b → b ≤ 0xbf → v ≡ (a - 0xc0) * 0x40 + (b - 0x80) → IsScalar v × (encode v ≡ a ∷ b ∷ [])
 unfolding encode pick
 two v a b h g k l e =
     let e₁ : 0xc0 + v / 0x40 ≡ a = omega arith in
@@ -185,7 +183,7 @@ two v a b h g k l e =
     (omega arith, simp (le-ltb v 0x80 (omega arith), lt-ltb v 0x800 (omega arith), e₁, e₂))
 
 three : (v a b c : ℕ) → 0xe0 ≤ a → a < 0xf0 → Low a b → High a b → 0x80 ≤ c → c ≤ 0xbf → v ≡ (a - 0xe0) * 0x1000 + (b - 0x80) * 0x40 + (c - 0x80)
-    → Scalar v × (encode v ≡ a ∷ b ∷ c ∷ [])
+    → IsScalar v × (encode v ≡ a ∷ b ∷ c ∷ [])
 unfolding encode pick
 three v a b c h g lo hi k l e =
     let e₁ : 0xe0 + v / 0x1000 ≡ a = omega (arith, lo .least, hi .most) in
@@ -200,7 +198,7 @@ three v a b c h g lo hi k l e =
 
 four : (v a b c d : ℕ) → 0xf0 ≤ a → a < 0xf5 → Low a b → High a b → 0x80 ≤ c → c ≤ 0xbf → 0x80 ≤ d → d ≤ 0xbf
     → v ≡ (a - 0xf0) * 0x40000 + (b - 0x80) * 0x1000 + (c - 0x80) * 0x40 + (d - 0x80)
-    → Scalar v × (encode v ≡ a ∷ b ∷ c ∷ d ∷ [])
+    → IsScalar v × (encode v ≡ a ∷ b ∷ c ∷ d ∷ [])
 unfolding encode pick
 four v a b c d h g lo hi k l m n e =
     let e₁ : 0xf0 + v / 0x40000 ≡ a = omega (arith, lo .least, hi .most) in
@@ -218,7 +216,7 @@ four v a b c d h g lo hi k l m n e =
     )
 
 abbrev pub Encoded : ℕ → List ℕ → Type 0
-Encoded a r = (v : ℕ) × (Scalar v × (encode v ≡ a ∷ r))
+Encoded a r = (v : ℕ) × (IsScalar v × (encode v ≡ a ∷ r))
 
 cont-low : (lo hi b : ℕ) (z : Bool) → between lo hi b && z ≡ true → lo ≤ b
 cont-low lo hi b z e = leb-true lo b (and-left (leb lo b) _ (and-left (between lo hi b) z e))

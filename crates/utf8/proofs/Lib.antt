@@ -3,3 +3,4 @@ pub mod CharSteps
 pub mod Characters
 pub mod Validity
 pub mod Encoded
+pub mod Claims

@@ -1,2 +1,3 @@
 pub mod Class
 pub mod Utf8
+pub mod Claims

@@ -1,0 +1,20 @@
+# make test: the gate. make demo: the main job on a sample. make archive: target/staticlib/libj8.a for C and Rust.
+.PHONY: test demo archive bench clean
+
+test:
+	bash .ci/run
+
+archive:
+	rt staticlib j8 >target-archive.log 2>&1 || { cat target-archive.log; rm -f target-archive.log; exit 1; }
+	rm -f target-archive.log
+
+demo: archive
+	gcc -std=c99 -O2 -Wall -Wextra -Iinclude examples/names.c target/staticlib/libj8.a -o target/names
+	target/names
+
+# Needs serde_json from Debian's packages: bench/README.md.
+bench: archive
+	cd bench && cargo run --offline --release
+
+clean:
+	rm -rf target rust/target bench/target

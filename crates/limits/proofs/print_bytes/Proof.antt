@@ -1,0 +1,65 @@
+use Rattle.limits.proofs.print_bytes.Statement.{statement}
+use Rattle.limits.proofs.print_bytes.Tie as tie
+use Rattle.limits.proofs.print_bytes.Reads as reads
+use Rattle.limits.proofs.print_bytes.Lts as lts
+use Rattle.limits.proofs.print_byte.Reads as print-byte-reads
+use Prim.Native.Nat.{_≤_, _-_}
+use native.Mathlib.Omega.{arith}
+use lib.ListN.{length}
+
+abbrev Inv-loop : tie.InvT-loop
+Inv-loop s i₀ i =
+    i ≤ length s
+
+abbrev μ-loop : tie.MeasureT-loop
+μ-loop s i₀ i =
+    length s - i
+
+-- src/main.rt:34:5
+loop-holds : tie.Need-loop-holds Inv-loop μ-loop
+loop-holds c =
+    omega arith
+
+-- src/main.rt:35:20
+shared-slice-read-print-byte : tie.Need-shared-slice-read-print-byte Inv-loop μ-loop
+shared-slice-read-print-byte c =
+    omega arith
+
+-- src/main.rt:35:9
+print-byte-requires : tie.Need-print-byte-requires Inv-loop μ-loop
+print-byte-requires c κs =
+    tt
+
+-- src/main.rt:36:9
+add-i : tie.Need-add-i Inv-loop μ-loop
+add-i c =
+    omega arith
+
+-- src/main.rt:34:5
+loop-less : tie.Need-loop-less Inv-loop μ-loop
+loop-less c =
+    omega arith
+
+-- src/main.rt:34:5
+loop-again : tie.Need-loop-again Inv-loop μ-loop
+loop-again c =
+    omega arith
+
+-- src/main.rt:32:1
+returns : tie.Need-returns Inv-loop μ-loop
+returns c =
+    tt
+
+pub print-bytes-spec : {M : Type 1} → statement M
+print-bytes-spec =
+    tie.close
+    (tie.spec
+    Inv-loop
+    μ-loop
+    loop-holds
+    shared-slice-read-print-byte
+    print-byte-requires
+    add-i
+    loop-less
+    loop-again
+    returns)

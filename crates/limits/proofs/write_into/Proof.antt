@@ -1,0 +1,70 @@
+use borrow.Author.Needs.{needs}
+use Rattle.limits.proofs.write_into.Statement.{statement}
+use Rattle.limits.proofs.write_into.Tie as tie
+use Rattle.limits.proofs.write_into.Reads as reads
+use Rattle.limits.proofs.write_into.Lts as lts
+use Rattle.limits.proofs.print_buffer.Reads as print-buffer-reads
+use Rattle.limits.proofs.print_bytes.Reads as print-bytes-reads
+use Rattle.limits.proofs.print_room.Reads as print-room-reads
+use Rattle.limits.proofs.print_written.Reads as print-written-reads
+use Rattle.strings.proofs.write.write.Reads as write-reads
+use mathlib.Core.Path.{sym}
+use native.Mathlib.Omega.{arith}
+use lib.ListN.{length-set}
+use lib.Seq.{length-take-le}
+
+-- src/main.rt:93:9
+returns : tie.Need-returns
+returns c = search needs
+
+-- src/main.rt:95:38
+slice-relend-prefix-write : tie.Need-slice-relend-prefix-write
+slice-relend-prefix-write c = search needs
+
+-- src/main.rt:95:38
+slice-aggregate-write : tie.Need-slice-aggregate-write
+slice-aggregate-write c =
+    sym (length-take-le _ _ (c .before .if1 .left))
+
+-- src/main.rt:95:9
+write-requires : tie.Need-write-requires
+write-requires c κs = search needs
+
+-- src/main.rt:96:5
+print-bytes-requires : tie.Need-print-bytes-requires
+print-bytes-requires c κs = search needs
+
+-- src/main.rt:97:5
+print-room-requires : tie.Need-print-room-requires
+print-room-requires c κs = search needs
+
+-- src/main.rt:98:5
+print-written-requires : tie.Need-print-written-requires
+print-written-requires c κs = search needs
+
+-- src/main.rt:99:5
+print-buffer-requires : tie.Need-print-buffer-requires
+print-buffer-requires c κs = search needs
+
+-- src/main.rt:91:1
+same-length : tie.Need-same-length
+same-length c = search needs
+
+-- src/main.rt:91:1
+returns-2 : tie.Need-returns-2
+returns-2 c = search needs
+
+pub write-into-spec : {M : Type 1} → statement M
+write-into-spec =
+    tie.close
+    (tie.spec
+    returns
+    slice-relend-prefix-write
+    slice-aggregate-write
+    write-requires
+    print-bytes-requires
+    print-room-requires
+    print-written-requires
+    print-buffer-requires
+    same-length
+    returns-2)
