@@ -9,12 +9,13 @@ use native.Mathlib.Omega.{arith}
 use lib.Dec.{ltb, leb, eqb}
 use lib.ListN.{length, getD, drop}
 use lib.Seq.{drop-cons}
-use borrow.Author.Tests.{eqb-true, ltb-true, ltb-false, lt-ltb, le-ltb, eq-eqb, ne-eqb}
+use borrow.Author.Tests.{lt-ltb, le-ltb, eq-eqb, ne-eqb}
 use Rattle.prelude.specs.Pick.{pick}
 use Rattle.prelude.proofs.Cases.{split}
-use Rattle.prelude.proofs.Tables.{at-below}
+use Rattle.prelude.proofs.Tables.{allBelow}
 use Rattle.utf8.specs.Class.{classOf}
 use Rattle.utf8.specs.Utf8.{longLen, lenBy, charLen}
+use Rattle.utf8.proofs.ByteClasses.{class-last, by-byte}
 use Rattle.units.specs.declared.styles.Style.{Style}
 use Rattle.units.specs.declared.styles.Style.the-variants.{Json, Unicode, Bytes}
 use Rattle.units.specs.Styles.{quote, bareClass}
@@ -27,47 +28,22 @@ byClass bare k = pick (eqb k 0) 1 (pick (ltb k 6) (pick (eqb k bare) 1 0) 2)
 abbrev byByte : Style → ℕ → ℕ → ℕ
 byByte st x k = pick (eqb x (quote st)) 0 (pick (eqb x 92) 0 (pick (ltb x 32) 0 (pick (ltb k 5) 1 (pick (ltb k 6) 0 2))))
 
-abbrev agrees : Style → ℕ → Bool
-agrees st x = eqb (byClass (bareClass st) (classOf x)) (byByte st x (classOf x))
-
-small-agrees : (st : Style) (x : ℕ) → x < 256 → agrees st x ≡ true
+agrees : (st : Style) → allBelow (λ b. eqb (byClass (bareClass st) (classOf b)) (byByte st b (classOf b))) 0xf5 ≡ true
 unfolding classOf pick
-small-agrees Json = at-below (agrees Json) 256 refl
-small-agrees Unicode = at-below (agrees Unicode) 256 refl
-small-agrees Bytes = at-below (agrees Bytes) 256 refl
+agrees Json = refl
+agrees Unicode = refl
+agrees Bytes = refl
 
-big-class : (x : ℕ) → 256 ≤ x → classOf x ≡ 13
-unfolding classOf pick
-big-class x h =
-    simp (
-      le-ltb x 0x20 (omega arith),
-      ne-eqb x 0x22 (λ z. omega arith),
-      ne-eqb x 0x27 (λ z. omega arith),
-      ne-eqb x 0x5c (λ z. omega arith),
-      le-ltb x 0x80 (omega arith),
-      le-ltb x 0xc0 (omega arith),
-      le-ltb x 0xc2 (omega arith),
-      le-ltb x 0xe0 (omega arith),
-      ne-eqb x 0xe0 (λ z. omega arith),
-      ne-eqb x 0xed (λ z. omega arith),
-      le-ltb x 0xf0 (omega arith),
-      ne-eqb x 0xf0 (λ z. omega arith),
-      le-ltb x 0xf4 (omega arith),
-      ne-eqb x 0xf4 (λ z. omega arith),
-    )
-
-quote-small : (st : Style) (x : ℕ) → 256 ≤ x → eqb x (quote st) ≡ false
-quote-small Json x h = ne-eqb x 34 (λ z. omega arith)
-quote-small Unicode x h = ne-eqb x 39 (λ z. omega arith)
-quote-small Bytes x h = ne-eqb x 39 (λ z. omega arith)
-
-big-agrees : (st : Style) (x : ℕ) → 256 ≤ x → agrees st x ≡ true
-unfolding pick
-big-agrees st x h = rw (big-class x h, quote-small st x h, ne-eqb x 92 (λ z. omega arith), le-ltb x 32 (omega arith)) refl
+no-quote : (st : Style) (x : ℕ) → 0xf5 ≤ x → eqb x (quote st) ≡ false
+no-quote Json x h = ne-eqb x 34 (λ z. omega arith)
+no-quote Unicode x h = ne-eqb x 39 (λ z. omega arith)
+no-quote Bytes x h = ne-eqb x 39 (λ z. omega arith)
 
 byte-agrees : (st : Style) (x : ℕ) → byClass (bareClass st) (classOf x) ≡ byByte st x (classOf x)
-byte-agrees st x =
-    eqb-true _ _ (split (ltb x 256) (λ e. small-agrees st x (ltb-true x 256 e)) (λ e. big-agrees st x (ltb-false x 256 e)))
+unfolding pick
+byte-agrees st =
+    by-byte (byClass (bareClass st)) (λ x. byByte st x (classOf x)) (agrees st)
+    (λ x h. rw (class-last x h, no-quote st x h, ne-eqb x 92 (λ z. omega arith), le-ltb x 32 (omega arith)))
 
 -- as many as a lead announces are m
 abbrev with : ℕ → ℕ → ℕ

@@ -41,9 +41,27 @@ module _ (s : List ℕ) (at k : ℕ) (h : at < length s) (ek : k ≡ classOf (ge
   unfolding lenBy pick
   long-char n e l = len-is ∙ rw (le-ltb k 5 (omega arith), le-ltb k 6 l) (sym e)
 
-pub bad : (r : List ℕ) → charLen r ≡ 0 → Bad 5 ≡ charAt r
+bad : (r : List ℕ) → charLen r ≡ 0 → Bad 5 ≡ charAt r
 bad r e = rw e
 
-pub good : (r : List ℕ) (n : ℕ) → charLen r ≡ n → (n ≡ 0 → ⊥) → Good n ≡ charAt r
+good : (r : List ℕ) (n : ℕ) → charLen r ≡ n → (n ≡ 0 → ⊥) → Good n ≡ charAt r
 good r zero e h = absurd (h refl)
 good r (suc n) e h = rw e
+
+-- the answers of the check, way by way
+pub at-end : (s : List ℕ) (at : ℕ) → length s ≤ at → Bad 5 ≡ charAt (drop at s)
+at-end s at h = bad (drop at s) (char-end s at h)
+
+module _ (s : List ℕ) (at k : ℕ) (h : at < length s) (ek : k ≡ classOf (getD s at 0)) where
+  pub is-one : k < 5 → Good 1 ≡ charAt (drop at s)
+  is-one l = good (drop at s) 1 (one-byte s at k h ek l) (λ z. omega arith)
+
+  pub is-lone : 5 ≤ k → k < 6 → Bad 5 ≡ charAt (drop at s)
+  is-lone l m = bad (drop at s) (lone-tail s at k h ek l m)
+
+  module _ (n : ℕ) (en : n ≡ longLen k (getD (drop at s) 1 0) (getD (drop at s) 2 0) (getD (drop at s) 3 0)) (l : 6 ≤ k) where
+    pub is-cut : n ≡ 0 → Bad 5 ≡ charAt (drop at s)
+    is-cut z = bad (drop at s) (long-char s at k h ek n en l ∙ z)
+
+    pub is-long : (n ≡ 0 → ⊥) → Good n ≡ charAt (drop at s)
+    is-long z = good (drop at s) n (long-char s at k h ek n en l) z

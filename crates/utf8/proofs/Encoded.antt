@@ -17,6 +17,7 @@ use Rattle.prelude.proofs.Tables.{allBelow, at-below}
 use Rattle.utf8.specs.Class.{classOf}
 use Rattle.utf8.specs.Claims.{IsScalar}
 use Rattle.utf8.specs.Utf8.{between, lowOf, highOf, charLen, encode}
+use Rattle.utf8.proofs.ByteClasses.{by-byte}
 use Rattle.utf8.proofs.Characters.{tails, sizeOf, char-tails, tails-char, ascii-len}
 
 -- the length of the characters that a byte leads, 0 where it leads none, and the bounds of its second byte
@@ -28,32 +29,6 @@ secondLow a = pick (eqb a 0xe0) 0xa0 (pick (eqb a 0xf0) 0x90 0x80)
 
 unfoldable secondHigh : ℕ → ℕ
 secondHigh a = pick (eqb a 0xed) 0x9f (pick (eqb a 0xf4) 0x8f 0xbf)
-
-class-last : (a : ℕ) → 0xf5 ≤ a → classOf a ≡ 13
-unfolding classOf pick
-class-last a h =
-    simp (
-      le-ltb a 0x20 (omega arith),
-      ne-eqb a 0x22 (λ z. omega arith),
-      ne-eqb a 0x27 (λ z. omega arith),
-      ne-eqb a 0x5c (λ z. omega arith),
-      le-ltb a 0x80 (omega arith),
-      le-ltb a 0xc0 (omega arith),
-      le-ltb a 0xc2 (omega arith),
-      le-ltb a 0xe0 (omega arith),
-      ne-eqb a 0xe0 (λ z. omega arith),
-      ne-eqb a 0xed (λ z. omega arith),
-      le-ltb a 0xf0 (omega arith),
-      ne-eqb a 0xf0 (λ z. omega arith),
-      le-ltb a 0xf4 (omega arith),
-      ne-eqb a 0xf4 (λ z. omega arith),
-    )
-
-by-byte : (f g : ℕ → ℕ) → allBelow (λ b. eqb (f (classOf b)) (g b)) 0xf5 ≡ true → ((a : ℕ) → 0xf5 ≤ a → f 13 ≡ g a) → (a : ℕ) → f (classOf a) ≡ g a
-by-byte f g t h a =
-    split (ltb a 0xf5)
-    (λ e. eqb-true _ _ (at-below (λ b. eqb (f (classOf b)) (g b)) 0xf5 t a (ltb-true a 0xf5 e)))
-    (λ e. let l : 0xf5 ≤ a = ltb-false a 0xf5 e in rw (class-last a l) (h a l))
 
 size-is : (a : ℕ) → sizeOf (classOf a) ≡ leadLen a
 unfolding classOf sizeOf leadLen pick

@@ -1,3 +1,4 @@
+pub mod ByteClasses
 pub mod PlainRuns
 pub mod CharSteps
 pub mod Characters

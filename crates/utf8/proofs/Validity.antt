@@ -8,9 +8,10 @@ use native.Mathlib.Omega.{arith}
 use native.Mathlib.Nat.{zero-add}
 use lib.ListN.{length, getD, drop, length-drop, drop-of-length-le}
 use lib.Seq.{drop-drop}
-use Rattle.utf8.specs.Class.{plainRun}
-use Rattle.utf8.specs.Utf8.{charLen, validFrom}
+use Rattle.utf8.specs.Class.{classOf, plainRun}
+use Rattle.utf8.specs.Utf8.{longLen, charLen, validFrom}
 use Rattle.utf8.proofs.PlainRuns.{run-within}
+use Rattle.utf8.proofs.CharSteps.{one-byte, lone-tail, long-char}
 use Rattle.utf8.proofs.Characters.{char-le, valid-step, valid-stuck, valid-plain}
 
 -- the loop's invariant at a place
@@ -25,7 +26,7 @@ begun s i e =
     record { inside = omega (arith, run-within s); same = sym (valid-plain i s l) }
 
 module _ (s : List ℕ) (at : ℕ) where
-  pub moved : (n : ℕ) → Checked s at → at < length s → charLen (drop at s) ≡ n → (n ≡ 0 → ⊥) → Checked s (at + n)
+  moved : (n : ℕ) → Checked s at → at < length s → charLen (drop at s) ≡ n → (n ≡ 0 → ⊥) → Checked s (at + n)
   moved n k h e p =
       let l : n ≤ length s - at = rw (e, length-drop at s) at (char-le (drop at s)) in
       let d : drop (charLen (drop at s)) (drop at s) ≡ drop (at + n) s = ap (λ (m : ℕ). drop m (drop at s)) e ∙ drop-drop n at s in
@@ -34,9 +35,24 @@ module _ (s : List ℕ) (at : ℕ) where
         same = ap (validFrom 0) (sym d) ∙ sym (valid-step (drop at s) (λ z. p (sym e ∙ z))) ∙ k .same;
       }
 
-  pub stuck : Checked s at → at < length s → charLen (drop at s) ≡ 0 → false ≡ validFrom 0 s
+  stuck : Checked s at → at < length s → charLen (drop at s) ≡ 0 → false ≡ validFrom 0 s
   stuck k h e = sym (sym (k .same) ∙ valid-stuck (drop at s) (rw (length-drop at s) (omega arith)) e)
 
   pub ended : Checked s at → length s ≤ at → true ≡ validFrom 0 s
   unfolding validFrom
   ended k h = sym (sym (k .same) ∙ ap (validFrom 0) (drop-of-length-le s h))
+
+-- the loop's turns, way by way
+module _ (s : List ℕ) (at k : ℕ) (i : Checked s at) (h : at < length s) (ek : k ≡ classOf (getD s at 0)) where
+  pub one-on : k < 5 → Checked s (at + 1)
+  one-on l = moved s at 1 i h (one-byte s at k h ek l) (λ z. omega arith)
+
+  pub lone-stop : 5 ≤ k → k < 6 → false ≡ validFrom 0 s
+  lone-stop l m = stuck s at i h (lone-tail s at k h ek l m)
+
+  module _ (n : ℕ) (en : n ≡ longLen k (getD (drop at s) 1 0) (getD (drop at s) 2 0) (getD (drop at s) 3 0)) (l : 6 ≤ k) where
+    pub cut-stop : n ≡ 0 → false ≡ validFrom 0 s
+    cut-stop z = stuck s at i h (long-char s at k h ek n en l ∙ z)
+
+    pub long-on : (n ≡ 0 → ⊥) → Checked s (at + n)
+    long-on z = moved s at n i h (long-char s at k h ek n en l) z

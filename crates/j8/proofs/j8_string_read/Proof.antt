@@ -4,9 +4,6 @@ use Rattle.j8.proofs.j8_string_read.Tie as tie
 use Rattle.j8.proofs.j8_string_read.Reads as reads
 use Rattle.j8.proofs.j8_string_read.Lts as lts
 use Rattle.strings.proofs.read.read.Reads as read-reads
-use denote.Ref.{now}
-use lib.ListN.{length}
-use Rattle.strings.specs.Read.{readText}
 use Rattle.j8.proofs.Conversions.{read-done, read-refused}
 
 read-requires : tie.Need-read-requires
@@ -23,14 +20,14 @@ same-length c = search needs
 
 returns : tie.Need-returns
 returns c =
-    (read-done (c .before .before .before .before .before .read .result) (readText (length (now (c .before .before .before .before .before .before .before .before .before .args .out))) (now (c .before .before .before .before .before .before .before .before .before .args .text))) _ (c .before .before .before .before .before .read .ensures .0) (c .before .decoded .given .1), c .before .before .before .before .before .read .ensures .1)
+    (search read-done, search needs)
 
 same-length-2 : tie.Need-same-length-2
 same-length-2 c = search needs
 
 returns-2 : tie.Need-returns-2
 returns-2 c =
-    (read-refused (c .before .before .before .before .before .read .result) (readText (length (now (c .before .before .before .before .before .before .before .before .before .args .out))) (now (c .before .before .before .before .before .before .before .before .before .args .text))) _ _ (c .before .before .before .before .before .read .ensures .0) (c .before .decoded2 .given .1), c .before .before .before .before .before .read .ensures .1)
+    (search read-refused, search needs)
 
 pub j8-string-read-spec : {M : Type 1} → statement M
 j8-string-read-spec =

@@ -15,37 +15,30 @@ abbrev μ-loop : tie.MeasureT-loop
 μ-loop s i₀ i =
     length s - i
 
--- src/main.rt:34:5
 loop-holds : tie.Need-loop-holds Inv-loop μ-loop
 loop-holds c =
     omega arith
 
--- src/main.rt:35:20
 shared-slice-read-print-byte : tie.Need-shared-slice-read-print-byte Inv-loop μ-loop
 shared-slice-read-print-byte c =
     omega arith
 
--- src/main.rt:35:9
 print-byte-requires : tie.Need-print-byte-requires Inv-loop μ-loop
 print-byte-requires c κs =
     tt
 
--- src/main.rt:36:9
 add-i : tie.Need-add-i Inv-loop μ-loop
 add-i c =
     omega arith
 
--- src/main.rt:34:5
 loop-less : tie.Need-loop-less Inv-loop μ-loop
 loop-less c =
     omega arith
 
--- src/main.rt:34:5
 loop-again : tie.Need-loop-again Inv-loop μ-loop
 loop-again c =
     omega arith
 
--- src/main.rt:32:1
 returns : tie.Need-returns Inv-loop μ-loop
 returns c =
     tt

@@ -13,44 +13,34 @@ use native.Mathlib.Omega.{arith}
 use lib.ListN.{length-set}
 use lib.Seq.{length-take-le}
 
--- src/main.rt:82:9
 returns : tie.Need-returns
 returns c = search needs
 
--- src/main.rt:84:35
 slice-relend-prefix-read : tie.Need-slice-relend-prefix-read
 slice-relend-prefix-read c = search needs
 
--- src/main.rt:84:35
 slice-aggregate-read : tie.Need-slice-aggregate-read
 slice-aggregate-read c =
     sym (length-take-le _ _ (c .before .if1 .left))
 
--- src/main.rt:84:9
 read-requires : tie.Need-read-requires
 read-requires c κs = search needs
 
--- src/main.rt:85:5
 print-requires : tie.Need-print-requires
 print-requires c κs = search needs
 
--- src/main.rt:86:5
 print-room-requires : tie.Need-print-room-requires
 print-room-requires c κs = search needs
 
--- src/main.rt:87:5
 print-decoded-requires : tie.Need-print-decoded-requires
 print-decoded-requires c κs = search needs
 
--- src/main.rt:88:5
 print-buffer-requires : tie.Need-print-buffer-requires
 print-buffer-requires c κs = search needs
 
--- src/main.rt:80:1
 same-length : tie.Need-same-length
 same-length c = search needs
 
--- src/main.rt:80:1
 returns-2 : tie.Need-returns-2
 returns-2 c = search needs
 

@@ -14,121 +14,92 @@ use native.Mathlib.Omega.{arith}
 use lib.ListN.{length-set}
 use lib.Seq.{length-take-le}
 
--- src/main.rt:226:9
 returns : tie.Need-returns
 returns c = search needs
 
--- src/main.rt:229:9
 returns-2 : tie.Need-returns-2
 returns-2 c = search needs
 
--- src/main.rt:231:5
 slice-write-text : tie.Need-slice-write-text
 slice-write-text c = search needs
 
--- src/main.rt:232:10
 sub-text : tie.Need-sub-text
 sub-text c = search needs
 
--- src/main.rt:232:5
 slice-write-text-2 : tie.Need-slice-write-text-2
 slice-write-text-2 c =
     simp length-set (omega arith)
 
--- src/main.rt:233:29
 slice-reshare-prefix-read : tie.Need-slice-reshare-prefix-read
 slice-reshare-prefix-read c = search needs
 
--- src/main.rt:233:29
 slice-aggregate-read : tie.Need-slice-aggregate-read
 slice-aggregate-read c =
     sym (length-take-le _ _ (simp length-set (omega arith)))
 
--- src/main.rt:233:9
 read-requires : tie.Need-read-requires
 read-requires c κs = search needs
 
--- src/main.rt:234:5
 print-number-requires : tie.Need-print-number-requires
 print-number-requires c κs = search needs
 
--- src/main.rt:235:11
 slice-aggregate-print : tie.Need-slice-aggregate-print
 slice-aggregate-print c = search needs
 
--- src/main.rt:235:5
 print-requires : tie.Need-print-requires
 print-requires c κs = search needs
 
--- src/main.rt:236:5
 print-decoded-requires : tie.Need-print-decoded-requires
 print-decoded-requires c κs = search needs
 
--- src/main.rt:237:11
 slice-aggregate-print-2 : tie.Need-slice-aggregate-print-2
 slice-aggregate-print-2 c = search needs
 
--- src/main.rt:237:5
 print-requires-2 : tie.Need-print-requires-2
 print-requires-2 c κs = search needs
 
--- src/main.rt:238:16
 byte-of-requires : tie.Need-byte-of-requires
 byte-of-requires c κs = search needs
 
--- src/main.rt:238:5
 print-byte-requires : tie.Need-print-byte-requires
 print-byte-requires c κs = search needs
 
--- src/main.rt:239:11
 slice-aggregate-print-3 : tie.Need-slice-aggregate-print-3
 slice-aggregate-print-3 c = search needs
 
--- src/main.rt:239:5
 print-requires-3 : tie.Need-print-requires-3
 print-requires-3 c κs = search needs
 
--- src/main.rt:240:16
 byte-of-requires-2 : tie.Need-byte-of-requires-2
 byte-of-requires-2 c κs = search needs
 
--- src/main.rt:240:5
 print-byte-requires-2 : tie.Need-print-byte-requires-2
 print-byte-requires-2 c κs = search needs
 
--- src/main.rt:241:11
 slice-aggregate-print-4 : tie.Need-slice-aggregate-print-4
 slice-aggregate-print-4 c = search needs
 
--- src/main.rt:241:5
 print-requires-4 : tie.Need-print-requires-4
 print-requires-4 c κs = search needs
 
--- src/main.rt:242:16
 byte-of-requires-3 : tie.Need-byte-of-requires-3
 byte-of-requires-3 c κs = search needs
 
--- src/main.rt:242:5
 print-byte-requires-3 : tie.Need-print-byte-requires-3
 print-byte-requires-3 c κs = search needs
 
--- src/main.rt:243:11
 slice-aggregate-print-5 : tie.Need-slice-aggregate-print-5
 slice-aggregate-print-5 c = search needs
 
--- src/main.rt:243:5
 print-requires-5 : tie.Need-print-requires-5
 print-requires-5 c κs = search needs
 
--- src/main.rt:224:1
 same-length : tie.Need-same-length
 same-length c = search needs
 
--- src/main.rt:224:1
 same-length-2 : tie.Need-same-length-2
 same-length-2 c = search needs
 
--- src/main.rt:224:1
 returns-3 : tie.Need-returns-3
 returns-3 c = search needs
 

@@ -14,52 +14,40 @@ use native.Mathlib.Omega.{arith}
 use lib.ListN.{length-set}
 use lib.Seq.{length-take-le}
 
--- src/main.rt:104:9
 returns : tie.Need-returns
 returns c = search needs
 
--- src/main.rt:106:44
 slice-relend-prefix-write-bytes : tie.Need-slice-relend-prefix-write-bytes
 slice-relend-prefix-write-bytes c = search needs
 
--- src/main.rt:106:44
 slice-aggregate-write-bytes : tie.Need-slice-aggregate-write-bytes
 slice-aggregate-write-bytes c =
     sym (length-take-le _ _ (c .before .if1 .left))
 
--- src/main.rt:106:9
 write-bytes-requires : tie.Need-write-bytes-requires
 write-bytes-requires c κs = search needs
 
--- src/main.rt:107:5
 print-bytes-requires : tie.Need-print-bytes-requires
 print-bytes-requires c κs = search needs
 
--- src/main.rt:108:11
 slice-aggregate-print : tie.Need-slice-aggregate-print
 slice-aggregate-print c = search needs
 
--- src/main.rt:108:5
 print-requires : tie.Need-print-requires
 print-requires c κs = search needs
 
--- src/main.rt:109:5
 print-room-requires : tie.Need-print-room-requires
 print-room-requires c κs = search needs
 
--- src/main.rt:110:5
 print-written-requires : tie.Need-print-written-requires
 print-written-requires c κs = search needs
 
--- src/main.rt:111:5
 print-buffer-requires : tie.Need-print-buffer-requires
 print-buffer-requires c κs = search needs
 
--- src/main.rt:102:1
 same-length : tie.Need-same-length
 same-length c = search needs
 
--- src/main.rt:102:1
 returns-2 : tie.Need-returns-2
 returns-2 c = search needs
 

@@ -7,12 +7,9 @@ use Rattle.utf8.proofs.classes.class_in.Reads as class-in-reads
 use Rattle.utf8.proofs.classes.eights.Reads as eights-reads
 use denote.Ref.{now}
 use native.Mathlib.Omega.{arith}
-use mathlib.Core.Path.{_≡_, refl, sym, _∙_, ap}
-use Prim.Native.Nat.{_≤_, _-_}
-use lib.ListN.{length, drop}
-use Rattle.utf8.specs.Utf8.{validFrom}
-use Rattle.utf8.proofs.CharSteps.{one-byte, lone-tail, long-char}
-use Rattle.utf8.proofs.Validity.{Checked, begun, moved, stuck, ended}
+use Prim.Native.Nat.{_+_, _-_}
+use lib.ListN.{length}
+use Rattle.utf8.proofs.Validity.{Checked, begun, one-on, lone-stop, cut-stop, long-on, ended}
 
 abbrev Inv-loop : tie.InvT-loop
 Inv-loop t s at₀ at =
@@ -28,7 +25,7 @@ eights-requires c κs =
 
 loop-holds : tie.Need-loop-holds Inv-loop μ-loop
 loop-holds c =
-    begun (now (c .before .before .args .s)) (c .eights .result) (c .eights .ensures)
+    search begun
 
 shared-slice-read-class-in : tie.Need-shared-slice-read-class-in Inv-loop μ-loop
 shared-slice-read-class-in c =
@@ -48,11 +45,11 @@ loop-less c =
 
 loop-again : tie.Need-loop-again Inv-loop μ-loop
 loop-again c =
-    moved (now (c .before .before .before .before .before .before .before .args .s)) (c .before .before .before .before .loop .at) 1 (c .before .before .before .before .loop .inv) (c .before .before .before .loop-test .taken) (one-byte (now (c .before .before .before .before .before .before .before .args .s)) (c .before .before .before .before .loop .at) (c .before .class-in .result) (c .before .before .before .loop-test .taken) (c .before .class-in .ensures) (c .if1 .taken)) (λ z. omega arith)
+    search one-on
 
 returns : tie.Need-returns Inv-loop μ-loop
 returns c =
-    stuck (now (c .before .before .before .before .before .before .before .before .args .s)) (c .before .before .before .before .before .loop .at) (c .before .before .before .before .before .loop .inv) (c .before .before .before .before .loop-test .taken) (lone-tail (now (c .before .before .before .before .before .before .before .before .args .s)) (c .before .before .before .before .before .loop .at) (c .before .before .class-in .result) (c .before .before .before .before .loop-test .taken) (c .before .before .class-in .ensures) (c .before .if1 .left) (c .if2 .taken))
+    search lone-stop
 
 long-len-requires : tie.Need-long-len-requires Inv-loop μ-loop
 long-len-requires c κs =
@@ -60,23 +57,23 @@ long-len-requires c κs =
 
 returns-2 : tie.Need-returns-2 Inv-loop μ-loop
 returns-2 c =
-    stuck (now (c .before .before .before .before .before .before .before .before .before .before .args .s)) (c .before .before .before .before .before .before .before .loop .at) (c .before .before .before .before .before .before .before .loop .inv) (c .before .before .before .before .before .before .loop-test .taken) (long-char (now (c .before .before .before .before .before .before .before .before .before .before .args .s)) (c .before .before .before .before .before .before .before .loop .at) (c .before .before .before .before .class-in .result) (c .before .before .before .before .before .before .loop-test .taken) (c .before .before .before .before .class-in .ensures) 0 (sym (c .if3 .taken) ∙ c .before .long-len .ensures) (c .before .before .if2 .left))
+    search cut-stop
 
 add-at-2 : tie.Need-add-at-2 Inv-loop μ-loop
 add-at-2 c =
-    omega (arith, moved (now (c .before .before .before .before .before .before .before .before .before .before .args .s)) (c .before .before .before .before .before .before .before .loop .at) (c .before .long-len .result) (c .before .before .before .before .before .before .before .loop .inv) (c .before .before .before .before .before .before .loop-test .taken) (long-char (now (c .before .before .before .before .before .before .before .before .before .before .args .s)) (c .before .before .before .before .before .before .before .loop .at) (c .before .before .before .before .class-in .result) (c .before .before .before .before .before .before .loop-test .taken) (c .before .before .before .before .class-in .ensures) (c .before .long-len .result) (c .before .long-len .ensures) (c .before .before .if2 .left)) (c .if3 .left) .inside)
+    let m : Checked (now (c .before .before .before .before .before .before .before .before .before .before .args .s)) (c .before .before .before .before .before .before .before .loop .at + c .before .long-len .result) = search long-on in omega (arith, m .inside)
 
 loop-less-2 : tie.Need-loop-less-2 Inv-loop μ-loop
 loop-less-2 c =
-    omega (arith, moved (now (c .before .before .before .before .before .before .before .before .before .before .args .s)) (c .before .before .before .before .before .before .before .loop .at) (c .before .long-len .result) (c .before .before .before .before .before .before .before .loop .inv) (c .before .before .before .before .before .before .loop-test .taken) (long-char (now (c .before .before .before .before .before .before .before .before .before .before .args .s)) (c .before .before .before .before .before .before .before .loop .at) (c .before .before .before .before .class-in .result) (c .before .before .before .before .before .before .loop-test .taken) (c .before .before .before .before .class-in .ensures) (c .before .long-len .result) (c .before .long-len .ensures) (c .before .before .if2 .left)) (c .if3 .left) .inside)
+    let m : Checked (now (c .before .before .before .before .before .before .before .before .before .before .args .s)) (c .before .before .before .before .before .before .before .loop .at + c .before .long-len .result) = search long-on in omega (arith, m .inside)
 
 loop-again-2 : tie.Need-loop-again-2 Inv-loop μ-loop
 loop-again-2 c =
-    moved (now (c .before .before .before .before .before .before .before .before .before .before .args .s)) (c .before .before .before .before .before .before .before .loop .at) (c .before .long-len .result) (c .before .before .before .before .before .before .before .loop .inv) (c .before .before .before .before .before .before .loop-test .taken) (long-char (now (c .before .before .before .before .before .before .before .before .before .before .args .s)) (c .before .before .before .before .before .before .before .loop .at) (c .before .before .before .before .class-in .result) (c .before .before .before .before .before .before .loop-test .taken) (c .before .before .before .before .class-in .ensures) (c .before .long-len .result) (c .before .long-len .ensures) (c .before .before .if2 .left)) (c .if3 .left)
+    search long-on
 
 returns-3 : tie.Need-returns-3 Inv-loop μ-loop
 returns-3 c =
-    ended (now (c .before .before .before .before .args .s)) (c .before .loop .at) (c .before .loop .inv) (omega arith)
+    search ended
 
 pub valid-in-spec : {M : Type 1} → statement M
 valid-in-spec =
