@@ -6,8 +6,8 @@ test:
 
 archive:
 	@echo "Proving the library and writing target/staticlib/libj8.a: a minute or two the first time."
-	@rt staticlib j8 >target-archive.log 2>&1 || { cat target-archive.log; rm -f target-archive.log; exit 1; }
-	@rm -f target-archive.log
+	@mkdir -p target
+	@rt staticlib j8 >target/archive.log 2>&1 || { cat target/archive.log; exit 1; }
 
 demo: archive
 	gcc -std=c99 -O2 -Wall -Wextra -Iinclude examples/names.c target/staticlib/libj8.a -o target/names

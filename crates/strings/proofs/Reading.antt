@@ -27,6 +27,12 @@ use Rattle.strings.specs.Turns.{stepOf, bytesOf, turnOf, turnBytes}
 use Rattle.strings.proofs.Steps.{read-closes, read-fault, read-took, more-none, more-more}
 use Rattle.strings.proofs.Runs.{run-law}
 
+pub took-few : (u : Found) (n : ℕ) (few : Few) → u ≡ Took n few → FewOf u → few .count ≤ 4
+took-few u n few e h = rw e at h
+
+few-length : (few : Few) → few .count ≤ 4 → few .count ≡ length (fewOf few)
+few-length few h = sym (length-take-le (few .count) (few .a ∷ few .b ∷ few .c ∷ few .d ∷ []) h)
+
 -- one unit in code
 abbrev Turned : StringUnit → ℕ → ℕ → List ℕ → Step → List ℕ → Type 0
 Turned u at o out x new = (x ≡ stepOf u at o) × (new ≡ sets out o (bytesOf u))
@@ -35,22 +41,19 @@ module _ (st : Style) (r : List ℕ) (at o : ℕ) (out : List ℕ) (u : Found) (
   pub on-close : u ≡ Close → Turned (unitAt st r) at o out (Ended (at + 1) o) out
   on-close e = subst (λ (v : StringUnit). Turned v at o out (Ended (at + 1) o) out) (sym (ap unitOf e) ∙ i) (refl, refl)
 
-  pub took-is : (n : ℕ) (few : Few) → u ≡ Took n few → unitAt st r ≡ took n (fewOf few)
-  took-is n few e = sym i ∙ ap unitOf e
-
-  pub on-took : (n m : ℕ) (few : Few) (new : List ℕ) → u ≡ Took n few → m ≡ length (fewOf few) → new ≡ sets out o (fewOf few)
-      → Turned (unitAt st r) at o out (On (at + n) (o + m)) new
-  on-took n m few new e l w =
-      subst (λ (v : StringUnit). Turned v at o out (On (at + n) (o + m)) new) (sym (took-is n few e)) (ap (λ (k : ℕ). On (at + n) (o + k)) l, w)
+  pub on-took : (n : ℕ) (few : Few) (new : List ℕ) → u ≡ Took n few → FewOf u → new ≡ sets out o (fewOf few)
+      → Turned (unitAt st r) at o out (On (at + n) (o + few .count)) new
+  on-took n few new e f w =
+      subst (λ (v : StringUnit). Turned v at o out (On (at + n) (o + few .count)) new) (sym (ap unitOf e) ∙ i)
+      (ap (λ (k : ℕ). On (at + n) (o + k)) (few-length few (took-few u n few e f)), w)
 
   pub on-fault : (number : ℕ) → u ≡ Fault number → Turned (unitAt st r) at o out (Failed number at) out
   on-fault number e = subst (λ (v : StringUnit). Turned v at o out (Failed number at) out) (sym (ap unitOf e) ∙ i) (refl, refl)
 
-pub took-few : (u : Found) (n : ℕ) (few : Few) → u ≡ Took n few → FewOf u → few .count ≤ 4
-took-few u n few e h = rw e at h
-
-pub few-length : (few : Few) → few .count ≤ 4 → few .count ≡ length (fewOf few)
-few-length few h = sym (length-take-le (few .count) (few .a ∷ few .b ∷ few .c ∷ few .d ∷ []) h)
+-- a unit stays in the text
+pub took-inside : (st : Style) (s : List ℕ) (at n : ℕ) (few : Few) (u : Found) → unitOf u ≡ unitAt st (drop at s) → u ≡ Took n few → at ≤ length s → at + n ≤ length s
+took-inside st s at n few u i e h =
+    omega (arith, took-size st (drop at s) n (fewOf few) (sym i ∙ ap unitOf e) .1, length-drop at s)
 
 -- a run and a unit in code
 module _ (st : Style) (s : List ℕ) (at o e : ℕ) (out o1 : List ℕ) (h : at ≤ length s) (ee : e ≡ at + literalRun st 0 (drop at s)) where

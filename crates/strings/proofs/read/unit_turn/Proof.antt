@@ -7,52 +7,61 @@ use Rattle.strings.proofs.read.put_few.Reads as put-few-reads
 use Rattle.units.proofs.units.unit_at.Reads as unit-at-reads
 use denote.Ref.{now}
 use native.Mathlib.Omega.{arith}
-use mathlib.Core.Path.{sym, _∙_}
-use lib.ListN.{length, drop, length-drop}
-use Rattle.units.proofs.Sizes.{took-size}
-use Rattle.strings.proofs.Reading.{on-close, took-is, took-few, on-took, on-fault, few-length}
+use Rattle.strings.proofs.Reading.{on-close, took-inside, took-few, on-took, on-fault}
 
+-- src/read.rt:74:9
 unit-at-requires : tie.Need-unit-at-requires
 unit-at-requires c κs = search needs
 
+-- src/read.rt:76:36
 enum-told : tie.Need-enum-told
 enum-told c = search needs
 
+-- src/read.rt:76:36
 add-t13 : tie.Need-add-t13
 add-t13 c = search needs
 
+-- src/read.rt:77:20
 enum-known-unit : tie.Need-enum-known-unit
 enum-known-unit c = search needs
 
+-- src/read.rt:79:13
 put-few-requires : tie.Need-put-few-requires
 put-few-requires c κs =
-    took-few _ _ _ (c .before .before .unit .given .1) (c .before .before .before .before .unit-at .ensures .1)
+    search took-few
 
+-- src/read.rt:80:22
 add-t17 : tie.Need-add-t17
 add-t17 c =
-    omega (arith, took-size (c .before .before .before .before .before .before .before .before .before .before .args .style) (drop (c .before .before .before .before .before .before .before .before .before .before .args .at) (now (c .before .before .before .before .before .before .before .before .before .before .args .s))) _ _ (took-is (c .before .before .before .before .before .before .before .before .before .before .args .style) (drop (c .before .before .before .before .before .before .before .before .before .before .args .at) (now (c .before .before .before .before .before .before .before .before .before .before .args .s))) (c .before .before .before .before .before .before .before .before .before .before .args .at) (c .before .before .before .before .before .before .before .before .before .before .args .o) (now (c .before .before .before .before .before .before .before .before .before .before .args .out)) (c .before .before .before .before .before .before .before .unit-at .result) (c .before .before .before .before .before .before .before .unit-at .ensures .0) _ _ (c .before .before .before .before .before .unit .given .1)) .1, length-drop (c .before .before .before .before .before .before .before .before .before .before .args .at) (now (c .before .before .before .before .before .before .before .before .before .before .args .s)))
+    omega (arith, took-inside (c .before .before .before .before .before .before .before .before .before .before .args .style) (now (c .before .before .before .before .before .before .before .before .before .before .args .s)) (c .before .before .before .before .before .before .before .before .before .before .args .at) _ _ _ (c .before .before .before .before .before .before .before .unit-at .ensures .0) (c .before .before .before .before .before .unit .given .1) (c .before .before .before .before .before .before .before .before .before .before .pre .1))
 
+-- src/read.rt:80:30
 add-t18 : tie.Need-add-t18
 add-t18 c =
     omega (arith, took-few _ _ _ (c .before .before .before .before .before .unit .given .1) (c .before .before .before .before .before .before .before .unit-at .ensures .1))
 
+-- src/read.rt:82:21
 enum-known-unit-2 : tie.Need-enum-known-unit-2
 enum-known-unit-2 c = search needs
 
+-- src/read.rt:69:1
 returns : tie.Need-returns
 returns c =
-    on-close (c .before .before .before .before .before .args .style) (drop (c .before .before .before .before .before .args .at) (now (c .before .before .before .before .before .args .s))) (c .before .before .before .before .before .args .at) (c .before .before .before .before .before .args .o) (now (c .before .before .before .before .before .args .out)) (c .before .before .unit-at .result) (c .before .before .unit-at .ensures .0) (c .enum-told .given .1)
+    on-close _ _ _ _ _ _ (c .before .before .unit-at .ensures .0) (c .enum-told .given .1)
 
+-- src/read.rt:69:1
 same-length : tie.Need-same-length
 same-length c = search needs
 
+-- src/read.rt:69:1
 returns-2 : tie.Need-returns-2
 returns-2 c =
-    on-took (c .before .before .before .before .before .before .before .before .before .before .args .style) (drop (c .before .before .before .before .before .before .before .before .before .before .args .at) (now (c .before .before .before .before .before .before .before .before .before .before .args .s))) (c .before .before .before .before .before .before .before .before .before .before .args .at) (c .before .before .before .before .before .before .before .before .before .before .args .o) (now (c .before .before .before .before .before .before .before .before .before .before .args .out)) (c .before .before .before .before .before .before .before .unit-at .result) (c .before .before .before .before .before .before .before .unit-at .ensures .0) _ _ _ _ (c .before .before .before .before .before .unit .given .1) (few-length _ (took-few _ _ _ (c .before .before .before .before .before .unit .given .1) (c .before .before .before .before .before .before .before .unit-at .ensures .1))) (c .before .before .put-few .ensures)
+    on-took _ _ _ _ _ _ (c .before .before .before .before .before .before .before .unit-at .ensures .0) _ _ _ (c .before .before .before .before .before .unit .given .1) (c .before .before .before .before .before .before .before .unit-at .ensures .1) (c .before .before .put-few .ensures)
 
+-- src/read.rt:69:1
 returns-3 : tie.Need-returns-3
 returns-3 c =
-    on-fault (c .before .before .before .before .before .before .args .style) (drop (c .before .before .before .before .before .before .args .at) (now (c .before .before .before .before .before .before .args .s))) (c .before .before .before .before .before .before .args .at) (c .before .before .before .before .before .before .args .o) (now (c .before .before .before .before .before .before .args .out)) (c .before .before .before .unit-at .result) (c .before .before .before .unit-at .ensures .0) _ (c .before .unit2 .given .1)
+    on-fault _ _ _ _ _ _ (c .before .before .before .unit-at .ensures .0) _ (c .before .unit2 .given .1)
 
 pub unit-turn-spec : {M : Type 1} → statement M
 unit-turn-spec =
