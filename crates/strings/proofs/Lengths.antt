@@ -41,7 +41,7 @@ pub units-length : (st : Style) (s : List ℕ) → length (writeUnits st 0 s) �
 unfolding writeUnits
 units-length st = by-suffix (Short st) (omega arith) (units-one st)
 
-quoted-length : (st : Style) (s : List ℕ) → length (quoted st s) ≤ length (mark st) + limit st (length s) + 1
+pub quoted-length : (st : Style) (s : List ℕ) → length (quoted st s) ≤ length (mark st) + limit st (length s) + 1
 unfolding quoted
 quoted-length st s =
     omega (arith, length-append (mark st) (writeUnits st 0 s ++ (quote st ∷ [])), length-append (writeUnits st 0 s) (quote st ∷ []), units-length st s)

@@ -15,8 +15,10 @@ use Rattle.prelude.proofs.Stores.{sets-over, empty-front}
 use Rattle.units.specs.declared.styles.Style.{Style}
 use Rattle.units.specs.declared.styles.Style.the-variants.{Json, Unicode, Bytes}
 use Rattle.units.specs.Styles.{quote, StringUnit, close}
-use Rattle.units.specs.Units.{unitAt, literalRun}
+use Rattle.units.specs.Units.{unitAt, literalLen, literalRun}
+use Rattle.units.specs.Blocks.{Running}
 use Rattle.units.proofs.LiteralLaws.{run-fits}
+use Rattle.units.proofs.LiteralRuns.{stopped}
 use Rattle.strings.specs.declared.answers.Decoded.{Decoded}
 use Rattle.strings.specs.declared.answers.Decoded.the-variants.{Done, Refused}
 use Rattle.strings.specs.declared.answers.Token.{Token}
@@ -24,7 +26,7 @@ use Rattle.strings.specs.declared.answers.Token.the-variants.{Ended, Fai
 use Rattle.strings.specs.declared.read.Mark.{Mark}
 use Rattle.strings.specs.declared.read.Mark.the-variants.{Opens, Unopened}
 use Rattle.strings.specs.Read.{StringRead, accepted, refused, more, readUnits, Opening, opens, unopened, opening, readFrom, readToken, readString, readText, textMax, whole, fitted, decodedOf, tokenOf, readInto, Stored}
-use Rattle.strings.specs.Turns.{openingOf}
+use Rattle.strings.specs.Turns.{openingOf, Closed}
 use Rattle.strings.proofs.Places.{Marked, opening-fits}
 use Rattle.strings.proofs.Steps.{read-skip, read-closes}
 use Rattle.strings.proofs.Runs.{run-law}
@@ -82,9 +84,18 @@ quote-close : (st : Style) (s : List ℕ) (e : ℕ) → e < length s → getD s 
 unfolding unitAt pick
 quote-close st s e h q = rw (drop-cons s e 0 h, eq-eqb (getD s e 0) (quote st) q)
 
--- the run reaches the closing quote, and that is the text's last byte
-module _ (st : Style) (s out : List ℕ) (from e : ℕ) (h : from ≤ length s) (ee : e ≡ from + literalRun st 0 (drop from s))
-    (l : e < length s) (en : e + 1 ≡ length s) (q : getD s e 0 ≡ quote st) where
+quote-stops : (st : Style) (s : List ℕ) (e : ℕ) → e < length s → getD s e 0 ≡ quote st → 0 ≡ literalLen st (drop e s)
+unfolding literalLen pick
+quote-stops st s e h q = rw (drop-cons s e 0 h, eq-eqb (getD s e 0) (quote st) q)
+
+-- literal characters reach the closing quote, and that is the text's last byte
+module _ (st : Style) (s out : List ℕ) (from e : ℕ) (h : from ≤ length s) (k : Running st s from e) (d : Closed st s e) where
+  l : e < length s
+  l = omega (arith, d .last)
+
+  ee : e ≡ from + literalRun st 0 (drop from s)
+  ee = stopped st s from e k (quote-stops st s e l (d .ends))
+
   abbrev run : ℕ
   run = literalRun st 0 (drop from s)
 
@@ -98,7 +109,7 @@ module _ (st : Style) (s out : List ℕ) (from e : ℕ) (h : from ≤ length s) 
   one-run =
       run-law st (drop from s) from
       ∙ ap (more (take run (drop from s)))
-      ((λ i. readUnits st (sym ee i) 0 ((drop-drop run from s ∙ ap (λ (k : ℕ). drop k s) (sym ee)) i)) ∙ read-closes st e (drop e s) (quote-close st s e l q))
+      ((λ i. readUnits st (sym ee i) 0 ((drop-drop run from s ∙ ap (λ (k : ℕ). drop k s) (sym ee)) i)) ∙ read-closes st e (drop e s) (quote-close st s e l (d .ends)))
       ∙ (λ i. accepted ((append-nil (take run (drop from s)) ∙ ap (λ (k : ℕ). take k (drop from s)) (sym count-is)) i) (e + 1))
 
   ends : tokenOf (readUnits st from 0 (drop from s)) ≡ Ended (e + 1) (e - from)
@@ -107,11 +118,11 @@ module _ (st : Style) (s out : List ℕ) (from e : ℕ) (h : from ≤ length s) 
       ∙ ap (Ended (e + 1)) (length-take-le (e - from) (drop from s) (omega (arith, count-is, run-fits st (drop from s))))
 
   pub run-tight : length out < e - from → Told (readUnits st from 0 (drop from s)) s out (Refused 12 0) out
-  run-tight g = tight s out (readUnits st from 0 (drop from s)) (e + 1) (e - from) ends en g
+  run-tight g = tight s out (readUnits st from 0 (drop from s)) (e + 1) (e - from) ends (d .last) g
 
   pub run-good : (new : List ℕ) → e - from ≤ length out → new ≡ sets out 0 bytes → Told (readUnits st from 0 (drop from s)) s out (Done (e - from)) new
   run-good new g p =
-      good s out (readUnits st from 0 (drop from s)) (e + 1) (e - from) new ends en g
+      good s out (readUnits st from 0 (drop from s)) (e + 1) (e - from) new ends (d .last) g
       (subst (λ (v : StringRead). Stored v out new) (sym one-run) p)
 
 -- the opening mark

@@ -19,11 +19,14 @@ use Rattle.units.specs.declared.styles.Style.the-variants.{Json, Bytes}
 use Rattle.units.specs.Styles.{quote}
 use Rattle.units.specs.Units.{literalLen, literalRun}
 use Rattle.units.specs.Written.{escapeByte}
-use Rattle.units.proofs.LiteralLaws.{run-fits, run-ends}
+use Rattle.units.specs.Blocks.{Running}
+use Rattle.units.proofs.LiteralLaws.{run-fits, run-ends, run-valid}
 use Rattle.units.proofs.EscapeStores.{escape-written}
+use Rattle.units.proofs.WrittenUnits.{limit}
 use Rattle.strings.specs.declared.answers.Written.{Written}
 use Rattle.strings.specs.declared.answers.Written.the-variants.{Wrote, Full}
 use Rattle.strings.specs.Write.{writeUnits, mark, quoted, writeString, writtenIn, wroteInto, Passed}
+use Rattle.strings.proofs.Lengths.{quoted-length}
 use Rattle.strings.proofs.Steps.{write-skip}
 use Rattle.strings.proofs.Runs.{write-run}
 
@@ -155,6 +158,16 @@ pub wrote : (text out : List ℕ) (n : ℕ) (new : List ℕ) → length text ≤
 unfolding writtenIn wroteInto pick
 wrote text out n new h e w = simp (le-leb (length text) (length out) h) (ap Wrote e, w ∙ sets-over text out h)
 
+-- one pass, where the text is known to fit
+pub one-pass : (text out : List ℕ) {n : ℕ} {new : List ℕ} → length text ≤ length out → Passed text (length out) n out new → Wrote-It text out (Wrote n) new
+unfolding pick
+one-pass text out {n} {new} h p = wrote text out n new h (p .answer ∙ rw (le-leb (length text) (length out) h)) (p .stored h)
+
+-- room for the longest text of n bytes
+pub room-enough : (st to : Style) (n room : ℕ) → st ≡ to → length (mark to) + limit to n + 1 ≤ room → (s : List ℕ) → length s ≡ n → length (quoted st s) ≤ room
+room-enough st to n room e h s l =
+    rw e (omega (arith, quoted-length to s, ap (limit to) l))
+
 -- the first pass over the empty part `l`, and the second over the buffer
 module _ (text l out : List ℕ) {n : ℕ} {l₀ : List ℕ} (pos : 0 < length text) (z : length l ≡ 0) (p : Passed text (length out) n l₀ l) where
   fits : (n ≡ 0 → ⊥) → length text ≤ length out
@@ -226,3 +239,11 @@ module _ (s : List ℕ) (r : Written) (out new : List ℕ) where
 
   pub other-form : validUtf8 s ≡ false → Wrote-It (quoted Bytes s) out r new → Wrote-It (writeString s) out r new
   other-form e w = subst (λ (x : List ℕ). Wrote-It x out r new) (sym (other-text s e)) w
+
+-- whether data is valid UTF-8, by what stands behind its first run of literal characters
+pub valid-behind : (s : List ℕ) (at e : ℕ) (r : Bool) → Running Json s 0 at → e ≡ at + literalRun Json 0 (drop at s)
+    → r ≡ validUtf8 (take (length s - e) (drop e s)) → r ≡ validUtf8 s
+valid-behind s at e r k h v =
+    let n : e ≡ literalRun Json 0 s = omega (arith, k .same) in
+    let w : take (length s - e) (drop e s) ≡ drop e s = rw (← length-drop e s) (take-length (drop e s)) in
+    v ∙ ap validUtf8 (w ∙ ap (λ (i : ℕ). drop i s) n) ∙ sym (run-valid Json s)

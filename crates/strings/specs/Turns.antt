@@ -2,9 +2,10 @@
 -- Assumes nothing.
 use Prim.Native.Nat.{ℕ, _+_}
 use mathlib.Core.List.{List, [], _++_}
-use lib.ListN.{length, take, drop}
+use mathlib.Core.Path.{_≡_}
+use lib.ListN.{length, getD, take, drop}
 use Rattle.units.specs.declared.styles.Style.{Style}
-use Rattle.units.specs.Styles.{StringUnit, close, took, fault}
+use Rattle.units.specs.Styles.{quote, StringUnit, close, took, fault}
 use Rattle.units.specs.Units.{unitAt, literalRun}
 use Rattle.strings.specs.declared.read.Mark.{Mark}
 use Rattle.strings.specs.declared.read.Mark.the-variants.{Opens, Unopened}
@@ -34,3 +35,8 @@ turnOf st r at o = stepOf (unitAt st (drop (literalRun st 0 r) r)) (at + literal
 
 unfoldable pub turnBytes : Style → List ℕ → List ℕ
 turnBytes st r = take (literalRun st 0 r) r ++ bytesOf (unitAt st (drop (literalRun st 0 r) r))
+
+-- the closing quote stands at a place and is the text's last byte
+pub record Closed (st : Style) (s : List ℕ) (e : ℕ) : Type 0 where
+  pub last : e + 1 ≡ length s
+  pub ends : getD s e 0 ≡ quote st

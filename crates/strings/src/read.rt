@@ -1,17 +1,20 @@
 // The token reader and the string reader.
+ghost use mathlib.Core.Bool.{true};
 ghost use mathlib.Core.Path.{_≡_};
 ghost use Prim.Native.Nat.{_≤_};
 ghost use lib.ListN.{length, drop};
 ghost use lib.Seq.{sets};
 ghost use Rattle.utf8.specs.Class.{IsTable};
 ghost use Rattle.utf8.specs.Utf8.{fewOf};
+ghost use Rattle.units.specs.Blocks.{Running};
 ghost use Rattle.units.specs.Units.{unitAt};
 ghost use Rattle.strings.specs.Read.{opening, readUnits, readToken, readString, readText, whole, fitted, decodedOf, tokenOf, readInto, Stored};
-ghost use Rattle.strings.specs.Turns.{openingOf, stepOf, bytesOf, turnOf, turnBytes};
+ghost use Rattle.strings.specs.Turns.{openingOf, stepOf, bytesOf, turnOf, turnBytes, Closed};
 use crate::answers::Decoded;
 use crate::answers::Token;
 use prelude::refusals;
 use prelude::slices;
+use units::blocks;
 use units::literals;
 use units::styles;
 use units::styles::Style;
@@ -89,7 +92,7 @@ fn turn(t: &[u8; 256], s: &[u8], at: usize, style: Style, o: usize, out: &mut [u
     ensures is { λ r. ⌜ r ≡ turnOf style (drop at (now (s .entry))) at o ⌝ }
     ensures stored { λ r. ⌜ now (out .exit) ≡ sets (now (out .entry)) o (turnBytes style (drop at (now (s .entry)))) ⌝ }
 {
-    let e = literals::literal_run(t, s, at, style);
+    let e = literals::short_run(t, s, at, style);
     let n = e - at;
     slices::copy_run(s, at, n, o, out);
     unit_turn(t, s, e, style, o + n, out)
@@ -156,24 +159,47 @@ fn two_passes(t: &[u8; 256], s: &[u8], from: usize, style: Style, out: &mut [u8]
     }
 }
 
-// A text that is one run of literal characters between its quotes is scanned once and copied once.
-fn read_marked(t: &[u8; 256], s: &[u8], from: usize, style: Style, out: &mut [u8]) -> Decoded
-    requires { ⌜ IsTable (now t) × (from ≤ length (now s)) ⌝ }
+// Whether the closing quote stands at a place and is the text's last byte.
+fn closes(s: &[u8], e: usize, style: Style) -> bool
+    requires { ⌜ e ≤ length (now s) ⌝ }
+    ensures { λ r. ⌜ (r ≡ true → Closed style (now (s .entry)) e) ⌝ }
+{
+    if s.len() - e != 1 {
+        return false;
+    }
+    s[e] == styles::quote_of(style)
+}
+
+// A text that is one run of literal characters between its quotes is copied once.
+fn read_run(s: &[u8], from: usize, e: usize, style: Style, out: &mut [u8]) -> Decoded
+    requires { ⌜ (from ≤ length (now s)) × Running style (now s) from e × Closed style (now s) e ⌝ }
     ensures answer { λ r. ⌜ r ≡ decodedOf (fitted (length (now (out .entry))) (whole (length (now (s .entry))) (readUnits style from 0 (drop from (now (s .entry)))))) ⌝ }
     ensures stored { λ r. ⌜ now (out .exit) ≡ readInto (fitted (length (now (out .entry))) (whole (length (now (s .entry))) (readUnits style from 0 (drop from (now (s .entry)))))) (now (out .entry)) ⌝ }
 {
-    let e = literals::literal_run(t, s, from, style);
-    if e < s.len() {
-        if e + 1 == s.len() {
-            if s[e] == styles::quote_of(style) {
-                let count = e - from;
-                if out.len() < count {
-                    return Decoded::Refused(refusals::NO_ROOM, 0);
-                }
-                slices::copy_run(s, from, count, 0, out);
-                return Decoded::Done(count);
-            }
-        }
+    let count = e - from;
+    if out.len() < count {
+        return Decoded::Refused(refusals::NO_ROOM, 0);
+    }
+    slices::copy_run(s, from, count, 0, out);
+    Decoded::Done(count)
+}
+
+// The units behind a mark, of which those before a place are known to be literal characters.
+fn read_marked(
+    t: &[u8; 256],
+    s: &[u8],
+    from: usize,
+    at: usize,
+    style: Style,
+    out: &mut [u8],
+) -> Decoded
+    requires { ⌜ IsTable (now t) × (from ≤ length (now s)) × Running style (now s) from at ⌝ }
+    ensures answer { λ r. ⌜ r ≡ decodedOf (fitted (length (now (out .entry))) (whole (length (now (s .entry))) (readUnits style from 0 (drop from (now (s .entry)))))) ⌝ }
+    ensures stored { λ r. ⌜ now (out .exit) ≡ readInto (fitted (length (now (out .entry))) (whole (length (now (s .entry))) (readUnits style from 0 (drop from (now (s .entry)))))) (now (out .entry)) ⌝ }
+{
+    let e = literals::literal_run(t, s, at, style);
+    if closes(s, e, style) {
+        return read_run(s, from, e, style, out);
     }
     two_passes(t, s, from, style, out)
 }
@@ -186,9 +212,23 @@ pub fn read_in(t: &[u8; 256], s: &[u8], out: &mut [u8]) -> Decoded
 {
     let mark = mark_at(s);
     match mark {
-        Mark::Opens(style, from) => read_marked(t, s, from, style, out),
+        Mark::Opens(style, from) => read_marked(t, s, from, from, style, out),
         Mark::Unopened => Decoded::Refused(refusals::NO_OPENING, 0),
     }
+}
+
+// The units behind a mark: the table is made only where blocks don't reach the closing quote.
+fn read_open(s: &[u8], from: usize, style: Style, out: &mut [u8]) -> Decoded
+    requires { ⌜ from ≤ length (now s) ⌝ }
+    ensures answer { λ r. ⌜ r ≡ decodedOf (fitted (length (now (out .entry))) (whole (length (now (s .entry))) (readUnits style from 0 (drop from (now (s .entry)))))) ⌝ }
+    ensures stored { λ r. ⌜ now (out .exit) ≡ readInto (fitted (length (now (out .entry))) (whole (length (now (s .entry))) (readUnits style from 0 (drop from (now (s .entry)))))) (now (out .entry)) ⌝ }
+{
+    let at = blocks::strides(s, from, style);
+    if closes(s, at, style) {
+        return read_run(s, from, at, style, out);
+    }
+    let t = classes::table();
+    read_marked(&t, s, from, at, style, out)
 }
 
 // Reads the J8 string that a text is: its bytes in front of out, or a refusal and out as it was.
@@ -199,6 +239,9 @@ pub fn read(text: &[u8], out: &mut [u8]) -> Decoded
     if 32768 < text.len() {
         return Decoded::Refused(refusals::TOO_LONG, 0);
     }
-    let t = classes::table();
-    read_in(&t, text, out)
+    let mark = mark_at(text);
+    match mark {
+        Mark::Opens(style, from) => read_open(text, from, style, out),
+        Mark::Unopened => Decoded::Refused(refusals::NO_OPENING, 0),
+    }
 }

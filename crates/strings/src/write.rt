@@ -1,14 +1,19 @@
 // The string writer: `""` for valid UTF-8, else `b''`; and the `b''` form by itself.
+ghost use mathlib.Core.Bool.{true};
+ghost use mathlib.Core.List.{List};
 ghost use mathlib.Core.Path.{_≡_};
+ghost use Prim.Native.Nat.{ℕ, _≤_};
 ghost use lib.ListN.{length};
 ghost use lib.Seq.{sets};
 ghost use Rattle.utf8.specs.Class.{IsTable};
 ghost use Rattle.units.specs.declared.styles.Style.the-variants.{Json};
+ghost use Rattle.units.specs.Blocks.{Running};
 ghost use Rattle.units.specs.Units.{literalRun};
 ghost use Rattle.strings.specs.Write.{mark, quoted, writeBytes, writeString, writtenIn, wroteInto, Passed};
 use crate::answers::Written;
 use prelude::refusals;
 use prelude::slices;
+use units::blocks;
 use units::literals;
 use units::styles;
 use units::styles::Style;
@@ -52,7 +57,7 @@ fn pass(t: &[u8; 256], style: Style, s: &[u8], room: usize, out: &mut [u8]) -> u
     let mut o = first;
     let mut at = 0;
     while at < s.len() {
-        let e = literals::literal_run(t, s, at, style);
+        let e = literals::short_run(t, s, at, style);
         if e == at {
             let x = s[at];
             let m = written::escape_len(style, x);
@@ -76,13 +81,31 @@ fn pass(t: &[u8; 256], style: Style, s: &[u8], room: usize, out: &mut [u8]) -> u
     o + 1
 }
 
-// The text of the data in a style, or 12: one pass over no buffer to measure it, one to store it.
+// Whether every text of n bytes of data in a style fits a room.
+fn roomy(style: Style, n: usize, room: usize) -> bool
+    ensures { λ r. ⌜ (r ≡ true → (s : List ℕ) → length s ≡ n → length (quoted style s) ≤ room) ⌝ }
+{
+    if room < 3 {
+        return false;
+    }
+    match style {
+        Style::Json => n <= (room - 2) / 6,
+        Style::Unicode => n <= (room - 3) / 6,
+        Style::Bytes => n <= (room - 3) / 4,
+    }
+}
+
+// The text of the data in a style, or 12: one pass over no buffer to measure it, one to store it. Where the room is known to suffice,
+// nothing is measured.
 fn write_quoted(t: &[u8; 256], style: Style, s: &[u8], out: &mut [u8]) -> Written
     requires { ⌜ IsTable (now t) ⌝ }
     ensures answer { λ r. ⌜ r ≡ writtenIn (length (now (out .entry))) (quoted style (now (s .entry))) ⌝ }
     ensures stored { λ r. ⌜ now (out .exit) ≡ wroteInto (quoted style (now (s .entry))) (now (out .entry)) ⌝ }
 {
     let room = out.len();
+    if roomy(style, s.len(), room) {
+        return Written::Wrote(pass(t, style, s, room, out));
+    }
     let n = pass(t, style, s, room, &mut out[..0]);
     if n == 0 {
         return Written::Full(refusals::NO_ROOM);
@@ -107,20 +130,33 @@ fn write_literal(s: &[u8], out: &mut [u8]) -> Written
     Written::Wrote(n + 2)
 }
 
-// Writes the data as a J8 string: its text in front of out, or 12 and out as it was.
-pub fn write(s: &[u8], out: &mut [u8]) -> Written
+// The same where the bytes before a place are known to be literal characters. What is one run of them is valid UTF-8 so far.
+fn write_from(s: &[u8], at: usize, out: &mut [u8]) -> Written
+    requires { ⌜ Running Json (now s) 0 at ⌝ }
     ensures answer { λ r. ⌜ r ≡ writtenIn (length (now (out .entry))) (writeString (now (s .entry))) ⌝ }
     ensures stored { λ r. ⌜ now (out .exit) ≡ wroteInto (writeString (now (s .entry))) (now (out .entry)) ⌝ }
 {
     let t = classes::table();
-    let e = literals::literal_run(&t, s, 0, Style::Json);
+    let e = literals::literal_run(&t, s, at, Style::Json);
     if e == s.len() {
         return write_literal(s, out);
     }
-    if chars::valid_in(&t, s) {
+    if chars::valid_in(&t, &s[e..]) {
         return write_quoted(&t, Style::Json, s, out);
     }
     write_quoted(&t, Style::Bytes, s, out)
+}
+
+// Writes the data as a J8 string: its text in front of out, or 12 and out as it was. Where blocks reach the end, no table is made.
+pub fn write(s: &[u8], out: &mut [u8]) -> Written
+    ensures answer { λ r. ⌜ r ≡ writtenIn (length (now (out .entry))) (writeString (now (s .entry))) ⌝ }
+    ensures stored { λ r. ⌜ now (out .exit) ≡ wroteInto (writeString (now (s .entry))) (now (out .entry)) ⌝ }
+{
+    let at = blocks::strides(s, 0, Style::Json);
+    if at == s.len() {
+        return write_literal(s, out);
+    }
+    write_from(s, at, out)
 }
 
 // Writes the data in the `b''` form, also where it is valid UTF-8.

@@ -3,13 +3,16 @@
 use mathlib.Core.Path.{_≡_, refl, sym, ap, _∙_}
 use mathlib.Core.Bool.{Bool, true, false}
 use mathlib.Core.List.{List, [], _∷_}
-use Prim.Native.Nat.{ℕ, zero, suc, pred, _/_, _%_, _<_}
+use Prim.Native.Nat.{ℕ, zero, suc, pred, _+_, _-_, _/_, _%_, _≤_, _<_}
+use native.Mathlib.Numerals.{add-one}
 use native.Mathlib.Omega.{arith}
 use borrow.Author.Tests.{eq-eqb, ne-eqb, eqb-true, eqb-false, ltb-true}
 use lib.Dec.{ltb, eqb}
-use lib.ListN.{length}
+use lib.ListN.{length, set, length-set}
+use lib.Seq.{sets, set-out}
 use Rattle.prelude.specs.Pick.{pick}
 use Rattle.prelude.proofs.Cases.{split}
+use Rattle.prelude.proofs.Stores.{sets-out}
 use Rattle.utf8.specs.Utf8.{charLen}
 use Rattle.utf8.proofs.Characters.{ascii-len}
 use Rattle.units.specs.declared.styles.Style.{Style}
@@ -54,6 +57,17 @@ module _ (st : Style) (x : ℕ) where
     pub as-number : k ≡ 0 → byNumber st x ≡ escapeByte st x
     unfolding escapeByte pick
     as-number h = rw (← ek, eq-eqb k 0 h)
+
+-- two bytes stored where there is room for none, one or both
+module _ (a b o : ℕ) (l : List ℕ) where
+  pub two-out : length l ≤ o → l ≡ sets l o (a ∷ b ∷ [])
+  two-out h = sym (sets-out (a ∷ b ∷ []) l o h)
+
+  pub two-first : length l - o ≡ 1 → set l o a ≡ sets l o (a ∷ b ∷ [])
+  two-first h = sym (set-out (set l o a) (suc o) b (omega (arith, length-set l o a)))
+
+  pub two-both : set (set l o a) (o + 1) b ≡ sets l o (a ∷ b ∷ [])
+  two-both = rw (add-one o)
 
 -- a character without an escape is literal
 no-escape : (st : Style) (x : ℕ) (r : List ℕ) (n : ℕ) → literalLen st (x ∷ r) ≡ 0 → charLen (x ∷ r) ≡ suc n → lookup x (escaped st) ≡ 0

@@ -1,4 +1,5 @@
 pub mod Agreement
+pub mod BlockLaws
 pub mod EscapeLaws
 pub mod EscapeStores
 pub mod HexLaws

@@ -8,13 +8,13 @@ use mathlib.Core.Path.{_≡_, refl, sym, ap, _∙_}
 use native.Mathlib.Omega.{arith}
 use lib.Dec.{ltb, leb, eqb}
 use lib.ListN.{length, getD, drop}
-use lib.Seq.{drop-cons}
+use lib.Seq.{drop-cons, getD-drop}
 use borrow.Author.Tests.{lt-ltb, le-ltb, eq-eqb, ne-eqb}
 use Rattle.prelude.specs.Pick.{pick}
 use Rattle.prelude.proofs.Cases.{split}
 use Rattle.prelude.proofs.Tables.{allBelow}
 use Rattle.utf8.specs.Class.{classOf}
-use Rattle.utf8.specs.Utf8.{longLen, lenBy, charLen}
+use Rattle.utf8.specs.Utf8.{tail, lowOf, highOf, twoBytes, threeBytes, longLen, lenBy, charLen}
 use Rattle.utf8.proofs.ByteClasses.{class-last, by-byte}
 use Rattle.units.specs.declared.styles.Style.{Style}
 use Rattle.units.specs.declared.styles.Style.the-variants.{Json, Unicode, Bytes}
@@ -100,3 +100,14 @@ module _ (st : Style) (s : List ℕ) (at k : ℕ) (h : at < length s) (ek : k �
   pub long-char : (n : ℕ) → n ≡ long → (k ≡ 0 → ⊥) → 6 ≤ k → n ≡ literalLen st (drop at s)
   unfolding pick
   long-char n q e d = q ∙ (simp (ne-eqb k 0 e, le-ltb k 6 d) at at-class)
+
+  behind : (i : ℕ) → getD (drop at s) i 0 ≡ getD s (at + i) 0
+  behind i = getD-drop at s i 0
+
+  pub two-bytes : k ≡ 6 → tail (getD s (at + 1) 0) ≡ true → 2 ≡ literalLen st (drop at s)
+  unfolding longLen twoBytes pick
+  two-bytes e a = long-char 2 (sym (rw (e, behind 1, a) refl)) (λ z. omega arith) (omega arith)
+
+  pub three-bytes : k ≡ 7 → (tail (getD s (at + 1) 0) ≡ true) × (tail (getD s (at + 2) 0) ≡ true) → 3 ≡ literalLen st (drop at s)
+  unfolding longLen threeBytes lowOf highOf pick
+  three-bytes e a = long-char 3 (sym (rw (e, behind 1, behind 2, a .0, a .1) refl)) (λ z. omega arith) (omega arith)

@@ -1,4 +1,5 @@
 // One unit of a J8 string in any style: a literal character, an escape, the closing quote, or a refusal.
+pub mod blocks;
 pub mod escapes;
 pub mod hex;
 pub mod literals;

@@ -1,4 +1,5 @@
 // One unit as it is written, where the byte doesn't stand for itself.
+ghost use mathlib.Core.List.{[], _∷_};
 ghost use mathlib.Core.Path.{_≡_};
 ghost use Prim.Native.Nat.{_<_};
 ghost use lib.ListN.{length};
@@ -58,6 +59,21 @@ fn number_len(style: Style, x: u8) -> usize
     }
 }
 
+// Stores two bytes, each if there is room for it: most escapes are that long.
+fn put_two(a: u8, b: u8, o: usize, out: &mut [u8])
+    ensures { λ r. ⌜ now (out .exit) ≡ sets (now (out .entry)) o (a ∷ b ∷ []) ⌝ }
+{
+    let n = out.len();
+    if n <= o {
+        return;
+    }
+    out[o] = a;
+    if n - o == 1 {
+        return;
+    }
+    out[o + 1] = b;
+}
+
 // Stores a byte by its number, each digit if there is room for it.
 fn put_number(style: Style, x: u8, o: usize, out: &mut [u8])
     ensures { λ r. ⌜ now (out .exit) ≡ sets (now (out .entry)) o (byNumber style x) ⌝ }
@@ -96,8 +112,7 @@ pub fn put_escape(style: Style, x: u8, o: usize, out: &mut [u8])
 {
     let k = letter_of(style, x);
     if k != 0 {
-        let text = [92u8, k];
-        slices::copy_run(&text, 0, 2, o, out);
+        put_two(92, k, o, out);
         return;
     }
     put_number(style, x, o, out);

@@ -3,27 +3,48 @@ use Rattle.strings.proofs.read.read.Statement.{statement}
 use Rattle.strings.proofs.read.read.Tie as tie
 use Rattle.strings.proofs.read.read.Reads as reads
 use Rattle.strings.proofs.read.read.Lts as lts
-use Rattle.strings.proofs.read.read_in.Reads as read-in-reads
-use Rattle.utf8.proofs.classes.table.Reads as table-reads
+use Rattle.strings.proofs.read.mark_at.Reads as mark-at-reads
+use Rattle.strings.proofs.read.read_open.Reads as read-open-reads
 use denote.Ref.{now}
-use Rattle.strings.proofs.WholeTexts.{long, within}
+use Rattle.strings.proofs.WholeTexts.{long, within, mark-inside, marked, unmarked}
 
 returns : tie.Need-returns
 returns c =
-    long (now (c .before .before .before .args .text)) (now (c .before .before .before .args .out)) (c .if1 .taken)
+    long _ (now (c .before .before .before .args .out)) (c .if1 .taken)
 
-table-requires : tie.Need-table-requires
-table-requires c κs = search needs
+mark-at-requires : tie.Need-mark-at-requires
+mark-at-requires c κs = search needs
 
-read-in-requires : tie.Need-read-in-requires
-read-in-requires c κs = search needs
+enum-known-mark : tie.Need-enum-known-mark
+enum-known-mark c = search needs
+
+read-open-requires : tie.Need-read-open-requires
+read-open-requires c κs =
+    mark-inside _ _ (c .before .before .before .before .mark-at .ensures) _ _ (c .before .before .mark .given .1)
+
+enum-told : tie.Need-enum-told
+enum-told c = search needs
 
 same-length : tie.Need-same-length
 same-length c = search needs
 
 returns-2 : tie.Need-returns-2
 returns-2 c =
-    within (now (c .before .before .before .before .before .before .before .before .before .args .text)) (now (c .before .before .before .before .before .before .before .before .before .args .out)) _ _ (c .before .before .before .before .before .before .if1 .left) (c .before .before .read-in .ensures)
+    within _ (now (c .before .before .before .before .before .before .before .before .before .before .before .args .out)) _ _ (c .before .before .before .before .before .before .before .before .if1 .left) (marked _ _ (c .before .before .before .before .before .before .before .mark-at .ensures) _ _ (c .before .before .before .before .before .mark .given .1) (now (c .before .before .before .before .before .before .before .before .before .before .before .args .out)) (c .before .before .read-open .ensures))
+
+returns-3 : tie.Need-returns-3
+returns-3 c =
+    within _ (now (c .before .before .before .before .before .before .args .out)) _ _ (c .before .before .before .if1 .left) (unmarked _ _ (c .before .before .mark-at .ensures) (now (c .before .before .before .before .before .before .args .out)) (c .enum-told .given .1))
 
 pub read-spec : {M : Type 1} → statement M
-read-spec = tie.close (tie.spec returns table-requires read-in-requires same-length returns-2)
+read-spec =
+    tie.close
+    (tie.spec
+    returns
+    mark-at-requires
+    enum-known-mark
+    read-open-requires
+    enum-told
+    same-length
+    returns-2
+    returns-3)

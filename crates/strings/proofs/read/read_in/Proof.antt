@@ -6,6 +6,7 @@ use Rattle.strings.proofs.read.read_in.Lts as lts
 use Rattle.strings.proofs.read.mark_at.Reads as mark-at-reads
 use Rattle.strings.proofs.read.read_marked.Reads as read-marked-reads
 use denote.Ref.{now}
+use Rattle.units.proofs.LiteralRuns.{here}
 use Rattle.strings.proofs.WholeTexts.{mark-inside, marked, unmarked}
 
 mark-at-requires : tie.Need-mark-at-requires
@@ -16,7 +17,8 @@ enum-known-mark c = search needs
 
 read-marked-requires : tie.Need-read-marked-requires
 read-marked-requires c κs =
-    (c .before .before .before .before .before .before .before .pre, mark-inside (now (c .before .before .before .before .before .before .before .args .s)) (c .before .before .before .before .mark-at .result) (c .before .before .before .before .mark-at .ensures) _ _ (c .before .before .mark .given .1))
+    let h = mark-inside _ _ (c .before .before .before .before .mark-at .ensures) _ _ (c .before .before .mark .given .1) in
+    (c .before .before .before .before .before .before .before .pre, h, here _ _ _ h)
 
 enum-told : tie.Need-enum-told
 enum-told c = search needs
@@ -26,11 +28,11 @@ same-length c = search needs
 
 returns : tie.Need-returns
 returns c =
-    marked (now (c .before .before .before .before .before .before .before .before .before .before .args .s)) (c .before .before .before .before .before .before .before .mark-at .result) (c .before .before .before .before .before .before .before .mark-at .ensures) _ _ (c .before .before .before .before .before .mark .given .1) (now (c .before .before .before .before .before .before .before .before .before .before .args .out)) (c .before .before .read-marked .ensures)
+    marked _ _ (c .before .before .before .before .before .before .before .mark-at .ensures) _ _ (c .before .before .before .before .before .mark .given .1) (now (c .before .before .before .before .before .before .before .before .before .before .args .out)) (c .before .before .read-marked .ensures)
 
 returns-2 : tie.Need-returns-2
 returns-2 c =
-    unmarked (now (c .before .before .before .before .before .args .s)) (c .before .before .mark-at .result) (c .before .before .mark-at .ensures) (now (c .before .before .before .before .before .args .out)) (c .enum-told .given .1)
+    unmarked _ _ (c .before .before .mark-at .ensures) (now (c .before .before .before .before .before .args .out)) (c .enum-told .given .1)
 
 pub read-in-spec : {M : Type 1} → statement M
 read-in-spec =

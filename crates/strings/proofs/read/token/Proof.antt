@@ -8,33 +8,26 @@ use Rattle.strings.proofs.read.read_units.Reads as read-units-reads
 use denote.Ref.{now}
 use Rattle.strings.proofs.WholeTexts.{mark-inside, marked-token, unmarked-token}
 
--- src/read.rt:130:9
 mark-at-requires : tie.Need-mark-at-requires
 mark-at-requires c κs = search needs
 
--- src/read.rt:132:21
 enum-known-mark : tie.Need-enum-known-mark
 enum-known-mark c = search needs
 
--- src/read.rt:132:37
 read-units-requires : tie.Need-read-units-requires
 read-units-requires c κs =
     (c .before .before .before .before .before .before .before .pre, mark-inside _ _ (c .before .before .before .before .mark-at .ensures) _ _ (c .before .before .mark .given .1))
 
--- src/read.rt:133:27
 enum-told : tie.Need-enum-told
 enum-told c = search needs
 
--- src/read.rt:125:1
 same-length : tie.Need-same-length
 same-length c = search needs
 
--- src/read.rt:125:1
 returns : tie.Need-returns
 returns c =
     marked-token _ _ (c .before .before .before .before .before .before .before .mark-at .ensures) _ _ (c .before .before .before .before .before .mark .given .1) _ _ (c .before .before .read-units .ensures)
 
--- src/read.rt:125:1
 returns-2 : tie.Need-returns-2
 returns-2 c =
     unmarked-token _ _ (c .before .before .mark-at .ensures) _ _ (c .enum-told .given .1)

@@ -9,56 +9,44 @@ use denote.Ref.{now}
 use native.Mathlib.Omega.{arith}
 use Rattle.strings.proofs.Reading.{on-close, took-inside, took-few, on-took, on-fault}
 
--- src/read.rt:74:9
 unit-at-requires : tie.Need-unit-at-requires
 unit-at-requires c κs = search needs
 
--- src/read.rt:76:36
 enum-told : tie.Need-enum-told
 enum-told c = search needs
 
--- src/read.rt:76:36
 add-t13 : tie.Need-add-t13
 add-t13 c = search needs
 
--- src/read.rt:77:20
 enum-known-unit : tie.Need-enum-known-unit
 enum-known-unit c = search needs
 
--- src/read.rt:79:13
 put-few-requires : tie.Need-put-few-requires
 put-few-requires c κs =
     search took-few
 
--- src/read.rt:80:22
 add-t17 : tie.Need-add-t17
 add-t17 c =
     omega (arith, took-inside (c .before .before .before .before .before .before .before .before .before .before .args .style) (now (c .before .before .before .before .before .before .before .before .before .before .args .s)) (c .before .before .before .before .before .before .before .before .before .before .args .at) _ _ _ (c .before .before .before .before .before .before .before .unit-at .ensures .0) (c .before .before .before .before .before .unit .given .1) (c .before .before .before .before .before .before .before .before .before .before .pre .1))
 
--- src/read.rt:80:30
 add-t18 : tie.Need-add-t18
 add-t18 c =
     omega (arith, took-few _ _ _ (c .before .before .before .before .before .unit .given .1) (c .before .before .before .before .before .before .before .unit-at .ensures .1))
 
--- src/read.rt:82:21
 enum-known-unit-2 : tie.Need-enum-known-unit-2
 enum-known-unit-2 c = search needs
 
--- src/read.rt:69:1
 returns : tie.Need-returns
 returns c =
     on-close _ _ _ _ _ _ (c .before .before .unit-at .ensures .0) (c .enum-told .given .1)
 
--- src/read.rt:69:1
 same-length : tie.Need-same-length
 same-length c = search needs
 
--- src/read.rt:69:1
 returns-2 : tie.Need-returns-2
 returns-2 c =
     on-took _ _ _ _ _ _ (c .before .before .before .before .before .before .before .unit-at .ensures .0) _ _ _ (c .before .before .before .before .before .unit .given .1) (c .before .before .before .before .before .before .before .unit-at .ensures .1) (c .before .before .put-few .ensures)
 
--- src/read.rt:69:1
 returns-3 : tie.Need-returns-3
 returns-3 c =
     on-fault _ _ _ _ _ _ (c .before .before .before .unit-at .ensures .0) _ (c .before .unit2 .given .1)

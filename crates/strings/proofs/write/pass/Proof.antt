@@ -5,7 +5,7 @@ use Rattle.strings.proofs.write.pass.Lts as lts
 use Rattle.prelude.proofs.slices.copy_run.Reads as copy-run-reads
 use Rattle.prelude.proofs.slices.put.Reads as put-reads
 use Rattle.strings.proofs.write.put_mark.Reads as put-mark-reads
-use Rattle.units.proofs.literals.literal_run.Reads as literal-run-reads
+use Rattle.units.proofs.literals.short_run.Reads as short-run-reads
 use Rattle.units.proofs.styles.quote_of.Reads as quote-of-reads
 use Rattle.units.proofs.written.escape_len.Reads as escape-len-reads
 use Rattle.units.proofs.written.put_escape.Reads as put-escape-reads
@@ -46,8 +46,8 @@ loop-holds : tie.Need-loop-holds Inv-loop μ-loop
 loop-holds c =
     begun (c .before .before .before .put-mark .ensures .0) (c .if1 .left)
 
-literal-run-requires : tie.Need-literal-run-requires Inv-loop μ-loop
-literal-run-requires c κs =
+short-run-requires : tie.Need-short-run-requires Inv-loop μ-loop
+short-run-requires c κs =
     (c .before .before .before .before .before .before .before .before .before .pre, c .before .loop .inv .inside)
 
 shared-slice-read-x : tie.Need-shared-slice-read-x Inv-loop μ-loop
@@ -68,7 +68,7 @@ same-length-2 c =
 
 returns-2 : tie.Need-returns-2 Inv-loop μ-loop
 returns-2 c =
-    let g : c .before .before .before .before .before .before .before .before .before .before .before .before .before .before .args .room < length (quoted (c .before .before .before .before .before .before .before .before .before .before .before .before .before .before .args .style) (now (c .before .before .before .before .before .before .before .before .before .before .before .before .before .before .args .s))) = omega (arith, escape-stuck (c .before .before .before .before .before .before .loop .inv) _ _ (c .before .before .before .before .before .loop-test .taken) (c .before .before .before .before .literal-run .ensures) (c .before .before .before .if2 .taken) (c .before .escape-len .ensures) (c .if3 .taken)) in
+    let g : c .before .before .before .before .before .before .before .before .before .before .before .before .before .before .args .room < length (quoted (c .before .before .before .before .before .before .before .before .before .before .before .before .before .before .args .style) (now (c .before .before .before .before .before .before .before .before .before .before .before .before .before .before .args .s))) = omega (arith, escape-stuck (c .before .before .before .before .before .before .loop .inv) _ _ (c .before .before .before .before .before .loop-test .taken) (c .before .before .before .before .short-run .ensures) (c .before .before .before .if2 .taken) (c .before .escape-len .ensures) (c .if3 .taken)) in
     stopped g
 
 put-escape-requires : tie.Need-put-escape-requires Inv-loop μ-loop
@@ -89,11 +89,11 @@ loop-less c =
 
 loop-again : tie.Need-loop-again Inv-loop μ-loop
 loop-again c =
-    escape-moved (c .before .before .before .before .before .before .before .before .before .before .loop .inv) _ _ (c .before .before .before .before .before .before .before .before .before .loop-test .taken) (c .before .before .before .before .before .before .before .before .literal-run .ensures) (c .before .before .before .before .before .before .before .if2 .taken) (c .before .before .before .before .before .escape-len .ensures) (c .before .before .before .before .if3 .left) (c .before .before .put-escape .ensures)
+    escape-moved (c .before .before .before .before .before .before .before .before .before .before .loop .inv) _ _ (c .before .before .before .before .before .before .before .before .before .loop-test .taken) (c .before .before .before .before .before .before .before .before .short-run .ensures) (c .before .before .before .before .before .before .before .if2 .taken) (c .before .before .before .before .before .escape-len .ensures) (c .before .before .before .before .if3 .left) (c .before .before .put-escape .ensures)
 
 sub-n : tie.Need-sub-n Inv-loop μ-loop
 sub-n c =
-    omega (arith, c .before .literal-run .ensures)
+    omega (arith, c .before .short-run .ensures)
 
 sub-if4 : tie.Need-sub-if4 Inv-loop μ-loop
 sub-if4 c =
@@ -105,12 +105,12 @@ same-length-3 c =
 
 returns-3 : tie.Need-returns-3 Inv-loop μ-loop
 returns-3 c =
-    let g : c .before .before .before .before .before .before .before .before .before .before .before .before .args .room < length (quoted (c .before .before .before .before .before .before .before .before .before .before .before .before .args .style) (now (c .before .before .before .before .before .before .before .before .before .before .before .before .args .s))) = omega (arith, run-stuck (c .before .before .before .before .loop .inv) _ (c .before .before .before .loop-test .taken) (c .before .before .literal-run .ensures) (c .if4 .taken)) in
+    let g : c .before .before .before .before .before .before .before .before .before .before .before .before .args .room < length (quoted (c .before .before .before .before .before .before .before .before .before .before .before .before .args .style) (now (c .before .before .before .before .before .before .before .before .before .before .before .before .args .s))) = omega (arith, run-stuck (c .before .before .before .before .loop .inv) _ (c .before .before .before .loop-test .taken) (c .before .before .short-run .ensures) (c .if4 .taken)) in
     stopped g
 
 copy-run-requires : tie.Need-copy-run-requires Inv-loop μ-loop
 copy-run-requires c κs =
-    run-inside (c .before .before .before .before .before .loop .inv) _ (c .before .before .before .before .loop-test .taken) (c .before .before .before .literal-run .ensures)
+    run-inside (c .before .before .before .before .before .loop .inv) _ (c .before .before .before .before .loop-test .taken) (c .before .before .before .short-run .ensures)
 
 add-o-2 : tie.Need-add-o-2 Inv-loop μ-loop
 add-o-2 c =
@@ -118,11 +118,11 @@ add-o-2 c =
 
 loop-less-2 : tie.Need-loop-less-2 Inv-loop μ-loop
 loop-less-2 c =
-    omega (arith, c .before .before .before .before .before .before .literal-run .ensures, run-inside (c .before .before .before .before .before .before .before .before .loop .inv) _ (c .before .before .before .before .before .before .before .loop-test .taken) (c .before .before .before .before .before .before .literal-run .ensures))
+    omega (arith, c .before .before .before .before .before .before .short-run .ensures, run-inside (c .before .before .before .before .before .before .before .before .loop .inv) _ (c .before .before .before .before .before .before .before .loop-test .taken) (c .before .before .before .before .before .before .short-run .ensures))
 
 loop-again-2 : tie.Need-loop-again-2 Inv-loop μ-loop
 loop-again-2 c =
-    run-moved (c .before .before .before .before .before .before .before .before .loop .inv) _ (c .before .before .before .before .before .before .before .loop-test .taken) (c .before .before .before .before .before .before .literal-run .ensures) (c .before .before .before .before .if4 .left) (c .before .before .copy-run .ensures)
+    run-moved (c .before .before .before .before .before .before .before .before .loop .inv) _ (c .before .before .before .before .before .before .before .loop-test .taken) (c .before .before .before .before .before .before .short-run .ensures) (c .before .before .before .before .if4 .left) (c .before .before .copy-run .ensures)
 
 quote-of-requires : tie.Need-quote-of-requires Inv-loop μ-loop
 quote-of-requires c κs =
@@ -157,7 +157,7 @@ pass-spec =
     returns
     sub-cap
     loop-holds
-    literal-run-requires
+    short-run-requires
     shared-slice-read-x
     escape-len-requires
     sub-if3

@@ -4,15 +4,14 @@ use Rattle.strings.proofs.write.write_quoted.Tie as tie
 use Rattle.strings.proofs.write.write_quoted.Reads as reads
 use Rattle.strings.proofs.write.write_quoted.Lts as lts
 use Rattle.strings.proofs.write.pass.Reads as pass-reads
+use Rattle.strings.proofs.write.roomy.Reads as roomy-reads
 use denote.Ref.{now}
+use mathlib.Core.Path.{refl}
 use Rattle.strings.specs.Write.{quoted}
-use Rattle.strings.proofs.Writing.{too-long, both-passes, quoted-positive}
+use Rattle.strings.proofs.Writing.{one-pass, too-long, both-passes, quoted-positive}
 
-slice-relend-prefix-pass : tie.Need-slice-relend-prefix-pass
-slice-relend-prefix-pass c = search needs
-
-slice-aggregate-pass : tie.Need-slice-aggregate-pass
-slice-aggregate-pass c = search needs
+roomy-requires : tie.Need-roomy-requires
+roomy-requires c κs = search needs
 
 pass-requires : tie.Need-pass-requires
 pass-requires c κs = search needs
@@ -22,7 +21,13 @@ same-length c = search needs
 
 returns : tie.Need-returns
 returns c =
-    too-long (quoted (c .before .before .before .before .before .before .before .args .style) (now (c .before .before .before .before .before .before .before .args .s))) (c .before .before .before .pass .last .1 .1 .1 .1 .0) (now (c .before .before .before .before .before .before .before .args .out)) (quoted-positive (c .before .before .before .before .before .before .before .args .style) (now (c .before .before .before .before .before .before .before .args .s))) (c .before .before .before .pass .kept .1 .1 .1 .1 .0) (c .before .before .before .pass .ensures) (c .if1 .taken)
+    one-pass (quoted (c .before .before .before .before .before .before .before .before .args .style) (now (c .before .before .before .before .before .before .before .before .args .s))) (now (c .before .before .before .before .before .before .before .before .args .out)) (c .before .before .before .before .before .roomy .ensures (c .before .before .before .before .if1 .taken) (now (c .before .before .before .before .before .before .before .before .args .s)) refl) (c .before .before .pass .ensures)
+
+slice-relend-prefix-pass : tie.Need-slice-relend-prefix-pass
+slice-relend-prefix-pass c = search needs
+
+slice-aggregate-pass : tie.Need-slice-aggregate-pass
+slice-aggregate-pass c = search needs
 
 pass-requires-2 : tie.Need-pass-requires-2
 pass-requires-2 c κs = search needs
@@ -32,17 +37,31 @@ same-length-2 c = search needs
 
 returns-2 : tie.Need-returns-2
 returns-2 c =
-    both-passes (quoted (c .before .before .before .before .before .before .before .before .before .before .before .args .style) (now (c .before .before .before .before .before .before .before .before .before .before .before .args .s))) (c .before .before .before .before .before .before .before .pass .last .1 .1 .1 .1 .0) (now (c .before .before .before .before .before .before .before .before .before .before .before .args .out)) (quoted-positive (c .before .before .before .before .before .before .before .before .before .before .before .args .style) (now (c .before .before .before .before .before .before .before .before .before .before .before .args .s))) (c .before .before .before .before .before .before .before .pass .kept .1 .1 .1 .1 .0) (c .before .before .before .before .before .before .before .pass .ensures) (c .before .before .before .before .if1 .left) (c .before .before .pass2 .ensures)
+    too-long (quoted (c .before .before .before .before .before .before .before .before .before .args .style) (now (c .before .before .before .before .before .before .before .before .before .args .s))) (c .before .before .before .pass2 .last .1 .1 .1 .1 .0) (now (c .before .before .before .before .before .before .before .before .before .args .out)) (quoted-positive (c .before .before .before .before .before .before .before .before .before .args .style) (now (c .before .before .before .before .before .before .before .before .before .args .s))) (c .before .before .before .pass2 .kept .1 .1 .1 .1 .0) (c .before .before .before .pass2 .ensures) (c .if2 .taken)
+
+pass-requires-3 : tie.Need-pass-requires-3
+pass-requires-3 c κs = search needs
+
+same-length-3 : tie.Need-same-length-3
+same-length-3 c = search needs
+
+returns-3 : tie.Need-returns-3
+returns-3 c =
+    both-passes (quoted (c .before .before .before .before .before .before .before .before .before .before .before .before .before .args .style) (now (c .before .before .before .before .before .before .before .before .before .before .before .before .before .args .s))) (c .before .before .before .before .before .before .before .pass2 .last .1 .1 .1 .1 .0) (now (c .before .before .before .before .before .before .before .before .before .before .before .before .before .args .out)) (quoted-positive (c .before .before .before .before .before .before .before .before .before .before .before .before .before .args .style) (now (c .before .before .before .before .before .before .before .before .before .before .before .before .before .args .s))) (c .before .before .before .before .before .before .before .pass2 .kept .1 .1 .1 .1 .0) (c .before .before .before .before .before .before .before .pass2 .ensures) (c .before .before .before .before .if2 .left) (c .before .before .pass3 .ensures)
 
 pub write-quoted-spec : {M : Type 1} → statement M
 write-quoted-spec =
     tie.close
     (tie.spec
-    slice-relend-prefix-pass
-    slice-aggregate-pass
+    roomy-requires
     pass-requires
     same-length
     returns
+    slice-relend-prefix-pass
+    slice-aggregate-pass
     pass-requires-2
     same-length-2
-    returns-2)
+    returns-2
+    pass-requires-3
+    same-length-3
+    returns-3)

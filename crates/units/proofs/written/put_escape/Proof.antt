@@ -3,9 +3,9 @@ use Rattle.units.proofs.written.put_escape.Statement.{statement}
 use Rattle.units.proofs.written.put_escape.Tie as tie
 use Rattle.units.proofs.written.put_escape.Reads as reads
 use Rattle.units.proofs.written.put_escape.Lts as lts
-use Rattle.prelude.proofs.slices.copy_run.Reads as copy-run-reads
 use Rattle.units.proofs.written.letter_of.Reads as letter-of-reads
 use Rattle.units.proofs.written.put_number.Reads as put-number-reads
+use Rattle.units.proofs.written.put_two.Reads as put-two-reads
 use denote.Ref.{now}
 use mathlib.Core.Path.{ap, _∙_}
 use lib.Seq.{sets}
@@ -14,18 +14,15 @@ use Rattle.units.proofs.EscapeStores.{by-letter, as-number}
 letter-of-requires : tie.Need-letter-of-requires
 letter-of-requires c κs = search needs
 
-slice-aggregate-copy-run : tie.Need-slice-aggregate-copy-run
-slice-aggregate-copy-run c = search needs
-
-copy-run-requires : tie.Need-copy-run-requires
-copy-run-requires c κs = search needs
+put-two-requires : tie.Need-put-two-requires
+put-two-requires c κs = search needs
 
 same-length : tie.Need-same-length
 same-length c = search needs
 
 returns : tie.Need-returns
 returns c =
-    c .before .before .copy-run .ensures ∙ ap (sets (now (c .before .before .before .before .before .before .before .before .args .out)) (c .before .before .before .before .before .before .before .before .args .o)) (by-letter (c .before .before .before .before .before .before .before .before .args .style) (c .before .before .before .before .before .before .before .before .args .x) (c .before .before .before .before .before .before .letter-of .result) (c .before .before .before .before .before .before .letter-of .ensures) (c .before .before .before .before .before .if1 .taken))
+    c .before .before .put-two .ensures ∙ ap (sets (now (c .before .before .before .before .before .before .before .args .out)) (c .before .before .before .before .before .before .before .args .o)) (by-letter (c .before .before .before .before .before .before .before .args .style) (c .before .before .before .before .before .before .before .args .x) (c .before .before .before .before .before .letter-of .result) (c .before .before .before .before .before .letter-of .ensures) (c .before .before .before .before .if1 .taken))
 
 put-number-requires : tie.Need-put-number-requires
 put-number-requires c κs = search needs
@@ -42,8 +39,7 @@ put-escape-spec =
     tie.close
     (tie.spec
     letter-of-requires
-    slice-aggregate-copy-run
-    copy-run-requires
+    put-two-requires
     same-length
     returns
     put-number-requires

@@ -1,0 +1,31 @@
+use borrow.Author.Needs.{needs}
+use Rattle.strings.proofs.read.closes.Statement.{statement}
+use Rattle.strings.proofs.read.closes.Tie as tie
+use Rattle.strings.proofs.read.closes.Reads as reads
+use Rattle.strings.proofs.read.closes.Lts as lts
+use Rattle.units.proofs.styles.quote_of.Reads as quote-of-reads
+use native.Mathlib.Omega.{arith}
+use mathlib.Core.Path.{_∙_}
+use borrow.Author.Tests.{eqb-true}
+use Rattle.prelude.proofs.Cases.{never}
+
+sub-if1 : tie.Need-sub-if1
+sub-if1 c = search needs
+
+returns : tie.Need-returns
+returns c =
+    λ e. never (cc)
+
+shared-slice-read-result : tie.Need-shared-slice-read-result
+shared-slice-read-result c = search needs
+
+quote-of-requires : tie.Need-quote-of-requires
+quote-of-requires c κs = search needs
+
+returns-2 : tie.Need-returns-2
+returns-2 c =
+    λ e. record { last = omega arith; ends = eqb-true _ _ e ∙ c .quote-of .ensures }
+
+pub closes-spec : {M : Type 1} → statement M
+closes-spec =
+    tie.close (tie.spec sub-if1 returns shared-slice-read-result quote-of-requires returns-2)

@@ -1,0 +1,30 @@
+use borrow.Author.Needs.{needs}
+use Rattle.strings.proofs.read.read_run.Statement.{statement}
+use Rattle.strings.proofs.read.read_run.Tie as tie
+use Rattle.strings.proofs.read.read_run.Reads as reads
+use Rattle.strings.proofs.read.read_run.Lts as lts
+use Rattle.prelude.proofs.slices.copy_run.Reads as copy-run-reads
+use native.Mathlib.Omega.{arith}
+use Rattle.strings.proofs.WholeTexts.{run-tight, run-good}
+
+sub-count : tie.Need-sub-count
+sub-count c =
+    omega (arith, c .before .before .pre .1 .onward)
+
+returns : tie.Need-returns
+returns c =
+    run-tight _ _ _ _ _ (c .before .before .before .pre .0) (c .before .before .before .pre .1) (c .before .before .before .pre .2) (c .if1 .taken)
+
+copy-run-requires : tie.Need-copy-run-requires
+copy-run-requires c κs =
+    omega (arith, c .before .before .before .before .pre .1 .onward, c .before .before .before .before .pre .1 .inside)
+
+same-length : tie.Need-same-length
+same-length c = search needs
+
+returns-2 : tie.Need-returns-2
+returns-2 c =
+    run-good _ _ _ _ _ (c .before .before .before .before .before .before .before .pre .0) (c .before .before .before .before .before .before .before .pre .1) (c .before .before .before .before .before .before .before .pre .2) _ (c .before .before .before .before .if1 .left) (c .before .before .copy-run .ensures)
+
+pub read-run-spec : {M : Type 1} → statement M
+read-run-spec = tie.close (tie.spec sub-count returns copy-run-requires same-length returns-2)

@@ -1,0 +1,94 @@
+use borrow.Author.Needs.{needs}
+use Rattle.strings.proofs.write.write_from.Statement.{statement}
+use Rattle.strings.proofs.write.write_from.Tie as tie
+use Rattle.strings.proofs.write.write_from.Reads as reads
+use Rattle.strings.proofs.write.write_from.Lts as lts
+use Rattle.strings.proofs.write.write_literal.Reads as write-literal-reads
+use Rattle.strings.proofs.write.write_quoted.Reads as write-quoted-reads
+use Rattle.units.proofs.literals.literal_run.Reads as literal-run-reads
+use Rattle.utf8.proofs.chars.valid_in.Reads as valid-in-reads
+use Rattle.utf8.proofs.classes.table.Reads as table-reads
+use denote.Ref.{now}
+use mathlib.Core.Path.{_≡_, sym, _∙_}
+use native.Mathlib.Omega.{arith}
+use lib.ListN.{length}
+use Rattle.units.specs.declared.styles.Style.the-variants.{Json}
+use Rattle.units.specs.Units.{literalRun}
+use Prim.Native.Nat.{_≤_}
+use Rattle.units.proofs.LiteralLaws.{all-literal}
+use Rattle.units.proofs.LiteralRuns.{through}
+use Rattle.strings.proofs.Writing.{valid-form, other-form, valid-behind}
+
+table-requires : tie.Need-table-requires
+table-requires c κs = search needs
+
+literal-run-requires : tie.Need-literal-run-requires
+literal-run-requires c κs =
+    (c .before .table .ensures, c .before .before .before .before .pre .inside)
+
+write-literal-requires : tie.Need-write-literal-requires
+write-literal-requires c κs =
+    let e : literalRun Json 0 (now (c .before .before .before .before .before .before .before .args .s)) ≡ length (now (c .before .before .before .before .before .before .before .args .s)) = omega (arith, c .before .before .literal-run .ensures, c .before .before .before .before .before .before .before .pre .same, c .before .if1 .taken) in e
+
+same-length : tie.Need-same-length
+same-length c = search needs
+
+returns : tie.Need-returns
+returns c =
+    let e : literalRun Json 0 (now (c .before .before .before .before .before .before .before .before .before .before .args .s)) ≡ length (now (c .before .before .before .before .before .before .before .before .before .before .args .s)) = omega (arith, c .before .before .before .before .before .literal-run .ensures, c .before .before .before .before .before .before .before .before .before .before .pre .same, c .before .before .before .before .if1 .taken) in
+    valid-form (now (c .before .before .before .before .before .before .before .before .before .before .args .s)) _ (now (c .before .before .before .before .before .before .before .before .before .before .args .out)) _ (all-literal Json (now (c .before .before .before .before .before .before .before .before .before .before .args .s)) e) (c .before .before .write-literal .ensures)
+
+sub-valid-in : tie.Need-sub-valid-in
+sub-valid-in c =
+    through _ _ _ _ _ (c .before .before .before .before .before .before .before .pre) (c .before .before .literal-run .ensures) .inside
+
+part-valid-in-start : tie.Need-part-valid-in-start
+part-valid-in-start c =
+    let h : c .before .before .literal-run .result ≤ length (now (c .before .before .before .before .before .before .before .args .s)) = through _ _ _ _ _ (c .before .before .before .before .before .before .before .pre) (c .before .before .literal-run .ensures) .inside in omega arith
+
+part-valid-in-end : tie.Need-part-valid-in-end
+part-valid-in-end c = search needs
+
+valid-in-requires : tie.Need-valid-in-requires
+valid-in-requires c κs =
+    c .before .before .before .before .before .table .ensures
+
+write-quoted-requires : tie.Need-write-quoted-requires
+write-quoted-requires c κs = search needs
+
+same-length-2 : tie.Need-same-length-2
+same-length-2 c = search needs
+
+returns-2 : tie.Need-returns-2
+returns-2 c =
+    valid-form (now (c .before .before .before .before .before .before .before .before .before .before .before .before .before .before .before .args .s)) _ (now (c .before .before .before .before .before .before .before .before .before .before .before .before .before .before .before .args .out)) _ (sym (valid-behind _ _ _ _ (c .before .before .before .before .before .before .before .before .before .before .before .before .before .before .before .pre) (c .before .before .before .before .before .before .before .before .before .before .literal-run .ensures) (c .before .before .before .before .before .before .valid-in .ensures)) ∙ c .before .before .before .before .before .if2 .taken) (c .before .before .write-quoted .ensures)
+
+write-quoted-requires-2 : tie.Need-write-quoted-requires-2
+write-quoted-requires-2 c κs = search needs
+
+same-length-3 : tie.Need-same-length-3
+same-length-3 c = search needs
+
+returns-3 : tie.Need-returns-3
+returns-3 c =
+    other-form (now (c .before .before .before .before .before .before .before .before .before .before .before .before .before .before .before .args .s)) _ (now (c .before .before .before .before .before .before .before .before .before .before .before .before .before .before .before .args .out)) _ (sym (valid-behind _ _ _ _ (c .before .before .before .before .before .before .before .before .before .before .before .before .before .before .before .pre) (c .before .before .before .before .before .before .before .before .before .before .literal-run .ensures) (c .before .before .before .before .before .before .valid-in .ensures)) ∙ c .before .before .before .before .before .if2 .left) (c .before .before .write-quoted2 .ensures)
+
+pub write-from-spec : {M : Type 1} → statement M
+write-from-spec =
+    tie.close
+    (tie.spec
+    table-requires
+    literal-run-requires
+    write-literal-requires
+    same-length
+    returns
+    sub-valid-in
+    part-valid-in-start
+    part-valid-in-end
+    valid-in-requires
+    write-quoted-requires
+    same-length-2
+    returns-2
+    write-quoted-requires-2
+    same-length-3
+    returns-3)

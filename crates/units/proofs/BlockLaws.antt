@@ -1,0 +1,189 @@
+-- Blocks of literal characters: what a byte's test leaves makes it a character, alone or with the next byte, and by induction on
+-- the number of bytes tested a run goes on behind them.
+-- Assumes nothing.
+use Prim.Native.Nat.{ℕ, zero, suc, _+_, _-_, _≤_, _<_}
+use mathlib.Core.Bool.{Bool, true, false, _||_, not, Bool·beq}
+use mathlib.Core.List.{List, _∷_}
+use mathlib.Core.Path.{_≡_, refl, sym, ap, _∙_, subst}
+use native.Mathlib.Omega.{arith}
+use lib.Dec.{ltb, leb, eqb}
+use lib.ListN.{length, getD, drop}
+use lib.Seq.{drop-cons, getD-drop}
+use borrow.Author.Count.{below-more}
+use borrow.Author.Tests.{ltb-true, ltb-false, leb-false, eqb-false, le-ltb, lt-ltb, ne-eqb, le-leb, lt-leb}
+use Rattle.prelude.specs.Pick.{pick}
+use Rattle.prelude.proofs.Cases.{split}
+use Rattle.utf8.specs.Class.{classOf}
+use Rattle.utf8.specs.Utf8.{tail, twoBytes, longLen, lenBy, charLen}
+use Rattle.utf8.proofs.Characters.{ascii-len}
+use Rattle.units.specs.declared.styles.Style.{Style}
+use Rattle.units.specs.Styles.{quote}
+use Rattle.units.specs.Units.{literalLen}
+use Rattle.units.specs.Blocks.{Running, Alone, Paired, AllAlone, AllPaired, taken}
+use Rattle.units.proofs.LiteralRuns.{here, moved}
+
+or-left : (a b : Bool) → a || b ≡ false → a ≡ false
+or-left true b e = e
+or-left false b e = refl
+
+or-right : (a b : Bool) → a || b ≡ false → b ≡ false
+or-right true b e = let z : _≡_ {A = Bool} true false = e in cc
+or-right false b e = e
+
+same-test : (a b : Bool) → not (Bool·beq a b) ≡ false → a ≡ b
+same-test true true e = refl
+same-test true false e = e
+same-test false true e = sym e
+same-test false false e = refl
+
+pub alone : (q b : ℕ) → ltb b 32 || (leb 128 b || (eqb b 92 || eqb b q)) ≡ false → Alone q b
+alone q b e =
+    let f = or-right (ltb b 32) _ e in
+    let g = or-right (leb 128 b) _ f in
+    record {
+      printed = ltb-false b 32 (or-left _ _ e);
+      ascii = leb-false 128 b (or-left _ _ f);
+      no-slash = eqb-false b 92 (or-left _ _ g);
+      no-quote = eqb-false b q (or-right (eqb b 92) _ g);
+    }
+
+pub paired : (q b c : ℕ) (t : Bool) → t ≡ tail c
+    → ltb b 32 || (leb 224 b || (eqb b 92 || (eqb b q || (eqb b 192 || (eqb b 193 || not (Bool·beq t (leb 192 b))))))) ≡ false
+    → Paired q b c
+paired q b c t et e =
+    let f = or-right (ltb b 32) _ e in
+    let g = or-right (leb 224 b) _ f in
+    let h = or-right (eqb b 92) _ g in
+    let i = or-right (eqb b q) _ h in
+    let j = or-right (eqb b 192) _ i in
+    let m : t ≡ leb 192 b = same-test t (leb 192 b) (or-right (eqb b 193) _ j) in
+    let x : (b ≡ 192 → ⊥) = eqb-false b 192 (or-left _ _ i) in
+    let y : (b ≡ 193 → ⊥) = eqb-false b 193 (or-left _ _ j) in
+    record {
+      printed = ltb-false b 32 (or-left _ _ e);
+      short = leb-false 224 b (or-left _ _ f);
+      no-slash = eqb-false b 92 (or-left _ _ g);
+      no-quote = eqb-false b q (or-left _ _ h);
+      lead = λ l. omega arith;
+      behind-lead = λ l. sym et ∙ m ∙ le-leb 192 b l;
+      behind-other = λ l. sym et ∙ m ∙ lt-leb 192 b l;
+    }
+
+-- one byte more of a block
+pub one-more : (P : ℕ → Type 0) (a b : Bool) (n : ℕ) → (a ≡ false → (k : ℕ) → k < n → P k) → (b ≡ false → P n) → a || b ≡ false
+    → (k : ℕ) → k < n + 1 → P k
+one-more P a b n f g e = below-more P n (f (or-left a b e)) (g (or-right a b e))
+
+tail-ascii : (b : ℕ) → b < 0x80 → tail b ≡ false
+tail-ascii b h = rw (lt-leb 0x80 b h) refl
+
+tail-is : (b : ℕ) → 0x80 ≤ b → b < 0xc0 → tail b ≡ true
+tail-is b h g = rw (le-leb 0x80 b h) (le-leb b 0xbf (omega arith))
+
+tail-lead : (b : ℕ) → 0xc0 ≤ b → tail b ≡ false
+tail-lead b h = rw (le-leb 0x80 b (omega arith)) (lt-leb b 0xbf (omega arith))
+
+class-two : (b : ℕ) → 0xc2 ≤ b → b < 0xe0 → classOf b ≡ 6
+unfolding classOf pick
+class-two b h g =
+    simp (
+      le-ltb b 0x20 (omega arith),
+      ne-eqb b 0x22 (λ z. omega arith),
+      ne-eqb b 0x27 (λ z. omega arith),
+      ne-eqb b 0x5c (λ z. omega arith),
+      le-ltb b 0x80 (omega arith),
+      le-ltb b 0xc0 (omega arith),
+      le-ltb b 0xc2 h,
+      lt-ltb b 0xe0 g,
+    )
+
+two-len : (b : ℕ) (r : List ℕ) → 0xc2 ≤ b → b < 0xe0 → tail (getD r 0 0) ≡ true → charLen (b ∷ r) ≡ 2
+unfolding charLen lenBy longLen twoBytes pick
+two-len b r h g e = rw (class-two b h g, e) refl
+
+module _ (st : Style) (s : List ℕ) where
+  char-at : (at : ℕ) → at < length s → 32 ≤ getD s at 0 → (getD s at 0 ≡ 92 → ⊥) → (getD s at 0 ≡ quote st → ⊥)
+      → charLen (getD s at 0 ∷ drop (suc at) s) ≡ literalLen st (drop at s)
+  unfolding literalLen pick
+  char-at at h p b q = rw (drop-cons s at 0 h) (simp (ne-eqb _ _ q, ne-eqb _ _ b, le-ltb _ _ p))
+
+  pub one-char : (at : ℕ) → at < length s → Alone (quote st) (getD s at 0) → 1 ≡ literalLen st (drop at s)
+  one-char at h a = sym (ascii-len _ _ (a .ascii)) ∙ char-at at h (a .printed) (a .no-slash) (a .no-quote)
+
+  two-char : (at : ℕ) → at < length s → Paired (quote st) (getD s at 0) (getD s (at + 1) 0) → 0xc0 ≤ getD s at 0
+      → 2 ≡ literalLen st (drop at s)
+  two-char at h p l =
+      let e : getD (drop (suc at) s) 0 0 ≡ getD s (at + 1) 0 = getD-drop (suc at) s 0 0 ∙ ap (λ (i : ℕ). getD s i 0) (let z : suc at + 0 ≡ at + 1 = omega arith in z) in
+      sym (two-len (getD s at 0) (drop (suc at) s) (p .lead l) (p .short) (ap tail e ∙ p .behind-lead l))
+      ∙ char-at at h (p .printed) (p .no-slash) (p .no-quote)
+
+  module _ (from : ℕ) where
+    pub alone-run : (n at : ℕ) → Running st s from at → at + n ≤ length s → AllAlone (quote st) s at n → Running st s from (at + n)
+    alone-run zero at k h a = subst (Running st s from) (let z : at ≡ at + 0 = omega arith in z) k
+    alone-run (suc n) at k h a =
+        let i : Running st s from (at + n) = alone-run n at k (omega arith) (λ j l. a j (omega arith)) in
+        subst (Running st s from) (let z : at + n + 1 ≡ at + suc n = omega arith in z)
+        (moved st s from (at + n) 1 i (one-char (at + n) (omega arith) (a n (omega arith))))
+
+    -- behind a byte and what belongs to it, the same of the next byte
+    on : (i : ℕ) → i < length s → Paired (quote st) (getD s i 0) (getD s (i + 1) 0) → Running st s from (i + taken (tail (getD s i 0)))
+        → Running st s from (i + 1 + taken (tail (getD s (i + 1) 0)))
+    on i h p k =
+        let b : ℕ = getD s i 0 in
+        let next : (m : ℕ) (t : Bool) → Running st s from m → m ≡ i + 1 + taken t → tail (getD s (i + 1) 0) ≡ t
+        → Running st s from (i + 1 + taken (tail (getD s (i + 1) 0))) =
+        λ m t r e f. subst (λ (x : Bool). Running st s from (i + 1 + taken x)) (sym f) (subst (Running st s from) e r) in
+        let now : (t : Bool) (m : ℕ) → tail b ≡ t → i + taken t ≡ m → Running st s from m =
+        λ t m f e. subst (Running st s from) e (subst (λ (x : Bool). Running st s from (i + taken x)) f k) in
+        split (ltb b 0x80)
+        (λ l. let a : b < 0x80 = ltb-true b 0x80 l in
+        let r : Running st s from (i + 1) =
+        moved st s from i 1 (now false i (tail-ascii b a) (omega arith)) (one-char i h (record { printed = p .printed; ascii = a; no-slash = p .no-slash; no-quote = p .no-quote })) in
+        next (i + 1) false r (omega arith) (p .behind-other (omega arith)))
+        (λ l. let a : 0x80 ≤ b = ltb-false b 0x80 l in
+        split (ltb b 0xc0)
+        (λ m. let c : b < 0xc0 = ltb-true b 0xc0 m in next (i + 1) false (now true (i + 1) (tail-is b a c) refl) (omega arith) (p .behind-other c))
+        (λ m. let c : 0xc0 ≤ b = ltb-false b 0xc0 m in
+        next (i + 2) true (moved st s from i 2 (now false i (tail-lead b c) (omega arith)) (two-char i h p c)) (omega arith) (p .behind-lead c)))
+
+    pub pair-run : (n at : ℕ) → Running st s from at → at + n < length s → tail (getD s at 0) ≡ false → AllPaired (quote st) s at n
+        → Running st s from (at + n + taken (tail (getD s (at + n) 0)))
+    pair-run zero at k h t a =
+        subst (λ (i : ℕ). Running st s from (i + taken (tail (getD s i 0)))) (let z : at ≡ at + 0 = omega arith in z)
+        (subst (λ (x : Bool). Running st s from (at + taken x)) (sym t) (subst (Running st s from) (let z : at ≡ at + 0 = omega arith in z) k))
+    pair-run (suc n) at k h t a =
+        subst (λ (i : ℕ). Running st s from (i + taken (tail (getD s i 0)))) (let z : at + n + 1 ≡ at + suc n = omega arith in z)
+        (on (at + n) (omega arith) (a n (omega arith)) (pair-run n at k (omega arith) t (λ j l. a j (omega arith))))
+
+part : (q : ℕ) (s : List ℕ) (p at n m : ℕ) → AllPaired q s p n → p ≤ at → at + m ≡ p + n → AllPaired q s at m
+part q s p at n m a h e = λ k l.
+    subst (λ (i : ℕ). Paired q (getD s i 0) (getD s (i + 1) 0)) (let z : p + (at - p + k) ≡ at + k = omega arith in z)
+    (a (at - p + k) (omega arith))
+
+pub with-next : (e : ℕ) (r t : Bool) → r ≡ t → r ≡ true → e + 1 ≡ e + taken t
+with-next e r t f g = ap (λ (x : Bool). e + taken x) (sym g ∙ f)
+
+pub without-next : (e : ℕ) (r t : Bool) → r ≡ t → r ≡ false → e ≡ e + taken t
+without-next e r t f g = (let z : e ≡ e + 0 = omega arith in z) ∙ ap (λ (x : Bool). e + taken x) (sym g ∙ f)
+
+-- the same for each way that the code takes, where q is the quote that it was told and no test found anything
+module _ (st : Style) (s : List ℕ) (from : ℕ) (q : ℕ) (eq : q ≡ quote st) where
+  pub over-block : (at : ℕ) → Running st s from at → at + 64 ≤ length s → AllAlone q s at 64 → Running st s from (at + 64)
+  over-block at k h a = alone-run st s from 64 at k h (rw eq at a)
+
+  pub over-pairs : (at e : ℕ) (t : Bool) → Running st s from at → at + 33 ≤ length s → t ≡ tail (getD s at 0) → t ≡ false → AllPaired q s at 32
+      → e ≡ at + 32 + taken (tail (getD s (at + 32) 0)) → Running st s from e
+  over-pairs at e t k h f g a p =
+      subst (Running st s from) (sym p) (pair-run st s from 32 at k (omega arith) (sym f ∙ g) (rw eq at a))
+
+  pub over-last : (e : ℕ) (t : Bool) → 33 ≤ length s → length s - from < 33 → from < length s → t ≡ tail (getD s from 0) → t ≡ false
+      → AllPaired q s (length s - 33) 32 → e ≡ length s - 1 + taken (tail (getD s (length s - 1) 0)) → Running st s from e
+  over-last e t h l i f g a p =
+      let n : ℕ = length s - 1 - from in
+      let z : from + n ≡ length s - 1 = omega arith in
+      subst (Running st s from) (ap (λ (j : ℕ). j + taken (tail (getD s j 0))) z ∙ sym p)
+      (pair-run st s from n from (here st s from (omega arith)) (omega arith) (sym f ∙ g)
+      (rw eq at (part q s (length s - 33) from 32 n a (omega arith) (omega arith))))
+
+  pub over-byte : from < length s → Alone q (getD s from 0) → Running st s from (from + 1)
+  over-byte h a = moved st s from from 1 (here st s from (omega arith)) (one-char st s from h (rw eq at a))

@@ -1,0 +1,12 @@
+use Rattle.units.proofs.blocks.odd.Statement.{statement}
+use Rattle.units.proofs.blocks.odd.Tie as tie
+use Rattle.units.proofs.blocks.odd.Reads as reads
+use Rattle.units.proofs.blocks.odd.Lts as lts
+use Rattle.units.proofs.BlockLaws.{alone}
+
+returns : tie.Need-returns
+returns c =
+    alone (c .args .q) (c .args .b)
+
+pub odd-spec : {M : Type 1} → statement M
+odd-spec = tie.close (tie.spec returns)

@@ -1,0 +1,34 @@
+use Rattle.units.proofs.literals.short_run.Statement.{statement}
+use Rattle.units.proofs.literals.short_run.Tie as tie
+use Rattle.units.proofs.literals.short_run.Reads as reads
+use Rattle.units.proofs.literals.short_run.Lts as lts
+use Rattle.units.proofs.literals.chars_before.Reads as chars-before-reads
+use Rattle.units.proofs.literals.literal_run.Reads as literal-run-reads
+use Rattle.units.proofs.literals.soon.Reads as soon-reads
+use native.Mathlib.Omega.{arith}
+use mathlib.Core.Path.{_∙_}
+use Rattle.units.proofs.LiteralRuns.{stopped}
+
+soon-requires : tie.Need-soon-requires
+soon-requires c κs =
+    (c .before .pre .1, omega arith)
+
+chars-before-requires : tie.Need-chars-before-requires
+chars-before-requires c κs =
+    (c .before .before .pre .0, c .before .before .pre .1, c .soon .ensures .0)
+
+returns : tie.Need-returns
+returns c =
+    stopped _ _ _ _ (c .before .chars-before .ensures .run) (c .before .chars-before .ensures .stop (c .if1 .taken))
+
+literal-run-requires : tie.Need-literal-run-requires
+literal-run-requires c κs =
+    (c .before .before .before .before .pre .0, c .before .chars-before .ensures .run .inside)
+
+returns-2 : tie.Need-returns-2
+returns-2 c =
+    c .literal-run .ensures ∙ c .before .before .chars-before .ensures .run .same
+
+pub short-run-spec : {M : Type 1} → statement M
+short-run-spec =
+    tie.close (tie.spec soon-requires chars-before-requires returns literal-run-requires returns-2)

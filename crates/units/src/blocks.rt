@@ -1,0 +1,158 @@
+// Literal characters by whole blocks of bytes. A block is tested without an early end, so that its bytes are compared at once.
+ghost use mathlib.Core.Path.{_≡_};
+ghost use mathlib.Core.Bool.{false};
+ghost use Prim.Native.Nat.{_+_, _<_, _≤_};
+ghost use lib.ListN.{length, getD};
+ghost use Rattle.utf8.specs.Utf8.{tail};
+ghost use Rattle.units.specs.Blocks.{Alone, Paired, AllAlone, AllPaired, Running, taken};
+use crate::styles;
+use crate::styles::Style;
+
+// A control, the backslash, the closing quote, or a byte that is not ASCII.
+fn odd(q: u8, b: u8) -> bool
+    ensures { λ r. ⌜ (r ≡ false → Alone q b) ⌝ }
+{
+    (b < 32) | ((b >= 128) | ((b == 92) | (b == q)))
+}
+
+// A continuation byte.
+pub fn continues(b: u8) -> bool
+    ensures { λ r. ⌜ r ≡ tail b ⌝ }
+{
+    (0x80 <= b) & (b <= 0xbf)
+}
+
+// A byte that stands in no literal character of one or two bytes, or that the next byte can't follow.
+fn odd_pair(q: u8, b: u8, c: u8) -> bool
+    ensures { λ r. ⌜ (r ≡ false → Paired q b c) ⌝ }
+{
+    (b < 32)
+        | ((b >= 0xe0)
+            | ((b == 92)
+                | ((b == q) | ((b == 0xc0) | ((b == 0xc1) | (continues(c) != (b >= 0xc0)))))))
+}
+
+// Whether one of 64 bytes is odd.
+fn any_odd(q: u8, s: &[u8], at: usize) -> bool
+    requires { ⌜ at + 64 ≤ length (now s) ⌝ }
+    ensures { λ r. ⌜ (r ≡ false → AllAlone q (now (s .entry)) at 64) ⌝ }
+{
+    let mut found = false;
+    let mut k: usize = 0;
+    while k < 64 {
+        found = found | odd(q, s[at + k]);
+        k += 1;
+    }
+    found
+}
+
+// Whether one of 32 bytes is odd beside the next.
+fn any_odd_pair(q: u8, s: &[u8], at: usize) -> bool
+    requires { ⌜ at + 33 ≤ length (now s) ⌝ }
+    ensures { λ r. ⌜ (r ≡ false → AllPaired q (now (s .entry)) at 32) ⌝ }
+{
+    let mut found = false;
+    let mut k: usize = 0;
+    while k < 32 {
+        found = found | odd_pair(q, s[at + k], s[at + k + 1]);
+        k += 1;
+    }
+    found
+}
+
+// A place, or the next one where the byte there is a continuation.
+fn behind(s: &[u8], e: usize) -> usize
+    requires { ⌜ e < length (now s) ⌝ }
+    ensures { λ r. ⌜ r ≡ e + taken (tail (getD (now (s .entry)) e 0)) ⌝ }
+{
+    if continues(s[e]) {
+        return e + 1;
+    }
+    e
+}
+
+// Blocks of ASCII.
+fn alone_blocks(s: &[u8], from: usize, style: Style) -> usize
+    requires { ⌜ from ≤ length (now s) ⌝ }
+    ensures { λ r. ⌜ Running style (now (s .entry)) from r ⌝ }
+{
+    let mut at = from;
+    while 64 <= s.len() - at {
+        if any_odd(styles::quote_of(style), s, at) {
+            return at;
+        }
+        at += 64;
+    }
+    at
+}
+
+// Blocks of ASCII and characters of two bytes.
+fn pair_blocks(s: &[u8], from: usize, style: Style) -> usize
+    requires { ⌜ from ≤ length (now s) ⌝ }
+    ensures { λ r. ⌜ Running style (now (s .entry)) from r ⌝ }
+{
+    let mut at = from;
+    while 33 <= s.len() - at {
+        if continues(s[at]) {
+            return at;
+        }
+        if any_odd_pair(styles::quote_of(style), s, at) {
+            return at;
+        }
+        at = behind(s, at + 32);
+    }
+    at
+}
+
+// Where less than a block and more than the closing quote is left, the last block of the text, though part of it is passed already.
+fn last_pairs(s: &[u8], from: usize, style: Style) -> usize
+    requires { ⌜ from ≤ length (now s) ⌝ }
+    ensures { λ r. ⌜ Running style (now (s .entry)) from r ⌝ }
+{
+    let n = s.len();
+    if n < 33 {
+        return from;
+    }
+    if 33 <= n - from {
+        return from;
+    }
+    if n - from < 2 {
+        return from;
+    }
+    if continues(s[from]) {
+        return from;
+    }
+    if any_odd_pair(styles::quote_of(style), s, n - 33) {
+        return from;
+    }
+    behind(s, n - 1)
+}
+
+// The last byte of a text.
+fn last_byte(s: &[u8], from: usize, style: Style) -> usize
+    requires { ⌜ from ≤ length (now s) ⌝ }
+    ensures { λ r. ⌜ Running style (now (s .entry)) from r ⌝ }
+{
+    if s.len() - from != 1 {
+        return from;
+    }
+    if odd(styles::quote_of(style), s[from]) {
+        return from;
+    }
+    from + 1
+}
+
+// A place behind literal characters only, as far as blocks go: a character of three or four bytes ends them. ASCII is cheapest, so it
+// comes first; a last block saves the byte loop, and the class table with it.
+pub fn strides(s: &[u8], from: usize, style: Style) -> usize
+    requires { ⌜ from ≤ length (now s) ⌝ }
+    ensures { λ r. ⌜ Running style (now (s .entry)) from r ⌝ }
+{
+    if s.len() - from < 33 {
+        return from;
+    }
+    let a = alone_blocks(s, from, style);
+    let b = pair_blocks(s, a, style);
+    let c = last_pairs(s, b, style);
+    last_byte(s, c, style)
+}
