@@ -11,12 +11,16 @@ use Rattle.strings.specs.declared.read.Mark.{Mark}
 use Rattle.strings.specs.declared.read.Mark.the-variants.{Opens, Unopened}
 use Rattle.strings.specs.declared.read.Step.{Step}
 use Rattle.strings.specs.declared.read.Step.the-variants.{On, Ended, Failed}
-use Rattle.strings.specs.Read.{Opening, opens, unopened}
+use Rattle.strings.specs.Read.{StringRead, readUnits, whole, fitted, Opening, opens, unopened}
 
 -- the code's opening mark as the definition's
 abbrev pub openingOf : Mark → Opening
 openingOf (Opens st n) = opens st n
 openingOf Unopened = unopened
+
+-- a whole text whose opening mark is n bytes long, read into a room of so many bytes
+abbrev pub readBehind : Style → ℕ → ℕ → List ℕ → StringRead
+readBehind st n room s = fitted room (whole (length s) (readUnits st n 0 (drop n s)))
 
 -- behind a unit at the place `at`, with o bytes before it
 abbrev pub stepOf : StringUnit → ℕ → ℕ → Step

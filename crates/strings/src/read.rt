@@ -8,8 +8,8 @@ ghost use Rattle.utf8.specs.Class.{IsTable};
 ghost use Rattle.utf8.specs.Utf8.{fewOf};
 ghost use Rattle.units.specs.Blocks.{Running};
 ghost use Rattle.units.specs.Units.{unitAt};
-ghost use Rattle.strings.specs.Read.{opening, readUnits, readToken, readString, readText, whole, fitted, decodedOf, tokenOf, readInto, Stored};
-ghost use Rattle.strings.specs.Turns.{openingOf, stepOf, bytesOf, turnOf, turnBytes, Closed};
+ghost use Rattle.strings.specs.Read.{opening, readUnits, readToken, readString, readText, fitted, decodedOf, tokenOf, readInto, Stored};
+ghost use Rattle.strings.specs.Turns.{openingOf, readBehind, stepOf, bytesOf, turnOf, turnBytes, Closed};
 use crate::answers::Decoded;
 use crate::answers::Token;
 use prelude::refusals;
@@ -21,6 +21,9 @@ use units::styles::Style;
 use units::styles::Unit;
 use utf8::classes;
 use utf8::encoding::Few;
+
+// The longest text that `read` takes.
+pub const TEXT_MAX: usize = 32768;
 
 // An opening mark: its style and its length.
 pub enum Mark {
@@ -140,8 +143,8 @@ pub fn token(t: &[u8; 256], s: &[u8], out: &mut [u8]) -> Token
 // The general case of a whole text: once to judge it, and once more to store its bytes.
 fn two_passes(t: &[u8; 256], s: &[u8], from: usize, style: Style, out: &mut [u8]) -> Decoded
     requires { ⌜ IsTable (now t) × (from ≤ length (now s)) ⌝ }
-    ensures answer { λ r. ⌜ r ≡ decodedOf (fitted (length (now (out .entry))) (whole (length (now (s .entry))) (readUnits style from 0 (drop from (now (s .entry)))))) ⌝ }
-    ensures stored { λ r. ⌜ now (out .exit) ≡ readInto (fitted (length (now (out .entry))) (whole (length (now (s .entry))) (readUnits style from 0 (drop from (now (s .entry)))))) (now (out .entry)) ⌝ }
+    ensures answer { λ r. ⌜ r ≡ decodedOf (readBehind style from (length (now (out .entry))) (now (s .entry))) ⌝ }
+    ensures stored { λ r. ⌜ now (out .exit) ≡ readInto (readBehind style from (length (now (out .entry))) (now (s .entry))) (now (out .entry)) ⌝ }
 {
     let judged = read_units(t, s, from, style, &mut out[..0]);
     match judged {
@@ -173,8 +176,8 @@ fn closes(s: &[u8], e: usize, style: Style) -> bool
 // A text that is one run of literal characters between its quotes is copied once.
 fn read_run(s: &[u8], from: usize, e: usize, style: Style, out: &mut [u8]) -> Decoded
     requires { ⌜ (from ≤ length (now s)) × Running style (now s) from e × Closed style (now s) e ⌝ }
-    ensures answer { λ r. ⌜ r ≡ decodedOf (fitted (length (now (out .entry))) (whole (length (now (s .entry))) (readUnits style from 0 (drop from (now (s .entry)))))) ⌝ }
-    ensures stored { λ r. ⌜ now (out .exit) ≡ readInto (fitted (length (now (out .entry))) (whole (length (now (s .entry))) (readUnits style from 0 (drop from (now (s .entry)))))) (now (out .entry)) ⌝ }
+    ensures answer { λ r. ⌜ r ≡ decodedOf (readBehind style from (length (now (out .entry))) (now (s .entry))) ⌝ }
+    ensures stored { λ r. ⌜ now (out .exit) ≡ readInto (readBehind style from (length (now (out .entry))) (now (s .entry))) (now (out .entry)) ⌝ }
 {
     let count = e - from;
     if out.len() < count {
@@ -194,8 +197,8 @@ fn read_marked(
     out: &mut [u8],
 ) -> Decoded
     requires { ⌜ IsTable (now t) × (from ≤ length (now s)) × Running style (now s) from at ⌝ }
-    ensures answer { λ r. ⌜ r ≡ decodedOf (fitted (length (now (out .entry))) (whole (length (now (s .entry))) (readUnits style from 0 (drop from (now (s .entry)))))) ⌝ }
-    ensures stored { λ r. ⌜ now (out .exit) ≡ readInto (fitted (length (now (out .entry))) (whole (length (now (s .entry))) (readUnits style from 0 (drop from (now (s .entry)))))) (now (out .entry)) ⌝ }
+    ensures answer { λ r. ⌜ r ≡ decodedOf (readBehind style from (length (now (out .entry))) (now (s .entry))) ⌝ }
+    ensures stored { λ r. ⌜ now (out .exit) ≡ readInto (readBehind style from (length (now (out .entry))) (now (s .entry))) (now (out .entry)) ⌝ }
 {
     let e = literals::literal_run(t, s, at, style);
     if closes(s, e, style) {
@@ -220,8 +223,8 @@ pub fn read_in(t: &[u8; 256], s: &[u8], out: &mut [u8]) -> Decoded
 // The units behind a mark: the table is made only where blocks don't reach the closing quote.
 fn read_open(s: &[u8], from: usize, style: Style, out: &mut [u8]) -> Decoded
     requires { ⌜ from ≤ length (now s) ⌝ }
-    ensures answer { λ r. ⌜ r ≡ decodedOf (fitted (length (now (out .entry))) (whole (length (now (s .entry))) (readUnits style from 0 (drop from (now (s .entry)))))) ⌝ }
-    ensures stored { λ r. ⌜ now (out .exit) ≡ readInto (fitted (length (now (out .entry))) (whole (length (now (s .entry))) (readUnits style from 0 (drop from (now (s .entry)))))) (now (out .entry)) ⌝ }
+    ensures answer { λ r. ⌜ r ≡ decodedOf (readBehind style from (length (now (out .entry))) (now (s .entry))) ⌝ }
+    ensures stored { λ r. ⌜ now (out .exit) ≡ readInto (readBehind style from (length (now (out .entry))) (now (s .entry))) (now (out .entry)) ⌝ }
 {
     let at = blocks::strides(s, from, style);
     if closes(s, at, style) {
@@ -236,7 +239,7 @@ pub fn read(text: &[u8], out: &mut [u8]) -> Decoded
     ensures answer { λ r. ⌜ r ≡ decodedOf (readText (length (now (out .entry))) (now (text .entry))) ⌝ }
     ensures stored { λ r. ⌜ now (out .exit) ≡ readInto (readText (length (now (out .entry))) (now (text .entry))) (now (out .entry)) ⌝ }
 {
-    if 32768 < text.len() {
+    if TEXT_MAX < text.len() {
         return Decoded::Refused(refusals::TOO_LONG, 0);
     }
     let mark = mark_at(text);

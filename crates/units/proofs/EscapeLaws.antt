@@ -10,7 +10,7 @@ use lib.Dec.{leb, eqb}
 use borrow.Author.Tests.{le-leb, lt-leb, eq-eqb, ne-eqb}
 use lib.ListN.{length, getD, drop, length-drop}
 use lib.Seq.{drop-drop}
-use Rattle.prelude.proofs.Picks.{pick-true, pick-false}
+use Rattle.prelude.proofs.Picks.{pick-true, pick-false, and-yes, nots, tests}
 use Rattle.prelude.proofs.Rest.{getD-inside}
 use Rattle.prelude.specs.Pick.{pick}
 use Rattle.prelude.specs.Refusals.{badEscape, byteEscape}
@@ -20,7 +20,6 @@ use Rattle.units.specs.declared.styles.Style.the-variants.{Json, Unicode
 use Rattle.units.specs.Styles.{StringUnit, took, fault}
 use Rattle.units.specs.Hex.{hexRun, hexNumber}
 use Rattle.units.specs.Escapes.{lookup, lettersOf, isLow, lowHalf, codeUnit, fourDigits, scalar, isBraced, braced, codePoint, rawByte, short, escape}
-use Rattle.units.proofs.Tests.{tests, nots, and-yes}
 use Rattle.units.proofs.HexLaws.{run-inside}
 
 pub scalar-below : (u : StringUnit) (n v : ℕ) → u ≡ took n (encode v) → v < 0xd800 → u ≡ scalar n v

@@ -8,7 +8,6 @@ pub mod LiteralLaws
 pub mod LiteralRuns
 pub mod OneCharacter
 pub mod Sizes
-pub mod Tests
 pub mod UnitLaws
 pub mod WrittenBack
 pub mod WrittenUnits

@@ -69,7 +69,7 @@ literal-written st x r n e =
     simp (l .size, no-escape st x (l .no-quote) (l .no-slash) (l .no-control), l .no-control)
 
 -- what holds of no bytes where no literal character stands, and of a literal character and a run behind it, holds of every run
-run-skip : (st : Style) (k : ℕ) (s : List ℕ) → k ≤ length s → literalRun st k s ≡ k + literalRun st 0 (drop k s)
+pub run-skip : (st : Style) (k : ℕ) (s : List ℕ) → k ≤ length s → literalRun st k s ≡ k + literalRun st 0 (drop k s)
 unfolding literalRun
 run-skip st zero s h = omega arith
 run-skip st (suc k) [] h = absurd (omega arith)

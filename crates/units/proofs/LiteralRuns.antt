@@ -11,29 +11,24 @@ use borrow.Author.Tests.{eqb-true, ltb-true, ltb-false}
 use lib.Dec.{eqb, ltb}
 use lib.ListN.{length, getD, drop, length-drop, drop-of-length-le}
 use lib.Seq.{drop-drop}
-use Rattle.prelude.specs.Pick.{pick}
 use Rattle.prelude.proofs.Cases.{split}
-use Rattle.prelude.proofs.Picks.{pick-true, pick-case}
+use Rattle.prelude.proofs.Picks.{pick-true}
 use Rattle.utf8.specs.Class.{classOf, plainRun}
-use Rattle.utf8.specs.Utf8.{charLen}
 use Rattle.utf8.proofs.PlainRuns.{run-plain, run-stop, after-eights}
 use Rattle.utf8.proofs.Characters.{char-le}
 use Rattle.units.specs.declared.styles.Style.{Style}
-use Rattle.units.specs.Styles.{quote}
 use Rattle.units.specs.Units.{literalLen, onward, literalRun}
 use Rattle.units.specs.Blocks.{Running}
 use Rattle.units.proofs.LiteralClasses.{literal-class}
-use Rattle.units.proofs.LiteralLaws.{run-fits, run-ends}
+use Rattle.units.proofs.LiteralLaws.{literal-char, run-skip, run-fits, run-ends}
 
 module _ (st : Style) where
   pub literal-fits : (s : List ℕ) → literalLen st s ≤ length s
-  unfolding literalLen
-  literal-fits [] = zero-le
-  literal-fits (x ∷ r) =
-      let Fits : ℕ → Type 0 = λ n. n ≤ suc (length r) in
-      pick-case Fits (eqb x (quote st)) 0 _ (λ _. zero-le)
-      (λ _. pick-case Fits (eqb x 92) 0 _ (λ _. zero-le)
-      (λ _. pick-case Fits (ltb x 32) 0 _ (λ _. zero-le) (λ _. char-le (x ∷ r))))
+  literal-fits s = go (literalLen st s) refl
+    where
+      go : (n : ℕ) → literalLen st s ≡ n → n ≤ length s
+      go zero e = zero-le
+      go (suc n) e = rw (literal-char st s n e) at (char-le s)
 
   nil-run : (k : ℕ) → literalRun st k [] ≡ 0
   unfolding literalRun
@@ -43,16 +38,6 @@ module _ (st : Style) where
   cons-run : (x : ℕ) (r : List ℕ) → literalRun st 0 (x ∷ r) ≡ onward (literalLen st (x ∷ r)) (λ m. literalRun st m r)
   unfolding literalRun
   cons-run x r = refl
-
-  skip-run : (k x : ℕ) (r : List ℕ) → literalRun st (suc k) (x ∷ r) ≡ suc (literalRun st k r)
-  unfolding literalRun
-  skip-run k x r = refl
-
-  skipped : (k : ℕ) (s : List ℕ) → k ≤ length s → literalRun st k s ≡ k + literalRun st 0 (drop k s)
-  skipped zero s h = omega arith
-  skipped (suc k) [] h = absurd (not-suc-le-zero h)
-  skipped (suc k) (x ∷ r) h =
-      skip-run k x r ∙ (let i : literalRun st k r ≡ k + literalRun st 0 (drop k r) = skipped k r (omega arith) in omega arith)
 
   pub run-stop-at : (s : List ℕ) → literalLen st s ≡ 0 → literalRun st 0 s ≡ 0
   run-stop-at [] e = nil-run 0
@@ -64,7 +49,7 @@ module _ (st : Style) where
   run-on (suc n) (x ∷ r) e =
       let f : suc n ≤ suc (length r) = rw e at (literal-fits (x ∷ r)) in
       cons-run x r ∙ ap (λ (k : ℕ). onward k (λ m. literalRun st m r)) e
-      ∙ (let i : literalRun st n r ≡ n + literalRun st 0 (drop n r) = skipped n r (omega arith) in omega arith)
+      ∙ (let i : literalRun st n r ≡ n + literalRun st 0 (drop n r) = run-skip st n r (omega arith) in omega arith)
 
   plain-one : (x : ℕ) (r : List ℕ) → eqb (classOf x) 0 ≡ true → literalLen st (x ∷ r) ≡ 1
   plain-one x r e = sym (literal-class st x r) ∙ pick-true (eqb (classOf x) 0) _ _ e

@@ -12,34 +12,15 @@ use lib.ListN.{length, getD, take, drop, drop-of-length-le}
 use lib.Seq.{drop-cons}
 use Rattle.prelude.specs.Pick.{pick}
 use Rattle.prelude.specs.Refusals.{cutOff, control}
-use Rattle.prelude.proofs.Picks.{pick-true, pick-false, pick-case}
-use Rattle.utf8.specs.Utf8.{twoBytes, threeBytes, fourBytes, longLen, lenBy, charLen, charBy, charAt}
+use Rattle.prelude.proofs.Picks.{pick-true, pick-false}
+use Rattle.utf8.specs.Utf8.{charLen, charBy, charAt}
 use Rattle.utf8.specs.declared.chars.Char.{Char}
 use Rattle.utf8.specs.declared.chars.Char.the-variants.{Good, Bad}
-use Rattle.utf8.proofs.Characters.{char-le}
+use Rattle.utf8.proofs.Characters.{char-le, char-few}
 use Rattle.units.specs.declared.styles.Style.{Style}
 use Rattle.units.specs.Styles.{StringUnit, close, took, fault, quote}
 use Rattle.units.specs.Escapes.{escape}
 use Rattle.units.specs.Units.{literal, unitAt}
-
--- a character has at most four bytes
-abbrev Few4 : ℕ → Type 0
-Few4 n = n ≤ 4
-
-pub char-few : (r : List ℕ) → charLen r ≤ 4
-unfolding charLen lenBy longLen twoBytes threeBytes fourBytes
-char-few [] = omega arith
-char-few (a ∷ r) =
-    pick-case Few4 _ _ _ (λ e. omega arith) (λ e.
-    pick-case Few4 _ _ _ (λ e. omega arith) (λ e.
-    pick-case Few4 _ _ _ (λ e. pick-case Few4 _ _ _ (λ e. omega arith) (λ e. omega arith)) (λ e.
-    pick-case Few4 _ _ _
-    (λ e. pick-case Few4 _ _ _ (λ e. pick-case Few4 _ _ _ (λ e. omega arith) (λ e. omega arith)) (λ e. omega arith)) (λ e.
-    pick-case Few4 _ _ _
-    (λ e. pick-case Few4 _ _ _
-    (λ e. pick-case Few4 _ _ _ (λ e. pick-case Few4 _ _ _ (λ e. omega arith) (λ e. omega arith)) (λ e. omega arith))
-    (λ e. omega arith))
-    (λ e. omega arith)))))
 
 good-by : (k n : ℕ) (r : List ℕ) → Good n ≡ charBy k r → n ≡ k
 good-by zero n r e = absurd (let z : _≡_ {A = ℕ} 0 1 = cc in let f : ⊥ = omega arith in f)

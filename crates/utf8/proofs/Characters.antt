@@ -122,6 +122,25 @@ class-one : (a : ℕ) (r : List ℕ) → classOf a < 5 → charLen (a ∷ r) ≡
 unfolding charLen lenBy pick
 class-one a r h = simp (lt-ltb (classOf a) 5 h)
 
+-- a character has at most four bytes
+abbrev Few4 : ℕ → Type 0
+Few4 n = n ≤ 4
+
+pub char-few : (r : List ℕ) → charLen r ≤ 4
+unfolding charLen lenBy longLen twoBytes threeBytes fourBytes
+char-few [] = omega arith
+char-few (a ∷ r) =
+    pick-case Few4 _ _ _ (λ e. omega arith) (λ e.
+    pick-case Few4 _ _ _ (λ e. omega arith) (λ e.
+    pick-case Few4 _ _ _ (λ e. pick-case Few4 _ _ _ (λ e. omega arith) (λ e. omega arith)) (λ e.
+    pick-case Few4 _ _ _
+    (λ e. pick-case Few4 _ _ _ (λ e. pick-case Few4 _ _ _ (λ e. omega arith) (λ e. omega arith)) (λ e. omega arith)) (λ e.
+    pick-case Few4 _ _ _
+    (λ e. pick-case Few4 _ _ _
+    (λ e. pick-case Few4 _ _ _ (λ e. pick-case Few4 _ _ _ (λ e. omega arith) (λ e. omega arith)) (λ e. omega arith))
+    (λ e. omega arith))
+    (λ e. omega arith)))))
+
 pub ascii-len : (a : ℕ) (r : List ℕ) → a < 0x80 → charLen (a ∷ r) ≡ 1
 unfolding classOf pick
 ascii-len a r h = class-one a r (ltb-true (classOf a) 5 (at-below (λ (b : ℕ). ltb (classOf b) 5) 0x80 refl a h))

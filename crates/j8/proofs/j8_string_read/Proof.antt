@@ -1,9 +1,6 @@
 use borrow.Author.Needs.{needs}
 use Rattle.j8.proofs.j8_string_read.Statement.{statement}
 use Rattle.j8.proofs.j8_string_read.Tie as tie
-use Rattle.j8.proofs.j8_string_read.Reads as reads
-use Rattle.j8.proofs.j8_string_read.Lts as lts
-use Rattle.strings.proofs.read.read.Reads as read-reads
 use Rattle.j8.proofs.Conversions.{read-done, read-refused}
 
 read-requires : tie.Need-read-requires

@@ -1,9 +1,6 @@
 use borrow.Author.Needs.{needs}
 use Rattle.j8.proofs.j8_string_write.Statement.{statement}
 use Rattle.j8.proofs.j8_string_write.Tie as tie
-use Rattle.j8.proofs.j8_string_write.Reads as reads
-use Rattle.j8.proofs.j8_string_write.Lts as lts
-use Rattle.strings.proofs.write.write.Reads as write-reads
 use Rattle.j8.proofs.Conversions.{write-done, write-full}
 
 write-requires : tie.Need-write-requires

@@ -1,8 +1,5 @@
 use Rattle.limits.proofs.print_bytes.Statement.{statement}
 use Rattle.limits.proofs.print_bytes.Tie as tie
-use Rattle.limits.proofs.print_bytes.Reads as reads
-use Rattle.limits.proofs.print_bytes.Lts as lts
-use Rattle.limits.proofs.print_byte.Reads as print-byte-reads
 use Prim.Native.Nat.{_≤_, _-_}
 use native.Mathlib.Omega.{arith}
 use lib.ListN.{length}

@@ -1,13 +1,6 @@
 use borrow.Author.Needs.{needs}
 use Rattle.limits.proofs.read_into.Statement.{statement}
 use Rattle.limits.proofs.read_into.Tie as tie
-use Rattle.limits.proofs.read_into.Reads as reads
-use Rattle.limits.proofs.read_into.Lts as lts
-use Rattle.limits.proofs.print.Reads as print-reads
-use Rattle.limits.proofs.print_buffer.Reads as print-buffer-reads
-use Rattle.limits.proofs.print_decoded.Reads as print-decoded-reads
-use Rattle.limits.proofs.print_room.Reads as print-room-reads
-use Rattle.strings.proofs.read.read.Reads as read-reads
 use mathlib.Core.Path.{sym}
 use native.Mathlib.Omega.{arith}
 use lib.ListN.{length-set}

@@ -1,14 +1,6 @@
 use borrow.Author.Needs.{needs}
 use Rattle.limits.proofs.read_long.Statement.{statement}
 use Rattle.limits.proofs.read_long.Tie as tie
-use Rattle.limits.proofs.read_long.Reads as reads
-use Rattle.limits.proofs.read_long.Lts as lts
-use Rattle.limits.proofs.byte_of.Reads as byte-of-reads
-use Rattle.limits.proofs.print.Reads as print-reads
-use Rattle.limits.proofs.print_byte.Reads as print-byte-reads
-use Rattle.limits.proofs.print_decoded.Reads as print-decoded-reads
-use Rattle.limits.proofs.print_number.Reads as print-number-reads
-use Rattle.strings.proofs.read.read.Reads as read-reads
 use mathlib.Core.Path.{sym}
 use native.Mathlib.Omega.{arith}
 use lib.ListN.{length-set}

@@ -1,14 +1,6 @@
 use borrow.Author.Needs.{needs}
 use Rattle.limits.proofs.write_bytes_into.Statement.{statement}
 use Rattle.limits.proofs.write_bytes_into.Tie as tie
-use Rattle.limits.proofs.write_bytes_into.Reads as reads
-use Rattle.limits.proofs.write_bytes_into.Lts as lts
-use Rattle.limits.proofs.print.Reads as print-reads
-use Rattle.limits.proofs.print_buffer.Reads as print-buffer-reads
-use Rattle.limits.proofs.print_bytes.Reads as print-bytes-reads
-use Rattle.limits.proofs.print_room.Reads as print-room-reads
-use Rattle.limits.proofs.print_written.Reads as print-written-reads
-use Rattle.strings.proofs.write.write_bytes.Reads as write-bytes-reads
 use mathlib.Core.Path.{sym}
 use native.Mathlib.Omega.{arith}
 use lib.ListN.{length-set}

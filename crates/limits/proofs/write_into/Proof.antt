@@ -1,13 +1,6 @@
 use borrow.Author.Needs.{needs}
 use Rattle.limits.proofs.write_into.Statement.{statement}
 use Rattle.limits.proofs.write_into.Tie as tie
-use Rattle.limits.proofs.write_into.Reads as reads
-use Rattle.limits.proofs.write_into.Lts as lts
-use Rattle.limits.proofs.print_buffer.Reads as print-buffer-reads
-use Rattle.limits.proofs.print_bytes.Reads as print-bytes-reads
-use Rattle.limits.proofs.print_room.Reads as print-room-reads
-use Rattle.limits.proofs.print_written.Reads as print-written-reads
-use Rattle.strings.proofs.write.write.Reads as write-reads
 use mathlib.Core.Path.{sym}
 use native.Mathlib.Omega.{arith}
 use lib.ListN.{length-set}

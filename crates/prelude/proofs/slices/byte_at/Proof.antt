@@ -6,8 +6,6 @@ use lib.Seq.{getD-drop}
 use borrow.Author.Needs.{needs}
 use Rattle.prelude.proofs.slices.byte_at.Statement.{statement}
 use Rattle.prelude.proofs.slices.byte_at.Tie as tie
-use Rattle.prelude.proofs.slices.byte_at.Reads as reads
-use Rattle.prelude.proofs.slices.byte_at.Lts as lts
 
 sub-if2 : tie.Need-sub-if2
 sub-if2 c = search needs

@@ -1,15 +1,10 @@
 use Rattle.prelude.proofs.slices.copy_run.Statement.{statement}
 use Rattle.prelude.proofs.slices.copy_run.Tie as tie
-use Rattle.prelude.proofs.slices.copy_run.Reads as reads
-use Rattle.prelude.proofs.slices.copy_run.Lts as lts
-use Rattle.prelude.proofs.slices.least.Reads as least-reads
-use Rattle.prelude.proofs.slices.left.Reads as left-reads
 use Prim.Native.Nat.{ℕ, _+_, _-_, _*_, _≤_, _<_}
 use mathlib.Core.Path.{_≡_, refl, sym, ap, _∙_}
 use lib.ListN.{length, getD, take, drop, set, length-drop, length-set}
 use mathlib.Core.List.{List}
 use lib.Seq.{sets, length-sets}
-use borrow.Author.Needs.{needs}
 use native.Mathlib.Omega.{arith}
 use denote.Ref.{now}
 use Rattle.prelude.proofs.Stores.{copied, copied-all}

@@ -2,8 +2,6 @@ use lib.Seq.{set-out}
 use borrow.Author.Needs.{needs}
 use Rattle.prelude.proofs.slices.put.Statement.{statement}
 use Rattle.prelude.proofs.slices.put.Tie as tie
-use Rattle.prelude.proofs.slices.put.Reads as reads
-use Rattle.prelude.proofs.slices.put.Lts as lts
 
 slice-write-out : tie.Need-slice-write-out
 slice-write-out c = search needs

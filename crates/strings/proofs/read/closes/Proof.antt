@@ -1,9 +1,6 @@
 use borrow.Author.Needs.{needs}
 use Rattle.strings.proofs.read.closes.Statement.{statement}
 use Rattle.strings.proofs.read.closes.Tie as tie
-use Rattle.strings.proofs.read.closes.Reads as reads
-use Rattle.strings.proofs.read.closes.Lts as lts
-use Rattle.units.proofs.styles.quote_of.Reads as quote-of-reads
 use native.Mathlib.Omega.{arith}
 use mathlib.Core.Path.{_∙_}
 use borrow.Author.Tests.{eqb-true}

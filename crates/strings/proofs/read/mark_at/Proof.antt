@@ -1,9 +1,6 @@
 use borrow.Author.Needs.{needs}
 use Rattle.strings.proofs.read.mark_at.Statement.{statement}
 use Rattle.strings.proofs.read.mark_at.Tie as tie
-use Rattle.strings.proofs.read.mark_at.Reads as reads
-use Rattle.strings.proofs.read.mark_at.Lts as lts
-use Rattle.prelude.proofs.slices.byte_at.Reads as byte-at-reads
 use Rattle.strings.proofs.WholeTexts.{json-mark, bare-mark, no-quote, unicode-mark, bytes-mark, other-mark}
 
 byte-at-requires : tie.Need-byte-at-requires

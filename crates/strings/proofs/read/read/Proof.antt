@@ -1,10 +1,6 @@
 use borrow.Author.Needs.{needs}
 use Rattle.strings.proofs.read.read.Statement.{statement}
 use Rattle.strings.proofs.read.read.Tie as tie
-use Rattle.strings.proofs.read.read.Reads as reads
-use Rattle.strings.proofs.read.read.Lts as lts
-use Rattle.strings.proofs.read.mark_at.Reads as mark-at-reads
-use Rattle.strings.proofs.read.read_open.Reads as read-open-reads
 use denote.Ref.{now}
 use Rattle.strings.proofs.WholeTexts.{long, within, mark-inside, marked, unmarked}
 

@@ -1,10 +1,6 @@
 use borrow.Author.Needs.{needs}
 use Rattle.strings.proofs.read.read_in.Statement.{statement}
 use Rattle.strings.proofs.read.read_in.Tie as tie
-use Rattle.strings.proofs.read.read_in.Reads as reads
-use Rattle.strings.proofs.read.read_in.Lts as lts
-use Rattle.strings.proofs.read.mark_at.Reads as mark-at-reads
-use Rattle.strings.proofs.read.read_marked.Reads as read-marked-reads
 use denote.Ref.{now}
 use Rattle.units.proofs.LiteralRuns.{here}
 use Rattle.strings.proofs.WholeTexts.{mark-inside, marked, unmarked}

@@ -1,12 +1,6 @@
 use borrow.Author.Needs.{needs}
 use Rattle.strings.proofs.read.read_marked.Statement.{statement}
 use Rattle.strings.proofs.read.read_marked.Tie as tie
-use Rattle.strings.proofs.read.read_marked.Reads as reads
-use Rattle.strings.proofs.read.read_marked.Lts as lts
-use Rattle.strings.proofs.read.closes.Reads as closes-reads
-use Rattle.strings.proofs.read.read_run.Reads as read-run-reads
-use Rattle.strings.proofs.read.two_passes.Reads as two-passes-reads
-use Rattle.units.proofs.literals.literal_run.Reads as literal-run-reads
 use Rattle.units.proofs.LiteralRuns.{through}
 
 literal-run-requires : tie.Need-literal-run-requires

@@ -1,13 +1,6 @@
 use borrow.Author.Needs.{needs}
 use Rattle.strings.proofs.read.read_open.Statement.{statement}
 use Rattle.strings.proofs.read.read_open.Tie as tie
-use Rattle.strings.proofs.read.read_open.Reads as reads
-use Rattle.strings.proofs.read.read_open.Lts as lts
-use Rattle.strings.proofs.read.closes.Reads as closes-reads
-use Rattle.strings.proofs.read.read_marked.Reads as read-marked-reads
-use Rattle.strings.proofs.read.read_run.Reads as read-run-reads
-use Rattle.units.proofs.blocks.strides.Reads as strides-reads
-use Rattle.utf8.proofs.classes.table.Reads as table-reads
 
 strides-requires : tie.Need-strides-requires
 strides-requires c κs = search needs

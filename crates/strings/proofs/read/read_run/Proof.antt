@@ -1,9 +1,6 @@
 use borrow.Author.Needs.{needs}
 use Rattle.strings.proofs.read.read_run.Statement.{statement}
 use Rattle.strings.proofs.read.read_run.Tie as tie
-use Rattle.strings.proofs.read.read_run.Reads as reads
-use Rattle.strings.proofs.read.read_run.Lts as lts
-use Rattle.prelude.proofs.slices.copy_run.Reads as copy-run-reads
 use native.Mathlib.Omega.{arith}
 use Rattle.strings.proofs.WholeTexts.{run-tight, run-good}
 

@@ -1,8 +1,5 @@
 use Rattle.strings.proofs.read.read_units.Statement.{statement}
 use Rattle.strings.proofs.read.read_units.Tie as tie
-use Rattle.strings.proofs.read.read_units.Reads as reads
-use Rattle.strings.proofs.read.read_units.Lts as lts
-use Rattle.strings.proofs.read.turn.Reads as turn-reads
 use denote.Ref.{now}
 use borrow.Author.Needs.{needs}
 use native.Mathlib.Omega.{arith}

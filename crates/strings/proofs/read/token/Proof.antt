@@ -1,10 +1,6 @@
 use borrow.Author.Needs.{needs}
 use Rattle.strings.proofs.read.token.Statement.{statement}
 use Rattle.strings.proofs.read.token.Tie as tie
-use Rattle.strings.proofs.read.token.Reads as reads
-use Rattle.strings.proofs.read.token.Lts as lts
-use Rattle.strings.proofs.read.mark_at.Reads as mark-at-reads
-use Rattle.strings.proofs.read.read_units.Reads as read-units-reads
 use denote.Ref.{now}
 use Rattle.strings.proofs.WholeTexts.{mark-inside, marked-token, unmarked-token}
 

@@ -1,11 +1,6 @@
 use borrow.Author.Needs.{needs}
 use Rattle.strings.proofs.read.turn.Statement.{statement}
 use Rattle.strings.proofs.read.turn.Tie as tie
-use Rattle.strings.proofs.read.turn.Reads as reads
-use Rattle.strings.proofs.read.turn.Lts as lts
-use Rattle.prelude.proofs.slices.copy_run.Reads as copy-run-reads
-use Rattle.strings.proofs.read.unit_turn.Reads as unit-turn-reads
-use Rattle.units.proofs.literals.short_run.Reads as short-run-reads
 use denote.Ref.{now}
 use native.Mathlib.Omega.{arith}
 use mathlib.Core.Path.{sym, _∙_}

@@ -1,9 +1,6 @@
 use borrow.Author.Needs.{needs}
 use Rattle.strings.proofs.read.two_passes.Statement.{statement}
 use Rattle.strings.proofs.read.two_passes.Tie as tie
-use Rattle.strings.proofs.read.two_passes.Reads as reads
-use Rattle.strings.proofs.read.two_passes.Lts as lts
-use Rattle.strings.proofs.read.read_units.Reads as read-units-reads
 use denote.Ref.{now}
 use lib.ListN.{drop}
 use Rattle.strings.specs.Read.{readUnits}

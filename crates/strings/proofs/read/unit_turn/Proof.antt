@@ -1,10 +1,6 @@
 use borrow.Author.Needs.{needs}
 use Rattle.strings.proofs.read.unit_turn.Statement.{statement}
 use Rattle.strings.proofs.read.unit_turn.Tie as tie
-use Rattle.strings.proofs.read.unit_turn.Reads as reads
-use Rattle.strings.proofs.read.unit_turn.Lts as lts
-use Rattle.strings.proofs.read.put_few.Reads as put-few-reads
-use Rattle.units.proofs.units.unit_at.Reads as unit-at-reads
 use denote.Ref.{now}
 use native.Mathlib.Omega.{arith}
 use Rattle.strings.proofs.Reading.{on-close, took-inside, took-few, on-took, on-fault}

@@ -1,14 +1,5 @@
 use Rattle.strings.proofs.write.pass.Statement.{statement}
 use Rattle.strings.proofs.write.pass.Tie as tie
-use Rattle.strings.proofs.write.pass.Reads as reads
-use Rattle.strings.proofs.write.pass.Lts as lts
-use Rattle.prelude.proofs.slices.copy_run.Reads as copy-run-reads
-use Rattle.prelude.proofs.slices.put.Reads as put-reads
-use Rattle.strings.proofs.write.put_mark.Reads as put-mark-reads
-use Rattle.units.proofs.literals.short_run.Reads as short-run-reads
-use Rattle.units.proofs.styles.quote_of.Reads as quote-of-reads
-use Rattle.units.proofs.written.escape_len.Reads as escape-len-reads
-use Rattle.units.proofs.written.put_escape.Reads as put-escape-reads
 use denote.Ref.{now}
 use borrow.Author.Needs.{needs}
 use native.Mathlib.Omega.{arith}

@@ -1,10 +1,6 @@
 use borrow.Author.Needs.{needs}
 use Rattle.strings.proofs.write.put_mark.Statement.{statement}
 use Rattle.strings.proofs.write.put_mark.Tie as tie
-use Rattle.strings.proofs.write.put_mark.Reads as reads
-use Rattle.strings.proofs.write.put_mark.Lts as lts
-use Rattle.prelude.proofs.slices.copy_run.Reads as copy-run-reads
-use Rattle.prelude.proofs.slices.put.Reads as put-reads
 use denote.Ref.{now}
 use mathlib.Core.Path.{ap, refl, _∙_}
 use lib.ListN.{length}

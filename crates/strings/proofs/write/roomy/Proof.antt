@@ -1,8 +1,6 @@
 use borrow.Author.Needs.{needs}
 use Rattle.strings.proofs.write.roomy.Statement.{statement}
 use Rattle.strings.proofs.write.roomy.Tie as tie
-use Rattle.strings.proofs.write.roomy.Reads as reads
-use Rattle.strings.proofs.write.roomy.Lts as lts
 use native.Mathlib.Omega.{arith}
 use Prim.Native.Nat.{_-_, _/_, _≤_}
 use borrow.Author.Tests.{leb-true}

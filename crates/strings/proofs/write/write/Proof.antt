@@ -1,11 +1,6 @@
 use borrow.Author.Needs.{needs}
 use Rattle.strings.proofs.write.write.Statement.{statement}
 use Rattle.strings.proofs.write.write.Tie as tie
-use Rattle.strings.proofs.write.write.Reads as reads
-use Rattle.strings.proofs.write.write.Lts as lts
-use Rattle.strings.proofs.write.write_from.Reads as write-from-reads
-use Rattle.strings.proofs.write.write_literal.Reads as write-literal-reads
-use Rattle.units.proofs.blocks.strides.Reads as strides-reads
 use denote.Ref.{now}
 use mathlib.Core.Path.{_≡_}
 use native.Mathlib.Omega.{arith}

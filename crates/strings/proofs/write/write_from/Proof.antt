@@ -1,13 +1,6 @@
 use borrow.Author.Needs.{needs}
 use Rattle.strings.proofs.write.write_from.Statement.{statement}
 use Rattle.strings.proofs.write.write_from.Tie as tie
-use Rattle.strings.proofs.write.write_from.Reads as reads
-use Rattle.strings.proofs.write.write_from.Lts as lts
-use Rattle.strings.proofs.write.write_literal.Reads as write-literal-reads
-use Rattle.strings.proofs.write.write_quoted.Reads as write-quoted-reads
-use Rattle.units.proofs.literals.literal_run.Reads as literal-run-reads
-use Rattle.utf8.proofs.chars.valid_in.Reads as valid-in-reads
-use Rattle.utf8.proofs.classes.table.Reads as table-reads
 use denote.Ref.{now}
 use mathlib.Core.Path.{_≡_, sym, _∙_}
 use native.Mathlib.Omega.{arith}

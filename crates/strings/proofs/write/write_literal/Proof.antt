@@ -1,10 +1,6 @@
 use borrow.Author.Needs.{needs}
 use Rattle.strings.proofs.write.write_literal.Statement.{statement}
 use Rattle.strings.proofs.write.write_literal.Tie as tie
-use Rattle.strings.proofs.write.write_literal.Reads as reads
-use Rattle.strings.proofs.write.write_literal.Lts as lts
-use Rattle.prelude.proofs.slices.copy_run.Reads as copy-run-reads
-use Rattle.prelude.proofs.slices.put.Reads as put-reads
 use denote.Ref.{now}
 use native.Mathlib.Omega.{arith}
 use Rattle.strings.proofs.Writing.{literal-full, literal-wrote}

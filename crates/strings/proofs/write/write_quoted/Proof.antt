@@ -1,10 +1,6 @@
 use borrow.Author.Needs.{needs}
 use Rattle.strings.proofs.write.write_quoted.Statement.{statement}
 use Rattle.strings.proofs.write.write_quoted.Tie as tie
-use Rattle.strings.proofs.write.write_quoted.Reads as reads
-use Rattle.strings.proofs.write.write_quoted.Lts as lts
-use Rattle.strings.proofs.write.pass.Reads as pass-reads
-use Rattle.strings.proofs.write.roomy.Reads as roomy-reads
 use denote.Ref.{now}
 use mathlib.Core.Path.{refl}
 use Rattle.strings.specs.Write.{quoted}

@@ -1,9 +1,5 @@
 use Rattle.units.proofs.blocks.alone_blocks.Statement.{statement}
 use Rattle.units.proofs.blocks.alone_blocks.Tie as tie
-use Rattle.units.proofs.blocks.alone_blocks.Reads as reads
-use Rattle.units.proofs.blocks.alone_blocks.Lts as lts
-use Rattle.units.proofs.blocks.any_odd.Reads as any-odd-reads
-use Rattle.units.proofs.styles.quote_of.Reads as quote-of-reads
 use Prim.Native.Nat.{_-_}
 use native.Mathlib.Omega.{arith}
 use lib.ListN.{length}

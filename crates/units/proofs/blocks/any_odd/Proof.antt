@@ -1,8 +1,5 @@
 use Rattle.units.proofs.blocks.any_odd.Statement.{statement}
 use Rattle.units.proofs.blocks.any_odd.Tie as tie
-use Rattle.units.proofs.blocks.any_odd.Reads as reads
-use Rattle.units.proofs.blocks.any_odd.Lts as lts
-use Rattle.units.proofs.blocks.odd.Reads as odd-reads
 use Prim.Native.Nat.{_+_, _-_, _≤_}
 use mathlib.Core.Bool.{false}
 use mathlib.Core.Path.{_≡_}

@@ -1,8 +1,5 @@
 use Rattle.units.proofs.blocks.any_odd_pair.Statement.{statement}
 use Rattle.units.proofs.blocks.any_odd_pair.Tie as tie
-use Rattle.units.proofs.blocks.any_odd_pair.Reads as reads
-use Rattle.units.proofs.blocks.any_odd_pair.Lts as lts
-use Rattle.units.proofs.blocks.odd_pair.Reads as odd-pair-reads
 use Prim.Native.Nat.{_+_, _-_, _≤_}
 use mathlib.Core.Bool.{false}
 use mathlib.Core.Path.{_≡_}

@@ -1,9 +1,6 @@
 use borrow.Author.Needs.{needs}
 use Rattle.units.proofs.blocks.behind.Statement.{statement}
 use Rattle.units.proofs.blocks.behind.Tie as tie
-use Rattle.units.proofs.blocks.behind.Reads as reads
-use Rattle.units.proofs.blocks.behind.Lts as lts
-use Rattle.units.proofs.blocks.continues.Reads as continues-reads
 use Rattle.units.proofs.BlockLaws.{with-next, without-next}
 
 shared-slice-read-continues : tie.Need-shared-slice-read-continues

@@ -1,10 +1,6 @@
 use borrow.Author.Needs.{needs}
 use Rattle.units.proofs.blocks.last_byte.Statement.{statement}
 use Rattle.units.proofs.blocks.last_byte.Tie as tie
-use Rattle.units.proofs.blocks.last_byte.Reads as reads
-use Rattle.units.proofs.blocks.last_byte.Lts as lts
-use Rattle.units.proofs.blocks.odd.Reads as odd-reads
-use Rattle.units.proofs.styles.quote_of.Reads as quote-of-reads
 use native.Mathlib.Omega.{arith}
 use Rattle.units.proofs.LiteralRuns.{here}
 use Rattle.units.proofs.BlockLaws.{over-byte}

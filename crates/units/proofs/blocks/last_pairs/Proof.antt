@@ -1,12 +1,6 @@
 use borrow.Author.Needs.{needs}
 use Rattle.units.proofs.blocks.last_pairs.Statement.{statement}
 use Rattle.units.proofs.blocks.last_pairs.Tie as tie
-use Rattle.units.proofs.blocks.last_pairs.Reads as reads
-use Rattle.units.proofs.blocks.last_pairs.Lts as lts
-use Rattle.units.proofs.blocks.any_odd_pair.Reads as any-odd-pair-reads
-use Rattle.units.proofs.blocks.behind.Reads as behind-reads
-use Rattle.units.proofs.blocks.continues.Reads as continues-reads
-use Rattle.units.proofs.styles.quote_of.Reads as quote-of-reads
 use native.Mathlib.Omega.{arith}
 use Rattle.units.proofs.LiteralRuns.{here}
 use Rattle.units.proofs.BlockLaws.{over-last}

@@ -1,7 +1,5 @@
 use Rattle.units.proofs.blocks.odd.Statement.{statement}
 use Rattle.units.proofs.blocks.odd.Tie as tie
-use Rattle.units.proofs.blocks.odd.Reads as reads
-use Rattle.units.proofs.blocks.odd.Lts as lts
 use Rattle.units.proofs.BlockLaws.{alone}
 
 returns : tie.Need-returns

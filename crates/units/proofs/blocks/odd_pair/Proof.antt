@@ -1,9 +1,6 @@
 use borrow.Author.Needs.{needs}
 use Rattle.units.proofs.blocks.odd_pair.Statement.{statement}
 use Rattle.units.proofs.blocks.odd_pair.Tie as tie
-use Rattle.units.proofs.blocks.odd_pair.Reads as reads
-use Rattle.units.proofs.blocks.odd_pair.Lts as lts
-use Rattle.units.proofs.blocks.continues.Reads as continues-reads
 use Rattle.units.proofs.BlockLaws.{paired}
 
 continues-requires : tie.Need-continues-requires

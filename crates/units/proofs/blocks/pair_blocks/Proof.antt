@@ -1,11 +1,5 @@
 use Rattle.units.proofs.blocks.pair_blocks.Statement.{statement}
 use Rattle.units.proofs.blocks.pair_blocks.Tie as tie
-use Rattle.units.proofs.blocks.pair_blocks.Reads as reads
-use Rattle.units.proofs.blocks.pair_blocks.Lts as lts
-use Rattle.units.proofs.blocks.any_odd_pair.Reads as any-odd-pair-reads
-use Rattle.units.proofs.blocks.behind.Reads as behind-reads
-use Rattle.units.proofs.blocks.continues.Reads as continues-reads
-use Rattle.units.proofs.styles.quote_of.Reads as quote-of-reads
 use Prim.Native.Nat.{_-_}
 use native.Mathlib.Omega.{arith}
 use lib.ListN.{length}

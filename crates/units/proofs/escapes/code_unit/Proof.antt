@@ -2,7 +2,7 @@ use borrow.Author.Needs.{needs}
 use Rattle.units.proofs.escapes.code_unit.Statement.{statement}
 use Rattle.units.proofs.escapes.code_unit.Tie as tie
 use Rattle.units.specs.Escapes.{codeUnit}
-use Rattle.units.proofs.Tests.{tests}
+use Rattle.prelude.proofs.Picks.{tests}
 
 coded-requires : tie.Need-coded-requires
 coded-requires c κs = search needs

@@ -2,7 +2,7 @@ use borrow.Author.Needs.{needs}
 use Rattle.units.proofs.escapes.scalar.Statement.{statement}
 use Rattle.units.proofs.escapes.scalar.Tie as tie
 use Rattle.units.specs.Escapes.{scalar}
-use Rattle.units.proofs.Tests.{tests}
+use Rattle.prelude.proofs.Picks.{tests}
 use Rattle.units.proofs.EscapeLaws.{scalar-below}
 
 coded-requires : tie.Need-coded-requires

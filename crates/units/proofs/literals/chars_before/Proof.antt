@@ -1,9 +1,5 @@
 use Rattle.units.proofs.literals.chars_before.Statement.{statement}
 use Rattle.units.proofs.literals.chars_before.Tie as tie
-use Rattle.units.proofs.literals.chars_before.Reads as reads
-use Rattle.units.proofs.literals.chars_before.Lts as lts
-use Rattle.units.proofs.literals.literal_len.Reads as literal-len-reads
-use Rattle.utf8.proofs.classes.class_in.Reads as class-in-reads
 use Prim.Native.Nat.{_-_, _<_}
 use mathlib.Core.Path.{sym, _∙_}
 use native.Mathlib.Omega.{arith}

@@ -1,10 +1,5 @@
 use Rattle.units.proofs.literals.common_before.Statement.{statement}
 use Rattle.units.proofs.literals.common_before.Tie as tie
-use Rattle.units.proofs.literals.common_before.Reads as reads
-use Rattle.units.proofs.literals.common_before.Lts as lts
-use Rattle.units.proofs.literals.one_follows.Reads as one-follows-reads
-use Rattle.units.proofs.literals.two_follow.Reads as two-follow-reads
-use Rattle.utf8.proofs.classes.class_in.Reads as class-in-reads
 use Prim.Native.Nat.{_-_, _≤_, _<_}
 use native.Mathlib.Omega.{arith}
 use lib.ListN.{length}

@@ -1,10 +1,6 @@
 use borrow.Author.Needs.{needs}
 use Rattle.units.proofs.literals.literal_len.Statement.{statement}
 use Rattle.units.proofs.literals.literal_len.Tie as tie
-use Rattle.units.proofs.literals.literal_len.Reads as reads
-use Rattle.units.proofs.literals.literal_len.Lts as lts
-use Rattle.units.proofs.literals.bare_class.Reads as bare-class-reads
-use Rattle.utf8.proofs.chars.long_len.Reads as long-len-reads
 use denote.Ref.{now}
 use mathlib.Core.Path.{sym, _∙_}
 use Rattle.units.proofs.LiteralClasses.{plain-char, bare-quote, no-char, long-char}

@@ -1,11 +1,5 @@
 use Rattle.units.proofs.literals.literal_run.Statement.{statement}
 use Rattle.units.proofs.literals.literal_run.Tie as tie
-use Rattle.units.proofs.literals.literal_run.Reads as reads
-use Rattle.units.proofs.literals.literal_run.Lts as lts
-use Rattle.units.proofs.literals.chars_before.Reads as chars-before-reads
-use Rattle.units.proofs.literals.common_before.Reads as common-before-reads
-use Rattle.units.proofs.literals.several.Reads as several-reads
-use Rattle.units.proofs.literals.soon.Reads as soon-reads
 use Prim.Native.Nat.{_-_}
 use native.Mathlib.Omega.{arith}
 use lib.ListN.{length}

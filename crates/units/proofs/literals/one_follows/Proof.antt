@@ -1,9 +1,6 @@
 use borrow.Author.Needs.{needs}
 use Rattle.units.proofs.literals.one_follows.Statement.{statement}
 use Rattle.units.proofs.literals.one_follows.Tie as tie
-use Rattle.units.proofs.literals.one_follows.Reads as reads
-use Rattle.units.proofs.literals.one_follows.Lts as lts
-use Rattle.units.proofs.blocks.continues.Reads as continues-reads
 use mathlib.Core.Path.{sym, _∙_}
 use Rattle.prelude.proofs.Cases.{never}
 

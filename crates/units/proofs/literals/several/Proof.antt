@@ -1,10 +1,6 @@
 use borrow.Author.Needs.{needs}
 use Rattle.units.proofs.literals.several.Statement.{statement}
 use Rattle.units.proofs.literals.several.Tie as tie
-use Rattle.units.proofs.literals.several.Reads as reads
-use Rattle.units.proofs.literals.several.Lts as lts
-use Rattle.units.proofs.blocks.strides.Reads as strides-reads
-use Rattle.utf8.proofs.classes.eights.Reads as eights-reads
 use Rattle.units.proofs.LiteralRuns.{begun}
 
 sub-if1 : tie.Need-sub-if1

@@ -1,10 +1,5 @@
 use Rattle.units.proofs.literals.short_run.Statement.{statement}
 use Rattle.units.proofs.literals.short_run.Tie as tie
-use Rattle.units.proofs.literals.short_run.Reads as reads
-use Rattle.units.proofs.literals.short_run.Lts as lts
-use Rattle.units.proofs.literals.chars_before.Reads as chars-before-reads
-use Rattle.units.proofs.literals.literal_run.Reads as literal-run-reads
-use Rattle.units.proofs.literals.soon.Reads as soon-reads
 use native.Mathlib.Omega.{arith}
 use mathlib.Core.Path.{_∙_}
 use Rattle.units.proofs.LiteralRuns.{stopped}

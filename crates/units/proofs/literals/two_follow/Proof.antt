@@ -1,9 +1,6 @@
 use borrow.Author.Needs.{needs}
 use Rattle.units.proofs.literals.two_follow.Statement.{statement}
 use Rattle.units.proofs.literals.two_follow.Tie as tie
-use Rattle.units.proofs.literals.two_follow.Reads as reads
-use Rattle.units.proofs.literals.two_follow.Lts as lts
-use Rattle.units.proofs.blocks.continues.Reads as continues-reads
 use mathlib.Core.Path.{sym, _∙_}
 use Rattle.prelude.proofs.Cases.{never, and-left, and-right}
 

@@ -1,10 +1,6 @@
 use borrow.Author.Needs.{needs}
 use Rattle.units.proofs.written.escape_len.Statement.{statement}
 use Rattle.units.proofs.written.escape_len.Tie as tie
-use Rattle.units.proofs.written.escape_len.Reads as reads
-use Rattle.units.proofs.written.escape_len.Lts as lts
-use Rattle.units.proofs.written.letter_of.Reads as letter-of-reads
-use Rattle.units.proofs.written.number_len.Reads as number-len-reads
 use mathlib.Core.Path.{ap, _∙_}
 use lib.ListN.{length}
 use Rattle.units.proofs.EscapeStores.{by-letter, as-number}

@@ -1,8 +1,6 @@
 use borrow.Author.Needs.{needs}
 use Rattle.units.proofs.written.hex_digit.Statement.{statement}
 use Rattle.units.proofs.written.hex_digit.Tie as tie
-use Rattle.units.proofs.written.hex_digit.Reads as reads
-use Rattle.units.proofs.written.hex_digit.Lts as lts
 use Rattle.prelude.proofs.Picks.{picks}
 use Rattle.units.specs.Written.{hexDigit}
 

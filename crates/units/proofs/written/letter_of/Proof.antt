@@ -1,9 +1,6 @@
 use borrow.Author.Needs.{needs}
 use Rattle.units.proofs.written.letter_of.Statement.{statement}
 use Rattle.units.proofs.written.letter_of.Tie as tie
-use Rattle.units.proofs.written.letter_of.Reads as reads
-use Rattle.units.proofs.written.letter_of.Lts as lts
-use Rattle.units.proofs.styles.quote_of.Reads as quote-of-reads
 use Rattle.prelude.proofs.Picks.{picks}
 use borrow.Author.Tests.{eq-eqb, ne-eqb}
 use mathlib.Core.Path.{_∙_, sym}

@@ -1,8 +1,6 @@
 use borrow.Author.Needs.{needs}
 use Rattle.units.proofs.written.number_len.Statement.{statement}
 use Rattle.units.proofs.written.number_len.Tie as tie
-use Rattle.units.proofs.written.number_len.Reads as reads
-use Rattle.units.proofs.written.number_len.Lts as lts
 use Rattle.units.proofs.EscapeStores.{json-length, unicode-length, bytes-length}
 
 enum-told : tie.Need-enum-told

@@ -1,11 +1,6 @@
 use borrow.Author.Needs.{needs}
 use Rattle.units.proofs.written.put_escape.Statement.{statement}
 use Rattle.units.proofs.written.put_escape.Tie as tie
-use Rattle.units.proofs.written.put_escape.Reads as reads
-use Rattle.units.proofs.written.put_escape.Lts as lts
-use Rattle.units.proofs.written.letter_of.Reads as letter-of-reads
-use Rattle.units.proofs.written.put_number.Reads as put-number-reads
-use Rattle.units.proofs.written.put_two.Reads as put-two-reads
 use denote.Ref.{now}
 use mathlib.Core.Path.{ap, _∙_}
 use lib.Seq.{sets}

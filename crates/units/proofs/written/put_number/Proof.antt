@@ -1,10 +1,6 @@
 use borrow.Author.Needs.{needs}
 use Rattle.units.proofs.written.put_number.Statement.{statement}
 use Rattle.units.proofs.written.put_number.Tie as tie
-use Rattle.units.proofs.written.put_number.Reads as reads
-use Rattle.units.proofs.written.put_number.Lts as lts
-use Rattle.prelude.proofs.slices.copy_run.Reads as copy-run-reads
-use Rattle.units.proofs.written.hex_digit.Reads as hex-digit-reads
 use denote.Ref.{now}
 use mathlib.Core.Path.{ap, _∙_}
 use lib.Seq.{sets}

@@ -1,8 +1,6 @@
 use borrow.Author.Needs.{needs}
 use Rattle.units.proofs.written.put_two.Statement.{statement}
 use Rattle.units.proofs.written.put_two.Tie as tie
-use Rattle.units.proofs.written.put_two.Reads as reads
-use Rattle.units.proofs.written.put_two.Lts as lts
 use native.Mathlib.Omega.{arith}
 use denote.Ref.{now}
 use lib.ListN.{length-set}

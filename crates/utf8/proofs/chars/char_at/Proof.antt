@@ -1,10 +1,6 @@
 use borrow.Author.Needs.{needs}
 use Rattle.utf8.proofs.chars.char_at.Statement.{statement}
 use Rattle.utf8.proofs.chars.char_at.Tie as tie
-use Rattle.utf8.proofs.chars.char_at.Reads as reads
-use Rattle.utf8.proofs.chars.char_at.Lts as lts
-use Rattle.utf8.proofs.chars.long_len.Reads as long-len-reads
-use Rattle.utf8.proofs.classes.class_in.Reads as class-in-reads
 use Rattle.utf8.proofs.CharSteps.{at-end, is-one, is-lone, is-cut, is-long}
 
 returns : tie.Need-returns

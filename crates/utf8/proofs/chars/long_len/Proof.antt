@@ -1,12 +1,6 @@
 use borrow.Author.Needs.{needs}
 use Rattle.utf8.proofs.chars.long_len.Statement.{statement}
 use Rattle.utf8.proofs.chars.long_len.Tie as tie
-use Rattle.utf8.proofs.chars.long_len.Reads as reads
-use Rattle.utf8.proofs.chars.long_len.Lts as lts
-use Rattle.prelude.proofs.slices.byte_at.Reads as byte-at-reads
-use Rattle.utf8.proofs.chars.four_bytes.Reads as four-bytes-reads
-use Rattle.utf8.proofs.chars.three_bytes.Reads as three-bytes-reads
-use Rattle.utf8.proofs.chars.two_bytes.Reads as two-bytes-reads
 use mathlib.Core.Path.{_≡_, refl, sym, _∙_}
 use Rattle.prelude.specs.Pick.{pick}
 use Rattle.utf8.specs.Utf8.{between, tail, second, lowOf, highOf, twoBytes, threeBytes, fourBytes, longLen}

@@ -1,7 +1,5 @@
 use Rattle.utf8.proofs.chars.low_of.Statement.{statement}
 use Rattle.utf8.proofs.chars.low_of.Tie as tie
-use Rattle.utf8.proofs.chars.low_of.Reads as reads
-use Rattle.utf8.proofs.chars.low_of.Lts as lts
 use mathlib.Core.Path.{_≡_, refl, sym, _∙_}
 use Rattle.prelude.specs.Pick.{pick}
 use Rattle.utf8.specs.Utf8.{between, tail, second, lowOf, highOf, twoBytes, threeBytes, fourBytes, longLen}

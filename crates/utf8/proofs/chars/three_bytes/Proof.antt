@@ -1,11 +1,6 @@
 use borrow.Author.Needs.{needs}
 use Rattle.utf8.proofs.chars.three_bytes.Statement.{statement}
 use Rattle.utf8.proofs.chars.three_bytes.Tie as tie
-use Rattle.utf8.proofs.chars.three_bytes.Reads as reads
-use Rattle.utf8.proofs.chars.three_bytes.Lts as lts
-use Rattle.utf8.proofs.chars.high_of.Reads as high-of-reads
-use Rattle.utf8.proofs.chars.in_range.Reads as in-range-reads
-use Rattle.utf8.proofs.chars.low_of.Reads as low-of-reads
 use mathlib.Core.Path.{_≡_, refl, sym, _∙_}
 use Rattle.prelude.specs.Pick.{pick}
 use Rattle.utf8.specs.Utf8.{between, tail, second, lowOf, highOf, twoBytes, threeBytes, fourBytes, longLen}

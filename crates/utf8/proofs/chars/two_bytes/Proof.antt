@@ -1,9 +1,6 @@
 use borrow.Author.Needs.{needs}
 use Rattle.utf8.proofs.chars.two_bytes.Statement.{statement}
 use Rattle.utf8.proofs.chars.two_bytes.Tie as tie
-use Rattle.utf8.proofs.chars.two_bytes.Reads as reads
-use Rattle.utf8.proofs.chars.two_bytes.Lts as lts
-use Rattle.utf8.proofs.chars.in_range.Reads as in-range-reads
 use mathlib.Core.Path.{_≡_, refl, sym, _∙_}
 use Rattle.prelude.specs.Pick.{pick}
 use Rattle.utf8.specs.Utf8.{between, tail, second, lowOf, highOf, twoBytes, threeBytes, fourBytes, longLen}

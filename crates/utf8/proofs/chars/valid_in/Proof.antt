@@ -1,10 +1,5 @@
 use Rattle.utf8.proofs.chars.valid_in.Statement.{statement}
 use Rattle.utf8.proofs.chars.valid_in.Tie as tie
-use Rattle.utf8.proofs.chars.valid_in.Reads as reads
-use Rattle.utf8.proofs.chars.valid_in.Lts as lts
-use Rattle.utf8.proofs.chars.long_len.Reads as long-len-reads
-use Rattle.utf8.proofs.classes.class_in.Reads as class-in-reads
-use Rattle.utf8.proofs.classes.eights.Reads as eights-reads
 use denote.Ref.{now}
 use native.Mathlib.Omega.{arith}
 use Prim.Native.Nat.{_+_, _-_}

@@ -1,8 +1,6 @@
 use borrow.Author.Needs.{needs}
 use Rattle.utf8.proofs.classes.class_in.Statement.{statement}
 use Rattle.utf8.proofs.classes.class_in.Tie as tie
-use Rattle.utf8.proofs.classes.class_in.Reads as reads
-use Rattle.utf8.proofs.classes.class_in.Lts as lts
 use native.Mathlib.Omega.{arith}
 
 element-copy-out-result : tie.Need-element-copy-out-result

@@ -1,8 +1,5 @@
 use Rattle.utf8.proofs.classes.eights.Statement.{statement}
 use Rattle.utf8.proofs.classes.eights.Tie as tie
-use Rattle.utf8.proofs.classes.eights.Reads as reads
-use Rattle.utf8.proofs.classes.eights.Lts as lts
-use Rattle.utf8.proofs.classes.plain_eight.Reads as plain-eight-reads
 use Prim.Native.Nat.{ℕ, _+_, _-_, _*_, _/_, _≤_, _<_}
 use mathlib.Core.List.{List}
 use mathlib.Core.Path.{_≡_, refl, sym, _∙_}

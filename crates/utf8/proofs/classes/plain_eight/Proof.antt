@@ -1,9 +1,6 @@
 use borrow.Author.Needs.{needs}
 use Rattle.utf8.proofs.classes.plain_eight.Statement.{statement}
 use Rattle.utf8.proofs.classes.plain_eight.Tie as tie
-use Rattle.utf8.proofs.classes.plain_eight.Reads as reads
-use Rattle.utf8.proofs.classes.plain_eight.Lts as lts
-use Rattle.utf8.proofs.classes.class_in.Reads as class-in-reads
 use lib.Bits.{bitOr}
 use lib.ListN.{length, getD, drop}
 use lib.Dec.{leb, eqb}

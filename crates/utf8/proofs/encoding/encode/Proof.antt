@@ -1,8 +1,6 @@
 use borrow.Author.Needs.{needs}
 use Rattle.utf8.proofs.encoding.encode.Statement.{statement}
 use Rattle.utf8.proofs.encoding.encode.Tie as tie
-use Rattle.utf8.proofs.encoding.encode.Reads as reads
-use Rattle.utf8.proofs.encoding.encode.Lts as lts
 use Rattle.utf8.specs.Utf8.{encode}
 use Rattle.prelude.proofs.Picks.{picks}
 
