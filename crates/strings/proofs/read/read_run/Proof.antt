@@ -10,7 +10,7 @@ sub-count c =
 
 returns : tie.Need-returns
 returns c =
-    run-tight _ _ _ _ _ (c .before .before .before .pre .0) (c .before .before .before .pre .1) (c .before .before .before .pre .2) (c .if1 .taken)
+    run-tight _ _ _ _ _ (c .before .before .before .pre .0) (c .before .before .before .pre .1) (c .before .before .before .pre .2) (omega arith)
 
 copy-run-requires : tie.Need-copy-run-requires
 copy-run-requires c κs =
@@ -21,7 +21,7 @@ same-length c = search needs
 
 returns-2 : tie.Need-returns-2
 returns-2 c =
-    run-good _ _ _ _ _ (c .before .before .before .before .before .before .before .pre .0) (c .before .before .before .before .before .before .before .pre .1) (c .before .before .before .before .before .before .before .pre .2) _ (c .before .before .before .before .if1 .left) (c .before .before .copy-run .ensures)
+    run-good _ _ _ _ _ (c .before .before .before .before .before .before .before .pre .0) (c .before .before .before .before .before .before .before .pre .1) (c .before .before .before .before .before .before .before .pre .2) _ (omega arith) (c .before .before .copy-run .ensures)
 
 pub read-run-spec : {M : Type 1} → statement M
 read-run-spec = tie.close (tie.spec sub-count returns copy-run-requires same-length returns-2)

@@ -10,7 +10,7 @@ add-if1 c = search needs
 
 returns : tie.Need-returns
 returns c =
-    literal-full (now (c .before .before .before .args .s)) (now (c .before .before .before .args .out)) (c .before .before .before .pre) (c .if1 .taken)
+    literal-full (now (c .before .before .before .args .s)) (now (c .before .before .before .args .out)) (c .before .before .before .pre) (omega arith)
 
 put-requires : tie.Need-put-requires
 put-requires c κs = search needs
@@ -32,7 +32,7 @@ same-length c = search needs
 
 returns-2 : tie.Need-returns-2
 returns-2 c =
-    literal-wrote (now (c .before .before .before .before .before .before .before .before .before .before .before .before .before .before .before .args .s)) (now (c .before .before .before .before .before .before .before .before .before .before .before .before .before .before .before .args .out)) (c .before .before .before .before .before .before .before .before .before .before .before .before .before .before .before .pre) (c .before .before .before .before .before .before .before .before .before .before .before .before .if1 .left) (c .before .before .before .before .before .before .before .before .before .before .put .ensures) (c .before .before .before .before .before .before .copy-run .ensures) (c .before .before .put2 .ensures)
+    literal-wrote (now (c .before .before .before .before .before .before .before .before .before .before .before .before .before .before .before .args .s)) (now (c .before .before .before .before .before .before .before .before .before .before .before .before .before .before .before .args .out)) (c .before .before .before .before .before .before .before .before .before .before .before .before .before .before .before .pre) (omega arith) (c .before .before .before .before .before .before .before .before .before .before .put .ensures) (c .before .before .before .before .before .before .copy-run .ensures) (c .before .before .put2 .ensures)
 
 pub write-literal-spec : {M : Type 1} → statement M
 write-literal-spec =
