@@ -1,3 +1,5 @@
+-- Each answer of `read` becomes the struct, case by case (Conversions).
+-- Assumes nothing.
 use borrow.Author.Needs.{needs}
 use Rattle.j8.proofs.j8_string_read.Statement.{statement}
 use Rattle.j8.proofs.j8_string_read.Tie as tie

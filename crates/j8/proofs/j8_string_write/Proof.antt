@@ -1,3 +1,5 @@
+-- Each answer of `write` becomes the struct, case by case (Conversions).
+-- Assumes nothing.
 use borrow.Author.Needs.{needs}
 use Rattle.j8.proofs.j8_string_write.Statement.{statement}
 use Rattle.j8.proofs.j8_string_write.Tie as tie

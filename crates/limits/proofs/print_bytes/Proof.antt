@@ -1,3 +1,5 @@
+-- The loop counts up to the length; nothing else is asked.
+-- Assumes nothing.
 use Rattle.limits.proofs.print_bytes.Statement.{statement}
 use Rattle.limits.proofs.print_bytes.Tie as tie
 use Prim.Native.Nat.{_≤_, _-_}

@@ -1,3 +1,5 @@
+-- The room was tested, so the part that is lent lies in the buffer.
+-- Assumes nothing.
 use borrow.Author.Needs.{needs}
 use Rattle.limits.proofs.read_into.Statement.{statement}
 use Rattle.limits.proofs.read_into.Tie as tie

@@ -1,3 +1,5 @@
+-- The size was tested, and a store keeps the text's length.
+-- Assumes nothing.
 use borrow.Author.Needs.{needs}
 use Rattle.limits.proofs.read_long.Statement.{statement}
 use Rattle.limits.proofs.read_long.Tie as tie

@@ -1,3 +1,5 @@
+-- Inside the text it is the byte of the rest; past the end the rest has none, which reads as 0.
+-- Assumes nothing.
 use denote.Ref.{now}
 use native.Mathlib.Omega.{arith}
 use mathlib.Core.Path.{sym}

@@ -1,3 +1,5 @@
+-- The invariant: the first i bytes are stored; at the end as many are as there is room for, and the others would change nothing.
+-- Assumes nothing.
 use Rattle.prelude.proofs.slices.copy_run.Statement.{statement}
 use Rattle.prelude.proofs.slices.copy_run.Tie as tie
 use Prim.Native.Nat.{ℕ, _+_, _-_, _*_, _≤_, _<_}

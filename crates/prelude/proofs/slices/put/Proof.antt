@@ -1,3 +1,5 @@
+-- A store past the end changes nothing.
+-- Assumes nothing.
 use lib.Seq.{set-out}
 use borrow.Author.Needs.{needs}
 use Rattle.prelude.proofs.slices.put.Statement.{statement}

@@ -1,3 +1,5 @@
+-- The tests say that the closing quote stands there and is the last byte.
+-- Assumes nothing.
 use borrow.Author.Needs.{needs}
 use Rattle.strings.proofs.read.closes.Statement.{statement}
 use Rattle.strings.proofs.read.closes.Tie as tie

@@ -1,3 +1,5 @@
+-- The definition's decision list, by the two bytes looked at.
+-- Assumes nothing.
 use borrow.Author.Needs.{needs}
 use Rattle.strings.proofs.read.mark_at.Statement.{statement}
 use Rattle.strings.proofs.read.mark_at.Tie as tie

@@ -1,3 +1,5 @@
+-- The cap, then the mark; each way is the definition's (WholeTexts).
+-- Assumes nothing.
 use borrow.Author.Needs.{needs}
 use Rattle.strings.proofs.read.read.Statement.{statement}
 use Rattle.strings.proofs.read.read.Tie as tie

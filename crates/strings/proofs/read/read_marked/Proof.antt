@@ -1,3 +1,5 @@
+-- The run from the place on is the rest of the run from the mark on; then one copy or two passes.
+-- Assumes nothing.
 use borrow.Author.Needs.{needs}
 use Rattle.strings.proofs.read.read_marked.Statement.{statement}
 use Rattle.strings.proofs.read.read_marked.Tie as tie

@@ -1,3 +1,5 @@
+-- What the blocks passed is the beginning of the run; with or without the table the answer is the definition's.
+-- Assumes nothing.
 use borrow.Author.Needs.{needs}
 use Rattle.strings.proofs.read.read_open.Statement.{statement}
 use Rattle.strings.proofs.read.read_open.Tie as tie

@@ -1,3 +1,5 @@
+-- The whole string is one run, so its bytes are the run's (WholeTexts).
+-- Assumes nothing.
 use borrow.Author.Needs.{needs}
 use Rattle.strings.proofs.read.read_run.Statement.{statement}
 use Rattle.strings.proofs.read.read_run.Tie as tie

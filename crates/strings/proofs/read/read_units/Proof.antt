@@ -1,3 +1,5 @@
+-- The invariant `Kept`: what is decoded is stored, and the rest is still to be read; a turn adds a run and a unit.
+-- Assumes nothing.
 use Rattle.strings.proofs.read.read_units.Statement.{statement}
 use Rattle.strings.proofs.read.read_units.Tie as tie
 use denote.Ref.{now}

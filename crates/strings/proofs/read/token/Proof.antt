@@ -1,3 +1,5 @@
+-- With a mark it is what `read_units` promises, and without one refusal 3 (WholeTexts).
+-- Assumes nothing.
 use borrow.Author.Needs.{needs}
 use Rattle.strings.proofs.read.token.Statement.{statement}
 use Rattle.strings.proofs.read.token.Tie as tie

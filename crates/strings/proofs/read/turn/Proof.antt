@@ -1,3 +1,5 @@
+-- A run that is copied and the unit behind it are the definition's turn (Reading).
+-- Assumes nothing.
 use borrow.Author.Needs.{needs}
 use Rattle.strings.proofs.read.turn.Statement.{statement}
 use Rattle.strings.proofs.read.turn.Tie as tie

@@ -1,3 +1,5 @@
+-- The first pass has no room and leaves the buffer as it was; what it judged is what the second stores (WholeTexts).
+-- Assumes nothing.
 use borrow.Author.Needs.{needs}
 use Rattle.strings.proofs.read.two_passes.Statement.{statement}
 use Rattle.strings.proofs.read.two_passes.Tie as tie

@@ -1,3 +1,5 @@
+-- Each kind of unit is its own step, and its bytes are those stored (Reading).
+-- Assumes nothing.
 use borrow.Author.Needs.{needs}
 use Rattle.strings.proofs.read.unit_turn.Statement.{statement}
 use Rattle.strings.proofs.read.unit_turn.Tie as tie

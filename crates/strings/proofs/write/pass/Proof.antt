@@ -1,3 +1,5 @@
+-- The invariant `Writing`: what is written, and then the text of the rest; so the count passes the room exactly if the text does.
+-- Assumes nothing.
 use Rattle.strings.proofs.write.pass.Statement.{statement}
 use Rattle.strings.proofs.write.pass.Tie as tie
 use denote.Ref.{now}

@@ -1,3 +1,5 @@
+-- Style by style, the bytes copied are the mark.
+-- Assumes nothing.
 use borrow.Author.Needs.{needs}
 use Rattle.strings.proofs.write.put_mark.Statement.{statement}
 use Rattle.strings.proofs.write.put_mark.Tie as tie

@@ -1,3 +1,5 @@
+-- A text is no longer than its style's longest escape for each byte, and its marks.
+-- Assumes nothing.
 use borrow.Author.Needs.{needs}
 use Rattle.strings.proofs.write.roomy.Statement.{statement}
 use Rattle.strings.proofs.write.roomy.Tie as tie

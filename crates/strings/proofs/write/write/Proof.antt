@@ -1,3 +1,5 @@
+-- Where blocks reach the end, the data is one run; otherwise it is what `write_from` promises.
+-- Assumes nothing.
 use borrow.Author.Needs.{needs}
 use Rattle.strings.proofs.write.write.Statement.{statement}
 use Rattle.strings.proofs.write.write.Tie as tie

@@ -1,3 +1,5 @@
+-- One run to the end is valid and needs no escape; otherwise validity picks the form (Writing).
+-- Assumes nothing.
 use borrow.Author.Needs.{needs}
 use Rattle.strings.proofs.write.write_from.Statement.{statement}
 use Rattle.strings.proofs.write.write_from.Tie as tie

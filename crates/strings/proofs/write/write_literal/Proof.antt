@@ -1,3 +1,5 @@
+-- Data that is one run needs no escape: its text is a quote, the data and a quote (Writing).
+-- Assumes nothing.
 use borrow.Author.Needs.{needs}
 use Rattle.strings.proofs.write.write_literal.Statement.{statement}
 use Rattle.strings.proofs.write.write_literal.Tie as tie

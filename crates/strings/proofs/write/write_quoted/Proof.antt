@@ -1,3 +1,5 @@
+-- The first pass measures over no buffer and the second stores; where the room surely suffices, one does both (Writing).
+-- Assumes nothing.
 use borrow.Author.Needs.{needs}
 use Rattle.strings.proofs.write.write_quoted.Statement.{statement}
 use Rattle.strings.proofs.write.write_quoted.Tie as tie

@@ -1,3 +1,5 @@
+-- A block that passes is literal characters, so the run goes on behind it (BlockLaws).
+-- Assumes nothing.
 use Rattle.units.proofs.blocks.alone_blocks.Statement.{statement}
 use Rattle.units.proofs.blocks.alone_blocks.Tie as tie
 use Prim.Native.Nat.{_-_}

@@ -1,3 +1,5 @@
+-- The invariant: if nothing was found, the first k bytes stand for themselves.
+-- Assumes nothing.
 use Rattle.units.proofs.blocks.any_odd.Statement.{statement}
 use Rattle.units.proofs.blocks.any_odd.Tie as tie
 use Prim.Native.Nat.{_+_, _-_, _≤_}

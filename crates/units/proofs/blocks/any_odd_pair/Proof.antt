@@ -1,3 +1,5 @@
+-- The invariant: if nothing was found, the first k pairs are in order.
+-- Assumes nothing.
 use Rattle.units.proofs.blocks.any_odd_pair.Statement.{statement}
 use Rattle.units.proofs.blocks.any_odd_pair.Tie as tie
 use Prim.Native.Nat.{_+_, _-_, _≤_}

@@ -1,3 +1,5 @@
+-- By the test of the byte.
+-- Assumes nothing.
 use borrow.Author.Needs.{needs}
 use Rattle.units.proofs.blocks.behind.Statement.{statement}
 use Rattle.units.proofs.blocks.behind.Tie as tie

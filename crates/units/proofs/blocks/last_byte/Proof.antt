@@ -1,3 +1,5 @@
+-- A last byte that isn't odd is one literal character (BlockLaws).
+-- Assumes nothing.
 use borrow.Author.Needs.{needs}
 use Rattle.units.proofs.blocks.last_byte.Statement.{statement}
 use Rattle.units.proofs.blocks.last_byte.Tie as tie

@@ -1,3 +1,5 @@
+-- The last block holds what is left, so the run reaches its end (BlockLaws).
+-- Assumes nothing.
 use borrow.Author.Needs.{needs}
 use Rattle.units.proofs.blocks.last_pairs.Statement.{statement}
 use Rattle.units.proofs.blocks.last_pairs.Tie as tie

@@ -1,3 +1,5 @@
+-- Of a byte at which every test fails, each test's opposite holds.
+-- Assumes nothing.
 use Rattle.units.proofs.blocks.odd.Statement.{statement}
 use Rattle.units.proofs.blocks.odd.Tie as tie
 use Rattle.units.proofs.BlockLaws.{alone}

@@ -1,3 +1,5 @@
+-- Of a pair at which every test fails, each test's opposite holds.
+-- Assumes nothing.
 use borrow.Author.Needs.{needs}
 use Rattle.units.proofs.blocks.odd_pair.Statement.{statement}
 use Rattle.units.proofs.blocks.odd_pair.Tie as tie

@@ -1,3 +1,5 @@
+-- A block of pairs that passes is literal characters up to its end, or one byte further (BlockLaws).
+-- Assumes nothing.
 use Rattle.units.proofs.blocks.pair_blocks.Statement.{statement}
 use Rattle.units.proofs.blocks.pair_blocks.Tie as tie
 use Prim.Native.Nat.{_-_}

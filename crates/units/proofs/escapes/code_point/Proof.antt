@@ -1,3 +1,5 @@
+-- Style by style, what the callee promises.
+-- Assumes nothing.
 use borrow.Author.Needs.{needs}
 use Rattle.units.proofs.escapes.code_point.Statement.{statement}
 use Rattle.units.proofs.escapes.code_point.Tie as tie

@@ -1,3 +1,5 @@
+-- The table's pairs, one test each.
+-- Assumes nothing.
 use Rattle.units.proofs.escapes.common.Statement.{statement}
 use Rattle.units.proofs.escapes.common.Tie as tie
 use Rattle.units.specs.Escapes.{lookup}

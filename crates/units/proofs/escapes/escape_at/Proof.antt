@@ -1,3 +1,5 @@
+-- The definition's decision list on the byte behind the backslash, which is 0 past the end (EscapeLaws).
+-- Assumes nothing.
 use borrow.Author.Needs.{needs}
 use Rattle.units.proofs.escapes.escape_at.Statement.{statement}
 use Rattle.units.proofs.escapes.escape_at.Tie as tie

@@ -1,3 +1,5 @@
+-- By the count of the digits (EscapeLaws).
+-- Assumes nothing.
 use borrow.Author.Needs.{needs}
 use Rattle.units.proofs.escapes.four_digits.Statement.{statement}
 use Rattle.units.proofs.escapes.four_digits.Tie as tie

@@ -1,3 +1,5 @@
+-- Each return by the part of the test that failed, or by all that hold (EscapeLaws).
+-- Assumes nothing.
 use borrow.Author.Needs.{needs}
 use Rattle.units.proofs.escapes.low_half.Statement.{statement}
 use Rattle.units.proofs.escapes.low_half.Tie as tie

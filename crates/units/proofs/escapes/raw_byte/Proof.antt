@@ -1,3 +1,5 @@
+-- Style by style, as the definition has it.
+-- Assumes nothing.
 use borrow.Author.Needs.{needs}
 use Rattle.units.proofs.escapes.raw_byte.Statement.{statement}
 use Rattle.units.proofs.escapes.raw_byte.Tie as tie

@@ -1,3 +1,5 @@
+-- The definition's tests, each decided by a test of the code.
+-- Assumes nothing.
 use borrow.Author.Needs.{needs}
 use Rattle.units.proofs.escapes.scalar.Statement.{statement}
 use Rattle.units.proofs.escapes.scalar.Tie as tie

@@ -1,3 +1,5 @@
+-- By whether the letter denotes a byte.
+-- Assumes nothing.
 use borrow.Author.Needs.{needs}
 use Rattle.units.proofs.escapes.short.Statement.{statement}
 use Rattle.units.proofs.escapes.short.Tie as tie

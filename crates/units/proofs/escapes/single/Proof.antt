@@ -1,3 +1,5 @@
+-- The quote's pair first, then the pairs of every style.
+-- Assumes nothing.
 use borrow.Author.Needs.{needs}
 use Rattle.units.proofs.escapes.single.Statement.{statement}
 use Rattle.units.proofs.escapes.single.Tie as tie

@@ -1,3 +1,5 @@
+-- The invariant `Kept`: the digits so far and their number, and the rest still to be read (HexLaws).
+-- Assumes nothing.
 use Rattle.units.proofs.hex.digits_at.Statement.{statement}
 use Rattle.units.proofs.hex.digits_at.Tie as tie
 use native.Mathlib.Omega.{arith}

@@ -1,3 +1,5 @@
+-- A character at a time, the run goes on by its length, and it stops where that is 0 (LiteralRuns).
+-- Assumes nothing.
 use Rattle.units.proofs.literals.chars_before.Statement.{statement}
 use Rattle.units.proofs.literals.chars_before.Tie as tie
 use Prim.Native.Nat.{_-_, _<_}

@@ -1,3 +1,5 @@
+-- Characters of one, two and three bytes that their class and followers show to be literal in every style (LiteralClasses).
+-- Assumes nothing.
 use Rattle.units.proofs.literals.common_before.Statement.{statement}
 use Rattle.units.proofs.literals.common_before.Tie as tie
 use Prim.Native.Nat.{_-_, _≤_, _<_}

@@ -1,3 +1,5 @@
+-- What the class tells of the byte, way by way (LiteralClasses).
+-- Assumes nothing.
 use borrow.Author.Needs.{needs}
 use Rattle.units.proofs.literals.literal_len.Statement.{statement}
 use Rattle.units.proofs.literals.literal_len.Tie as tie

@@ -1,3 +1,5 @@
+-- Blocks and characters each leave the run's end where it was, until a character that isn't literal or the text's end is reached (LiteralRuns).
+-- Assumes nothing.
 use Rattle.units.proofs.literals.literal_run.Statement.{statement}
 use Rattle.units.proofs.literals.literal_run.Tie as tie
 use Prim.Native.Nat.{_-_}

@@ -1,3 +1,5 @@
+-- By the test of the byte behind.
+-- Assumes nothing.
 use borrow.Author.Needs.{needs}
 use Rattle.units.proofs.literals.one_follows.Statement.{statement}
 use Rattle.units.proofs.literals.one_follows.Tie as tie

@@ -1,3 +1,5 @@
+-- Eights are plain and blocks are literal; both leave the run's end where it was.
+-- Assumes nothing.
 use borrow.Author.Needs.{needs}
 use Rattle.units.proofs.literals.several.Statement.{statement}
 use Rattle.units.proofs.literals.several.Tie as tie

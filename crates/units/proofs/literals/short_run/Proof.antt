@@ -1,3 +1,5 @@
+-- The run ends among the first bytes, or where `literal_run` says.
+-- Assumes nothing.
 use Rattle.units.proofs.literals.short_run.Statement.{statement}
 use Rattle.units.proofs.literals.short_run.Tie as tie
 use native.Mathlib.Omega.{arith}

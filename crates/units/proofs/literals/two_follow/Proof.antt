@@ -1,3 +1,5 @@
+-- By the tests of the two bytes behind.
+-- Assumes nothing.
 use borrow.Author.Needs.{needs}
 use Rattle.units.proofs.literals.two_follow.Statement.{statement}
 use Rattle.units.proofs.literals.two_follow.Tie as tie

@@ -1,3 +1,5 @@
+-- The four bytes one by one, of which the first n count (UnitLaws).
+-- Assumes nothing.
 use borrow.Author.Needs.{needs}
 use Rattle.units.proofs.units.few_at.Statement.{statement}
 use Rattle.units.proofs.units.few_at.Tie as tie

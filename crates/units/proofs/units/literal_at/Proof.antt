@@ -1,3 +1,5 @@
+-- The character check's answer, case by case (UnitLaws).
+-- Assumes nothing.
 use borrow.Author.Needs.{needs}
 use Rattle.units.proofs.units.literal_at.Statement.{statement}
 use Rattle.units.proofs.units.literal_at.Tie as tie

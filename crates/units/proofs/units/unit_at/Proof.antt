@@ -1,3 +1,5 @@
+-- The definition's decision list on the byte that stands there (UnitLaws).
+-- Assumes nothing.
 use borrow.Author.Needs.{needs}
 use Rattle.units.proofs.units.unit_at.Statement.{statement}
 use Rattle.units.proofs.units.unit_at.Tie as tie

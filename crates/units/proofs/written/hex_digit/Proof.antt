@@ -1,3 +1,5 @@
+-- The definition's decision list, by the tests that led to each return.
+-- Assumes nothing.
 use borrow.Author.Needs.{needs}
 use Rattle.units.proofs.written.hex_digit.Statement.{statement}
 use Rattle.units.proofs.written.hex_digit.Tie as tie

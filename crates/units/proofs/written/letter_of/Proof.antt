@@ -1,3 +1,5 @@
+-- The table's pairs, one test each.
+-- Assumes nothing.
 use borrow.Author.Needs.{needs}
 use Rattle.units.proofs.written.letter_of.Statement.{statement}
 use Rattle.units.proofs.written.letter_of.Tie as tie

@@ -1,3 +1,5 @@
+-- Style by style.
+-- Assumes nothing.
 use borrow.Author.Needs.{needs}
 use Rattle.units.proofs.written.number_len.Statement.{statement}
 use Rattle.units.proofs.written.number_len.Tie as tie

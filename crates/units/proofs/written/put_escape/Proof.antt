@@ -1,3 +1,5 @@
+-- By letter or by number (EscapeStores).
+-- Assumes nothing.
 use borrow.Author.Needs.{needs}
 use Rattle.units.proofs.written.put_escape.Statement.{statement}
 use Rattle.units.proofs.written.put_escape.Tie as tie

@@ -1,3 +1,5 @@
+-- Style by style, the bytes copied are the definition's (EscapeStores).
+-- Assumes nothing.
 use borrow.Author.Needs.{needs}
 use Rattle.units.proofs.written.put_number.Statement.{statement}
 use Rattle.units.proofs.written.put_number.Tie as tie

@@ -1,3 +1,5 @@
+-- No store, one, or both, by the room; a store past the end changes nothing.
+-- Assumes nothing.
 use borrow.Author.Needs.{needs}
 use Rattle.units.proofs.written.put_two.Statement.{statement}
 use Rattle.units.proofs.written.put_two.Tie as tie

@@ -1,3 +1,5 @@
+-- The definition's decision list on the class of the byte that stands there (CharSteps).
+-- Assumes nothing.
 use borrow.Author.Needs.{needs}
 use Rattle.utf8.proofs.chars.char_at.Statement.{statement}
 use Rattle.utf8.proofs.chars.char_at.Tie as tie

@@ -1,3 +1,5 @@
+-- Each test of the definition is a test of the code.
+-- Assumes nothing.
 use borrow.Author.Needs.{needs}
 use Rattle.utf8.proofs.chars.four_bytes.Statement.{statement}
 use Rattle.utf8.proofs.chars.four_bytes.Tie as tie

@@ -1,3 +1,5 @@
+-- The definition's decision list, by the tests that led to each return.
+-- Assumes nothing.
 use Rattle.utf8.proofs.chars.high_of.Statement.{statement}
 use Rattle.utf8.proofs.chars.high_of.Tie as tie
 use mathlib.Core.Path.{_≡_, refl, sym, _∙_}

@@ -1,3 +1,5 @@
+-- By the tests that led to each return.
+-- Assumes nothing.
 use Rattle.utf8.proofs.chars.in_range.Statement.{statement}
 use Rattle.utf8.proofs.chars.in_range.Tie as tie
 use mathlib.Core.Path.{_≡_, refl, sym, _∙_}

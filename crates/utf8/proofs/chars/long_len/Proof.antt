@@ -1,3 +1,5 @@
+-- The definition's decision list, with the bytes that were read.
+-- Assumes nothing.
 use borrow.Author.Needs.{needs}
 use Rattle.utf8.proofs.chars.long_len.Statement.{statement}
 use Rattle.utf8.proofs.chars.long_len.Tie as tie

@@ -1,3 +1,5 @@
+-- The invariant `Checked`: what is left is valid exactly if the whole is (Validity).
+-- Assumes nothing.
 use Rattle.utf8.proofs.chars.valid_in.Statement.{statement}
 use Rattle.utf8.proofs.chars.valid_in.Tie as tie
 use denote.Ref.{now}

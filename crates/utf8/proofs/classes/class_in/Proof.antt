@@ -1,3 +1,5 @@
+-- The lent table's rule at the byte.
+-- Assumes nothing.
 use borrow.Author.Needs.{needs}
 use Rattle.utf8.proofs.classes.class_in.Statement.{statement}
 use Rattle.utf8.proofs.classes.class_in.Tie as tie

@@ -1,3 +1,5 @@
+-- The invariant: whole eights were passed, and the run of plain bytes ends where it did.
+-- Assumes nothing.
 use Rattle.utf8.proofs.classes.eights.Statement.{statement}
 use Rattle.utf8.proofs.classes.eights.Tie as tie
 use Prim.Native.Nat.{ℕ, _+_, _-_, _*_, _/_, _≤_, _<_}

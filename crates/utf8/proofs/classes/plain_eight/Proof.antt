@@ -1,3 +1,5 @@
+-- Eight classes or-ed are 0 exactly if each is (PlainRuns).
+-- Assumes nothing.
 use borrow.Author.Needs.{needs}
 use Rattle.utf8.proofs.classes.plain_eight.Statement.{statement}
 use Rattle.utf8.proofs.classes.plain_eight.Tie as tie

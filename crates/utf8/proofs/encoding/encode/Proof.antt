@@ -1,3 +1,5 @@
+-- Each pattern by its bound; every byte fits, since the code point is below 110000.
+-- Assumes nothing.
 use borrow.Author.Needs.{needs}
 use Rattle.utf8.proofs.encoding.encode.Statement.{statement}
 use Rattle.utf8.proofs.encoding.encode.Tie as tie
