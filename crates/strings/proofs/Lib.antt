@@ -10,3 +10,4 @@ pub mod Steps
 pub mod Utf8Denoted
 pub mod WholeTexts
 pub mod Writing
+pub mod Tokens

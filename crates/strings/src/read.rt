@@ -140,6 +140,25 @@ pub fn token(t: &[u8; 256], s: &[u8], out: &mut [u8]) -> Token
     }
 }
 
+// Reads the J8 string that a text begins with, whatever follows it: its bytes in front of out, or a refusal and out as it was.
+pub fn read_token(s: &[u8], out: &mut [u8]) -> Token
+    ensures answer { λ r. ⌜ r ≡ tokenOf (fitted (length (now (out .entry))) (readToken (now (s .entry)))) ⌝ }
+    ensures stored { λ r. ⌜ now (out .exit) ≡ readInto (fitted (length (now (out .entry))) (readToken (now (s .entry)))) (now (out .entry)) ⌝ }
+{
+    let t = classes::table();
+    let judged = token(&t, s, &mut out[..0]);
+    match judged {
+        Token::Ended(end, count) => {
+            if count > out.len() {
+                return Token::Failed(refusals::NO_ROOM, 0);
+            }
+            token(&t, s, out);
+            Token::Ended(end, count)
+        }
+        Token::Failed(number, place) => Token::Failed(number, place),
+    }
+}
+
 // The general case of a whole text: once to judge it, and once more to store its bytes.
 fn two_passes(t: &[u8; 256], s: &[u8], from: usize, style: Style, out: &mut [u8]) -> Decoded
     requires { ⌜ IsTable (now t) × (from ≤ length (now s)) ⌝ }
