@@ -2,6 +2,7 @@
 // answer, and the whole buffer afterwards, which was filled with aa before.
 use libc::STDOUT_FILENO;
 use strings::answers::Decoded;
+use strings::answers::Token;
 use strings::answers::Written;
 use strings::read;
 use strings::write;
@@ -52,6 +53,18 @@ fn print_decoded(answer: Decoded) {
     }
 }
 
+fn print_token(answer: Token) {
+    match answer {
+        Token::Ended(end, n) => {
+            print(b"end ");
+            print_number(end);
+            print(b", length ");
+            print_number(n);
+        }
+        Token::Failed(number, place) => print_decoded(Decoded::Refused(number, place)),
+    }
+}
+
 fn print_written(answer: Written) {
     match answer {
         Written::Wrote(n) => {
@@ -88,6 +101,17 @@ fn read_into(text: &[u8], room: usize, buffer: &mut [u8]) {
     print_buffer(buffer);
 }
 
+fn token_into(text: &[u8], room: usize, buffer: &mut [u8]) {
+    if buffer.len() < room {
+        return;
+    }
+    let answer = read::read_token(text, &mut buffer[..room]);
+    print(text);
+    print_room(room);
+    print_token(answer);
+    print_buffer(buffer);
+}
+
 fn write_into(bytes: &[u8], room: usize, buffer: &mut [u8]) {
     if buffer.len() < room {
         return;
@@ -115,6 +139,12 @@ fn write_bytes_into(bytes: &[u8], room: usize, buffer: &mut [u8]) {
 fn read_case(text: &[u8], room: usize) {
     let mut buffer = [0xaau8; 16];
     read_into(text, room, &mut buffer);
+}
+
+// Reads the string that a text begins with.
+fn token_case(text: &[u8], room: usize) {
+    let mut buffer = [0xaau8; 16];
+    token_into(text, room, &mut buffer);
 }
 
 // Writes data into the first `room` bytes of sixteen.
@@ -184,6 +214,16 @@ fn styles() {
     read_case(b"\"a", 16);
     read_case(b"\"a\" ", 16);
     read_case(b" \"a\"", 16);
+}
+
+fn tokens() {
+    print(b"tokens\n");
+    token_case(b"\"a\" x", 16);
+    token_case(b"'' ''", 16);
+    token_case(b"b'\\yff'\xff", 1);
+    token_case(b"\"ab\"c", 1);
+    token_case(b"b'\\yf'", 16);
+    token_case(b"x\"a\"", 16);
 }
 
 fn rooms() {
@@ -261,6 +301,7 @@ fn main() {
     code_points();
     halves();
     styles();
+    tokens();
     rooms();
     print(b"lengths\n");
     long_case(32767);
