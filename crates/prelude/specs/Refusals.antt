@@ -49,3 +49,11 @@ trailing = 11
 -- "all else is right, and the result is longer than the room"
 abbrev pub noRoom : ℕ
 noRoom = 12
+
+-- "upload: byte 1,048,577"
+abbrev pub overLimit : ℕ
+overLimit = 17
+
+-- "upload already ended"
+abbrev pub ended : ℕ
+ended = 18

@@ -23,3 +23,7 @@ pub const BYTE_ESCAPE: u32 = 10;
 pub const TRAILING: u32 = 11;
 
 pub const NO_ROOM: u32 = 12;
+
+pub const OVER_LIMIT: u32 = 17;
+
+pub const ENDED: u32 = 18;

@@ -240,6 +240,14 @@ module _ (s : List ℕ) (r : Written) (out new : List ℕ) where
   pub other-form : validUtf8 s ≡ false → Wrote-It (quoted Bytes s) out r new → Wrote-It (writeString s) out r new
   other-form e w = subst (λ (x : List ℕ). Wrote-It x out r new) (sym (other-text s e)) w
 
+pub valid-pass : (s : List ℕ) (room : ℕ) {v : Bool} {r : ℕ} {out new : List ℕ} → v ≡ validUtf8 s → v ≡ true → Passed (quoted Json s) room r out new
+    → Passed (writeString s) room r out new
+valid-pass s room {v} {r} {out} {new} e h w = subst (λ (x : List ℕ). Passed x room r out new) (sym (valid-text s (sym e ∙ h))) w
+
+pub other-pass : (s : List ℕ) (room : ℕ) {v : Bool} {r : ℕ} {out new : List ℕ} → v ≡ validUtf8 s → v ≡ false → Passed (quoted Bytes s) room r out new
+    → Passed (writeString s) room r out new
+other-pass s room {v} {r} {out} {new} e h w = subst (λ (x : List ℕ). Passed x room r out new) (sym (other-text s (sym e ∙ h))) w
+
 -- whether data is valid UTF-8, by what stands behind its first run of literal characters
 pub valid-behind : (s : List ℕ) (at e : ℕ) (r : Bool) → Running Json s 0 at → e ≡ at + literalRun Json 0 (drop at s)
     → r ≡ validUtf8 (take (length s - e) (drop e s)) → r ≡ validUtf8 s

@@ -39,7 +39,7 @@ pub enum Step {
 }
 
 // The mark that a text begins with.
-fn mark_at(s: &[u8]) -> Mark
+pub fn mark_at(s: &[u8]) -> Mark
     ensures { λ r. ⌜ openingOf r ≡ opening (now (s .entry)) ⌝ }
 {
     let a = slices::byte_at(s, 0, 0);

@@ -6,6 +6,7 @@ ghost use Prim.Native.Nat.{ℕ, _≤_};
 ghost use lib.ListN.{length};
 ghost use lib.Seq.{sets};
 ghost use Rattle.utf8.specs.Class.{IsTable};
+ghost use Rattle.utf8.specs.Utf8.{validUtf8};
 ghost use Rattle.units.specs.declared.styles.Style.the-variants.{Json};
 ghost use Rattle.units.specs.Blocks.{Running};
 ghost use Rattle.units.specs.Units.{literalRun};
@@ -79,6 +80,17 @@ fn pass(t: &[u8; 256], style: Style, s: &[u8], room: usize, out: &mut [u8]) -> u
     }
     slices::put(styles::quote_of(style), o, out);
     o + 1
+}
+
+// The same in the form that the data takes, by whether it is valid UTF-8.
+pub fn write_part(t: &[u8; 256], valid: bool, s: &[u8], room: usize, out: &mut [u8]) -> usize
+    requires { ⌜ IsTable (now t) × (valid ≡ validUtf8 (now s)) ⌝ }
+    ensures { λ r. ⌜ Passed (writeString (now (s .entry))) room r (now (out .entry)) (now (out .exit)) ⌝ }
+{
+    if valid {
+        return pass(t, Style::Json, s, room, out);
+    }
+    pass(t, Style::Bytes, s, room, out)
 }
 
 // Whether every text of n bytes of data in a style fits a room.

@@ -1,0 +1,150 @@
+-- The bare check in a loop: what is found from a place on is what is found in the whole, a character at a time.
+-- Assumes nothing.
+use mathlib.Core.Path.{_≡_, refl, sym, ap, _∙_}
+use mathlib.Core.Bool.{Bool, true, false}
+use mathlib.Core.List.{List, [], _∷_}
+use Prim.Native.Nat.{ℕ, zero, suc, pred, _+_, _-_, _*_, _/_, _≤_, _<_}
+use native.Mathlib.Omega.{arith}
+use borrow.Author.Tests.{eqb-true, eqb-false, lt-ltb, le-ltb, ltb-true, ltb-false, eq-eqb, ne-eqb}
+use lib.Dec.{ltb, eqb}
+use lib.ListN.{length, getD, drop, length-drop, drop-of-length-le}
+use lib.Seq.{drop-drop, drop-cons}
+use Rattle.prelude.specs.Pick.{pick}
+use Rattle.prelude.proofs.Cases.{split}
+use Rattle.utf8.specs.Class.{classOf, plainRun}
+use Rattle.utf8.specs.Utf8.{charLen, charBy, charAt, longLen}
+use Rattle.utf8.proofs.ByteClasses.{by-byte}
+use Rattle.utf8.proofs.PlainRuns.{run-within}
+use Rattle.utf8.proofs.CharSteps.{one-byte, lone-tail, long-char}
+use Rattle.utf8.proofs.Characters.{char-le}
+use Rattle.lines.specs.declared.bare.Checked.{Checked}
+use Rattle.lines.specs.declared.bare.Checked.the-variants.{Fine, Faulty}
+use Rattle.lines.specs.Line.{badChar, bareFault, unless, bareFrom, bare}
+
+pub bare-skip : (p k : ℕ) (s : List ℕ) → bareFrom p k s ≡ bareFrom p 0 (drop k s)
+unfolding bareFrom
+bare-skip p zero s = refl
+bare-skip p (suc k) [] = refl
+bare-skip p (suc k) (x ∷ r) = bare-skip p k r
+
+-- a control has class 1, and nothing else has
+class-control : (x : ℕ) → _≡_ {A = ℕ} (pick (eqb (classOf x) 1) 1 0) (pick (ltb x 32) 1 0)
+unfolding pick classOf
+class-control =
+    by-byte (λ k. pick (eqb k 1) 1 0) (λ b. pick (ltb b 32) 1 0) refl (λ a h. rw (le-ltb a 32 (omega arith)))
+
+is-control : (x : ℕ) → classOf x ≡ 1 → x < 32
+unfolding pick
+is-control x e =
+    split (ltb x 32) (λ b. ltb-true x 32 b)
+    (λ b. let z : _≡_ {A = ℕ} 1 0 = rw (eq-eqb (classOf x) 1 e, b) at (class-control x) in absurd (omega arith))
+
+no-control : (x : ℕ) → (classOf x ≡ 1 → ⊥) → 32 ≤ x
+unfolding pick
+no-control x e =
+    split (ltb x 32)
+    (λ b. let z : _≡_ {A = ℕ} 0 1 = rw (ne-eqb (classOf x) 1 e, b) at (class-control x) in absurd (omega arith))
+    (λ b. ltb-false x 32 b)
+
+-- a character that may stand
+fine : (x n : ℕ) (s : List ℕ) → (n ≡ 0 → ⊥) → (x < 32 → x ≡ 9) → bareFault x (charBy n s) ≡ 0
+unfolding bareFault pick
+fine x zero s h g = absurd (h refl)
+fine x (suc n) s h g =
+    split (ltb x 32) (λ b. simp (b, eq-eqb x 9 (g (ltb-true x 32 b)))) (λ b. rw b)
+
+bare-good : (p n : ℕ) (s : List ℕ) → 0 < length s → charLen s ≡ n → (n ≡ 0 → ⊥) → (getD s 0 0 < 32 → getD s 0 0 ≡ 9)
+    → bareFrom p 0 s ≡ bareFrom (p + n) 0 (drop n s)
+unfolding bareFrom
+bare-good p n [] h e z g = absurd (omega arith)
+bare-good p zero (x ∷ r) h e z g = absurd (z refl)
+bare-good p (suc n) (x ∷ r) h e z g = rw (e, fine x (suc n) (x ∷ r) z g) (bare-skip (p + suc n) n r)
+
+bare-stuck : (p : ℕ) (s : List ℕ) → 0 < length s → charLen s ≡ 0 → 32 ≤ getD s 0 0 → bareFrom p 0 s ≡ Faulty 5 p
+unfolding bareFrom bareFault pick
+bare-stuck p [] h e g = absurd (omega arith)
+bare-stuck p (x ∷ r) h e g = simp (e, le-ltb x 32 g)
+
+bare-control : (p : ℕ) (s : List ℕ) → 0 < length s → getD s 0 0 < 32 → (getD s 0 0 ≡ 9 → ⊥) → bareFrom p 0 s ≡ Faulty 6 p
+unfolding bareFrom bareFault pick
+bare-control p [] h l g = absurd (omega arith)
+bare-control p (x ∷ r) h l g = simp (lt-ltb x 32 l, ne-eqb x 9 g)
+
+-- plain bytes in front are taken off
+bare-plain : (n p : ℕ) (s : List ℕ) → n ≤ plainRun s → bareFrom p 0 s ≡ bareFrom (p + n) 0 (drop n s)
+unfolding plainRun pick
+bare-plain zero p s h = ap (λ (q : ℕ). bareFrom q 0 s) (let z : p ≡ p + 0 = omega arith in z)
+bare-plain (suc n) p [] h = absurd (omega arith)
+bare-plain (suc n) p (x ∷ r) h =
+    split (eqb (classOf x) 0)
+    (λ e. let k : classOf x ≡ 0 = eqb-true (classOf x) 0 e in
+    let l : 32 ≤ x = no-control x (λ z. omega arith) in
+    let q : p + 1 + n ≡ p + suc n = omega arith in
+    bare-good p 1 (x ∷ r) (omega arith) (one-byte (x ∷ r) 0 (classOf x) (omega arith) refl (omega arith)) (λ z. omega arith) (λ g. absurd (omega arith))
+    ∙ bare-plain n (p + 1) r (omega (arith, rw e at h)) ∙ ap (λ (m : ℕ). bareFrom m 0 (drop n r)) q)
+    (λ e. absurd (omega (arith, rw e at h)))
+
+-- the loop's invariant at a place
+pub record Passing (s : List ℕ) (at : ℕ) : Type 0 where
+  pub inside : at ≤ length s
+  pub same : bare s ≡ bareFrom at 0 (drop at s)
+
+-- behind the eights that are plain
+pub begun : (s : List ℕ) (i : ℕ) → i ≡ 0 + 8 * (plainRun (drop 0 s) / 8) → Passing s i
+unfolding bare
+begun s i e =
+    let l : i ≤ plainRun s = omega arith in
+    let z : 0 + i ≡ i = omega arith in
+    record { inside = omega (arith, run-within s); same = bare-plain i 0 s l ∙ ap (λ (m : ℕ). bareFrom m 0 (drop i s)) z }
+
+module _ (s : List ℕ) (at : ℕ) (i : Passing s at) where
+  pub ended : length s ≤ at → Fine ≡ bare s
+  unfolding bareFrom
+  ended h = sym (i .same ∙ ap (bareFrom at 0) (drop-of-length-le s h))
+
+  module _ (h : at < length s) where
+    some : 0 < length (drop at s)
+    some = omega (arith, length-drop at s)
+
+    first : getD (drop at s) 0 0 ≡ getD s at 0
+    first = rw (drop-cons s at 0 h)
+
+    moved : (n : ℕ) → charLen (drop at s) ≡ n → (n ≡ 0 → ⊥) → (getD s at 0 < 32 → getD s at 0 ≡ 9) → Passing s (at + n)
+    moved n e p g = record {
+      inside = omega (arith, char-le (drop at s), length-drop at s, i .inside);
+      same = i .same ∙ bare-good at n (drop at s) some e p (λ l. first ∙ g (omega (arith, first))) ∙ ap (bareFrom (at + n) 0) (drop-drop n at s);
+    }
+
+    stuck : charLen (drop at s) ≡ 0 → 32 ≤ getD s at 0 → Faulty 5 at ≡ bare s
+    stuck e g = sym (i .same ∙ bare-stuck at (drop at s) some e (omega (arith, first)))
+
+    controlled : getD s at 0 < 32 → (getD s at 0 ≡ 9 → ⊥) → Faulty 6 at ≡ bare s
+    controlled l g = sym (i .same ∙ bare-control at (drop at s) some (omega (arith, first)) (λ z. g (sym first ∙ z)))
+
+    -- the loop's turns, way by way
+    module _ (k : ℕ) (ek : k ≡ classOf (getD s at 0)) where
+      class-over : 5 ≤ k → 32 ≤ getD s at 0
+      class-over l = no-control (getD s at 0) (λ z. omega arith)
+
+      pub plain-on : k < 5 → (k ≡ 1 → ⊥) → Passing s (at + 1)
+      plain-on l g =
+          let m : 32 ≤ getD s at 0 = no-control (getD s at 0) (λ z. g (ek ∙ z)) in
+          moved 1 (one-byte s at k h ek l) (λ z. omega arith) (λ z. absurd (omega arith))
+
+      pub tab-on : k < 5 → getD s at 0 ≡ 9 → Passing s (at + 1)
+      tab-on l g = moved 1 (one-byte s at k h ek l) (λ z. omega arith) (λ z. g)
+
+      pub control-stop : k ≡ 1 → (getD s at 0 ≡ 9 → ⊥) → Faulty 6 at ≡ bare s
+      control-stop l g = controlled (is-control (getD s at 0) (sym ek ∙ l)) g
+
+      pub lone-stop : 5 ≤ k → k < 6 → Faulty 5 at ≡ bare s
+      lone-stop l m = stuck (lone-tail s at k h ek l m) (class-over l)
+
+      module _ (n : ℕ) (en : n ≡ longLen k (getD (drop at s) 1 0) (getD (drop at s) 2 0) (getD (drop at s) 3 0)) (l : 6 ≤ k) where
+        pub cut-stop : n ≡ 0 → Faulty 5 at ≡ bare s
+        cut-stop z = stuck (long-char s at k h ek n en l ∙ z) (class-over (omega arith))
+
+        pub long-on : (n ≡ 0 → ⊥) → Passing s (at + n)
+        long-on z =
+            let m : 32 ≤ getD s at 0 = class-over (omega arith) in
+            moved n (long-char s at k h ek n en l) z (λ g. absurd (omega arith))

@@ -1,0 +1,6 @@
+pub mod LineEnds
+pub mod BareTexts
+pub mod Refusing
+pub mod LineAnswers
+pub mod LineRecords
+pub mod LineTexts

@@ -1,0 +1,101 @@
+// The line reader.
+ghost use mathlib.Core.Path.{_≡_};
+ghost use Prim.Native.Nat.{_+_, _<_, _≤_};
+ghost use lib.ListN.{length};
+ghost use Rattle.utf8.specs.Class.{IsTable};
+ghost use Rattle.strings.specs.Read.{readString};
+ghost use Rattle.lines.specs.Line.{bare, kindOf, fromString, fromBare, readStripped, readLine};
+ghost use Rattle.lines.specs.Answers.{Told};
+use crate::bare;
+use crate::bare::Checked;
+use crate::strip;
+use prelude::refusals;
+use prelude::slices;
+use strings::answers::Decoded;
+use strings::read::Mark;
+use utf8::chars;
+use utf8::classes;
+
+// What a line is: nothing, a string with its kind and its length, or a refusal's number and place.
+pub enum Line {
+    Ignored,
+    Holds(u32, usize),
+    Refused(u32, usize),
+}
+
+// The kind of a payload.
+pub fn kind_of(t: &[u8; 256], s: &[u8]) -> u32
+    requires { ⌜ IsTable (now t) ⌝ }
+    ensures { λ r. ⌜ r ≡ kindOf (now (s .entry)) ⌝ }
+{
+    if chars::valid_in(t, s) {
+        return 1;
+    }
+    2
+}
+
+// A line that is one string.
+fn read_quoted(t: &[u8; 256], s: &[u8], out: &mut [u8]) -> Line
+    requires { ⌜ IsTable (now t) ⌝ }
+    ensures { λ r. ⌜ Told (fromString (readString (now (s .entry)))) r (now (out .entry)) (now (out .exit)) ⌝ }
+{
+    let read = strings::read::read_in(t, s, out);
+    match read {
+        Decoded::Done(n) => Line::Holds(kind_of(t, &out[..n]), n),
+        Decoded::Refused(number, place) => Line::Refused(number, place),
+    }
+}
+
+// A bare line.
+fn read_bare(t: &[u8; 256], s: &[u8], out: &mut [u8]) -> Line
+    requires { ⌜ IsTable (now t) ⌝ }
+    ensures { λ r. ⌜ Told (fromBare (now (s .entry)) (bare (now (s .entry)))) r (now (out .entry)) (now (out .exit)) ⌝ }
+{
+    let checked = bare::check_bare(t, s);
+    match checked {
+        Checked::Fine => {
+            let n = s.len();
+            if out.len() < n {
+                return Line::Refused(refusals::NO_ROOM, 0);
+            }
+            slices::copy_run(s, 0, n, 0, out);
+            Line::Holds(1, n)
+        }
+        Checked::Faulty(number, place) => Line::Refused(number, place),
+    }
+}
+
+// A line that isn't empty and has no blanks at its ends.
+fn read_stripped(s: &[u8], out: &mut [u8]) -> Line
+    requires { ⌜ 0 < length (now s) ⌝ }
+    ensures { λ r. ⌜ Told (readStripped (now (s .entry))) r (now (out .entry)) (now (out .exit)) ⌝ }
+{
+    let t = classes::table();
+    let mark = strings::read::mark_at(s);
+    match mark {
+        Mark::Opens(_, _) => read_quoted(&t, s, out),
+        Mark::Unopened => read_bare(&t, s, out),
+    }
+}
+
+// Reads a line, without its LF: the string's bytes in front of out, or out as it was. Places are those of the line as it stands.
+pub fn read_line(l: &[u8], out: &mut [u8]) -> Line
+    ensures { λ r. ⌜ Told (readLine (now (l .entry))) r (now (out .entry)) (now (out .exit)) ⌝ }
+{
+    let a = strip::lead(l);
+    let n = strip::trim(&l[a..]);
+    if n == 0 {
+        return Line::Ignored;
+    }
+    let line = read_stripped(&l[a..a + n], out);
+    match line {
+        Line::Ignored => Line::Ignored,
+        Line::Holds(kind, count) => Line::Holds(kind, count),
+        Line::Refused(number, place) => {
+            if number == refusals::NO_ROOM {
+                return Line::Refused(refusals::NO_ROOM, 0);
+            }
+            Line::Refused(number, a + place)
+        }
+    }
+}

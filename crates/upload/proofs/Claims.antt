@@ -1,0 +1,38 @@
+-- The claims of specs/Claims.antt, each from the law that has it.
+-- Assumes nothing.
+use Prim.Native.Nat.{_≤_}
+use mathlib.Core.List.{[], _∷_}
+use mathlib.Core.Path.{refl, ap}
+use native.Mathlib.Omega.{arith}
+use lib.ListN.{length}
+use Rattle.upload.specs.Lines.{lineLimit}
+use Rattle.upload.specs.Calls.{Called, feeds, finishes, run, joined, finished, defined}
+use Rattle.upload.specs.Claims.{Every-List-Of-Calls, Pieces-Do-Not-Matter, Records-After-Finish, Every-List-Is-Encoded, Whole-Case, caseText}
+use Rattle.upload.proofs.Answers.{each-answer, same-pieces}
+use Rattle.upload.proofs.CaseComputed.{case-state, case-out}
+use Rattle.upload.proofs.Encoded.{textOf, cutsOf, all-lists}
+use Rattle.upload.proofs.Finished.{as-finished}
+use Rattle.upload.proofs.WholeList.{whole-list}
+
+pub every-list-of-calls : Every-List-Of-Calls
+unfolding defined run
+every-list-of-calls cs line out h =
+    record { state-and-buffers = ap (λ (r : Called). r .whole) (whole-list cs line out h); each-answer = each-answer line out h [] cs }
+
+pub pieces-do-not-matter : Pieces-Do-Not-Matter
+pieces-do-not-matter cs ds line out h a b e =
+    rw (whole-list cs line out h, whole-list ds line out h) (same-pieces cs ds line out a b e)
+
+pub records-after-finish : Records-After-Finish
+unfolding defined
+records-after-finish cs line out h e = rw (whole-list cs line out h, e) (as-finished (joined cs) line out)
+
+pub every-list-is-encoded : Every-List-Is-Encoded
+every-list-is-encoded cs = (textOf cs, cutsOf cs, all-lists cs)
+
+pub whole-case : Whole-Case
+unfolding defined joined finished
+whole-case line out h k =
+    let z : lineLimit ≤ length line = omega arith in
+    let e = whole-list (feeds caseText ∷ finishes ∷ []) line out z in
+    (refl, rw e (case-state line out k), rw e (case-out line out k))

@@ -1,0 +1,11 @@
+pub mod Snoc
+pub mod Step
+pub mod WholeList
+pub mod Answers
+pub mod Finished
+pub mod Values
+pub mod Runs
+pub mod Playing
+pub mod Encoded
+pub mod CaseComputed
+pub mod Claims

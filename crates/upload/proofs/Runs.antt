@@ -1,0 +1,109 @@
+-- A run of bytes without LF, stored at once, is what its bytes give one by one: by induction on the run.
+-- Assumes nothing.
+use Prim.Native.Nat.{ℕ, zero, suc, _+_, _≤_, _<_}
+use mathlib.Core.Bool.{true, false}
+use mathlib.Core.List.{List, [], _∷_, _++_}
+use mathlib.Core.Path.{_≡_, refl, sym, ap, _∙_}
+use native.Mathlib.Nat.{add-zero}
+use native.Mathlib.Numerals.{add-one}
+use native.Mathlib.Omega.{arith}
+use borrow.Author.Tests.{eqb-false, eq-eqb, ne-eqb}
+use lib.Dec.{eqb}
+use lib.ListN.{length, take, drop, getD, set, length-drop, take-append-drop}
+use lib.Seq.{sets, take-add, drop-cons}
+use Rattle.prelude.specs.Pick.{pick}
+use Rattle.prelude.proofs.Cases.{split}
+use Rattle.upload.specs.declared.uploads.Upload.{Upload}
+use Rattle.upload.specs.Lines.{LF, Whole}
+use Rattle.upload.specs.Calls.{stored, feedByte, feedBytes, whole, lineRun, storedRun}
+use Rattle.upload.proofs.Step.{state-path, whole-path}
+use Rattle.upload.proofs.Values.{byte-kept, byte-stored}
+
+run-nil : lineRun [] ≡ 0
+unfolding lineRun pick
+run-nil = refl
+
+pub run-on : (b : ℕ) (r : List ℕ) → eqb b LF ≡ false → lineRun (b ∷ r) ≡ suc (lineRun r)
+unfolding lineRun pick
+run-on b r e = rw e
+
+pub run-lf : (b : ℕ) (r : List ℕ) → eqb b LF ≡ true → lineRun (b ∷ r) ≡ 0
+unfolding lineRun pick
+run-lf b r e = rw e
+
+pub run-within : (r : List ℕ) → lineRun r ≤ length r
+run-within [] = omega (arith, run-nil)
+run-within (x ∷ r) =
+    let h : lineRun r ≤ length r = run-within r in
+    split (eqb x LF) (λ e. omega (arith, run-lf x r e)) (λ e. omega (arith, run-on x r e))
+
+pub at-on : (s : List ℕ) (i : ℕ) → i < length s → (getD s i 0 ≡ 10 → ⊥) → lineRun (drop i s) ≡ suc (lineRun (drop (suc i) s))
+at-on s i h e = rw (drop-cons s i 0) (run-on (getD s i 0) (drop (suc i) s) (ne-eqb _ _ e))
+
+pub at-lf : (s : List ℕ) (i : ℕ) → i < length s → getD s i 0 ≡ 10 → lineRun (drop i s) ≡ 0
+at-lf s i h e = rw (drop-cons s i 0) (run-lf (getD s i 0) (drop (suc i) s) (eq-eqb _ _ e))
+
+pub at-end : (s : List ℕ) (i : ℕ) → length s ≤ i → lineRun (drop i s) ≡ 0
+at-end s i h = omega (arith, run-within (drop i s), length-drop i s)
+
+bytes-cons : (m : Whole) (b : ℕ) (bs : List ℕ) → feedBytes m (b ∷ bs) ≡ feedBytes (feedByte m b) bs
+unfolding feedBytes pick
+bytes-cons m b bs = refl
+
+bytes-nil : (m : Whole) → feedBytes m [] ≡ m
+unfolding feedBytes pick
+bytes-nil m = refl
+
+pub bytes-append : (xs ys : List ℕ) (m : Whole) → feedBytes m (xs ++ ys) ≡ feedBytes (feedBytes m xs) ys
+bytes-append [] ys m = ap (λ (w : Whole). feedBytes w ys) (sym (bytes-nil m))
+bytes-append (x ∷ xs) ys m = bytes-cons m x (xs ++ ys) ∙ bytes-append xs ys (feedByte m x) ∙ ap (λ (w : Whole). feedBytes w ys) (sym (bytes-cons m x xs))
+
+pub bytes-kept : (xs : List ℕ) (s : Upload) (line out : List ℕ) → (s .refusal ≡ 0 → ⊥) → whole s line out ≡ feedBytes (whole s line out) xs
+bytes-kept [] s line out e = sym (bytes-nil (whole s line out))
+bytes-kept (x ∷ xs) s line out e =
+    bytes-kept xs s line out e ∙ ap (λ (w : Whole). feedBytes w xs) (byte-kept s line out x e) ∙ sym (bytes-cons (whole s line out) x xs)
+
+none-run : (s : Upload) (line out : List ℕ) → storedRun (whole s line out) 0 [] ≡ whole s line out
+none-run s line out =
+    whole-path _ _ (state-path _ _ (add-zero (s .taken)) refl (add-zero (s .held)) refl refl refl refl refl) refl refl
+
+one-run : (s : Upload) (line out : List ℕ) (x n : ℕ) (xs : List ℕ) → storedRun (whole s line out) (suc n) (x ∷ xs) ≡ storedRun (stored (whole s line out) x) n xs
+one-run s line out x n xs =
+    whole-path _ _
+    (state-path _ _ (let h : s .taken + suc n ≡ s .taken + 1 + n = omega arith in h) refl (let h : s .held + suc n ≡ s .held + 1 + n = omega arith in h) refl refl refl refl refl)
+    (ap (λ (k : ℕ). sets (set line (s .held) x) k xs) (sym (add-one (s .held))))
+    refl
+
+pub bytes-run : (n : ℕ) (r : List ℕ) (s : Upload) (line out : List ℕ) → n ≤ lineRun r → s .refusal ≡ 0 → s .held + n ≤ 1024 → s .taken + n ≤ 1048576
+    → storedRun (whole s line out) n (take n r) ≡ feedBytes (whole s line out) (take n r)
+bytes-run zero r s line out h e a b = none-run s line out ∙ sym (bytes-nil (whole s line out))
+bytes-run (suc n) [] s line out h e a b = let z : lineRun [] ≡ 0 = run-nil in absurd (let q : ⊥ = omega arith in q)
+bytes-run (suc n) (x ∷ r) s line out h e a b =
+    split (eqb x LF)
+    (λ p. let z : lineRun (x ∷ r) ≡ 0 = run-lf x r p in absurd (let q : ⊥ = omega arith in q))
+    (λ p. let z : lineRun (x ∷ r) ≡ suc (lineRun r) = run-on x r p in
+    one-run s line out x n (take n r)
+    ∙ bytes-run n r (stored (whole s line out) x .state) (set line (s .held) x) out (omega arith) e (omega arith) (omega arith)
+    ∙ ap (λ (w : Whole). feedBytes w (take n r)) (byte-stored s line out x e (λ q. omega arith) (eqb-false x 10 p) (λ q. omega arith))
+    ∙ sym (bytes-cons (whole s line out) x (take n r)))
+
+-- a run behind the bytes taken
+pub run-next : (m : Whole) (piece : List ℕ) (i a : ℕ) (s : Upload) (line out : List ℕ) → whole s line out ≡ feedBytes m (take i piece)
+    → a ≤ lineRun (drop i piece) → s .refusal ≡ 0 → s .held + a ≤ 1024 → s .taken + a ≤ 1048576
+    → (v : Whole) → v ≡ storedRun (whole s line out) a (take a (drop i piece)) → v ≡ feedBytes m (take (i + a) piece)
+run-next m piece i a s line out w h e x y v q =
+    q ∙ bytes-run a (drop i piece) s line out h e x y
+    ∙ ap (λ (k : Whole). feedBytes k (take a (drop i piece))) w
+    ∙ sym (bytes-append (take i piece) (take a (drop i piece)) m)
+    ∙ ap (λ (l : List ℕ). feedBytes m l) (sym (take-add i a piece))
+
+-- nothing changes behind a refusal
+pub bytes-stay : (m : Whole) (piece : List ℕ) (i : ℕ) (s : Upload) (line out : List ℕ) → whole s line out ≡ feedBytes m (take i piece) → (s .refusal ≡ 0 → ⊥) → whole s line out ≡ feedBytes m piece
+bytes-stay m piece i s line out w e =
+    bytes-kept (drop i piece) s line out e
+    ∙ ap (λ (k : Whole). feedBytes k (drop i piece)) w
+    ∙ sym (bytes-append (take i piece) (drop i piece) m)
+    ∙ ap (λ (l : List ℕ). feedBytes m l) (take-append-drop i piece)
+
+pub run-inside : (p : List ℕ) (i : ℕ) → i ≤ length p → i + lineRun (drop i p) ≤ length p
+run-inside p i h = omega (arith, run-within (drop i p), length-drop i p)

@@ -1,0 +1,182 @@
+-- What the code's functions return, over plain values: a law for each return, by the tests that led there.
+-- Assumes nothing.
+use Prim.Native.Nat.{ℕ, _+_, _≤_, _<_}
+use mathlib.Core.Bool.{true, false}
+use mathlib.Core.List.{List, [], _∷_, _++_}
+use mathlib.Core.Path.{_≡_, refl}
+use native.Mathlib.Nat.{add-zero}
+use native.Mathlib.Numerals.{add-one}
+use native.Mathlib.Omega.{arith}
+use borrow.Author.Tests.{leb-true, eqb-false, eq-eqb, ne-eqb, le-leb}
+use lib.Dec.{leb}
+use lib.ListN.{length, take, getD, take-append-drop}
+use lib.Seq.{take-all, take-suc}
+use Rattle.prelude.specs.Pick.{pick}
+use Rattle.prelude.proofs.Cases.{and-left, and-right}
+use Rattle.lines.specs.Records.{Fault, none, refuse, lineFault, putAt, Appended, appendBy, appendLine}
+use Rattle.upload.specs.declared.uploads.Upload.{Upload}
+use Rattle.upload.specs.declared.uploads.Answer.{Answer}
+use Rattle.upload.specs.Lines.{LF, uploadLimit, lineLimit, Whole}
+use Rattle.upload.specs.Calls.{keeping, stored, behindLF, atEnd, byteBy, feedByte, feedBytes, finishBy, finishAll, fitBy, fit, answerOf, guarded, feed, finish, whole, Fit}
+use Rattle.upload.proofs.Step.{line-fits, NonZero, line-nonzero, Ok}
+use Rattle.upload.proofs.WholeList.{ok-bytes}
+
+-- is_fit
+pub fit-rest : (s : Upload) (line out : ℕ) → 1024 ≤ line → s .held ≤ 1024 → s .taken ≤ 1048576 → s .lfs ≤ s .taken → leb (s .used) out ≡ fitBy s line out
+unfolding fitBy pick
+fit-rest s line out a b c d = rw (le-leb 1024 line a, le-leb (s .held) 1024 b, le-leb (s .taken) 1048576 c, le-leb (s .lfs) (s .taken) d)
+
+pub fit-facts : (m : Whole) → fit m ≡ true → Fit m
+unfolding fitBy pick
+fit-facts m e =
+    let s = m .state in
+    let e₁ = and-right (leb lineLimit (length (m .line))) _ e in
+    let e₂ = and-right (leb (s .held) lineLimit) _ e₁ in
+    let e₃ = and-right (leb (s .taken) uploadLimit) _ e₂ in
+    record {
+      held = leb-true _ _ (and-left (leb (s .held) lineLimit) _ e₁);
+      taken = leb-true _ _ (and-left (leb (s .taken) uploadLimit) _ e₂);
+      lfs = leb-true _ _ (and-left (leb (s .lfs) (s .taken)) _ e₃);
+      used = leb-true _ _ (and-right (leb (s .lfs) (s .taken)) _ e₃);
+      large = leb-true _ _ (and-left (leb lineLimit (length (m .line))) _ e);
+    }
+
+put-none : (out : List ℕ) (used : ℕ) → putAt out used [] ≡ out
+put-none out used = rw (add-zero used, take-append-drop used out)
+
+-- take_byte
+module _ (s : Upload) (line out : List ℕ) (b : ℕ) where
+  pub byte-kept : (s .refusal ≡ 0 → ⊥) → whole s line out ≡ feedByte (whole s line out) b
+  unfolding feedByte pick
+  byte-kept e = rw (ne-eqb (s .refusal) 0 e)
+
+  module _ (r : s .refusal ≡ 0) where
+    pub byte-over : (t : Upload) → t ≡ keeping s 17 (s .held) → s .taken ≡ 1048576 → whole t line out ≡ feedByte (whole s line out) b
+    unfolding feedByte pick
+    byte-over t e q = rw (eq-eqb (s .refusal) 0 r, eq-eqb (s .taken) 1048576 q, e)
+
+    module _ (n : s .taken ≡ 1048576 → ⊥) where
+      pub byte-long : (t : Upload) → t ≡ keeping s 2 1024 → (b ≡ 10 → ⊥) → s .held ≡ 1024 → whole t line out ≡ feedByte (whole s line out) b
+      unfolding feedByte pick
+      byte-long t e l h = rw (eq-eqb (s .refusal) 0 r, ne-eqb (s .taken) 1048576 n, ne-eqb b LF l, eq-eqb (s .held) 1024 h, e)
+
+      pub byte-stored : (b ≡ 10 → ⊥) → (s .held ≡ 1024 → ⊥) → stored (whole s line out) b ≡ feedByte (whole s line out) b
+      unfolding feedByte pick
+      byte-stored l h = rw (eq-eqb (s .refusal) 0 r, ne-eqb (s .taken) 1048576 n, ne-eqb b LF l, ne-eqb (s .held) 1024 h) (rw (ne-eqb b LF l))
+
+      lf-refused : (f : Fault) → lineFault (length out) (s .used) (take (s .held) line) ≡ f → (appendBy f (take (s .held) line) out (s .used) .number ≡ 0 → ⊥) → whole (keeping s (appendBy f (take (s .held) line) out (s .used) .number) (appendBy f (take (s .held) line) out (s .used) .place)) line (appendBy f (take (s .held) line) out (s .used) .out) ≡ byteBy f (whole s line out) b
+      lf-refused none e z = absurd (z refl)
+      lf-refused (refuse m p) e z = refl
+
+      lf-taken : b ≡ 10 → (f : Fault) → NonZero f → (appendBy f (take (s .held) line) out (s .used) .number ≡ 0) → whole (behindLF s (s .used + appendBy f (take (s .held) line) out (s .used) .count)) line (appendBy f (take (s .held) line) out (s .used) .out) ≡ byteBy f (whole s line out) b
+      unfolding pick
+      lf-taken l none z e = rw (eq-eqb b LF l)
+      lf-taken l (refuse m p) z e = absurd (eqb-false m 0 z e)
+
+      pub byte-lf-refused : b ≡ 10 → (a : Appended) → a ≡ appendLine (take (s .held) line) out (s .used) → (a .number ≡ 0 → ⊥) → (t : Upload) → t ≡ keeping s (a .number) (a .place) → whole t line (a .out) ≡ feedByte (whole s line out) b
+      unfolding feedByte appendLine pick
+      byte-lf-refused l a ea z t et =
+          rw (et, ea, eq-eqb (s .refusal) 0 r, ne-eqb (s .taken) 1048576 n, eq-eqb b LF l)
+          (lf-refused (lineFault (length out) (s .used) (take (s .held) line)) refl (rw ea at z))
+
+      pub byte-lf : b ≡ 10 → (a : Appended) → a ≡ appendLine (take (s .held) line) out (s .used) → a .number ≡ 0 → whole (behindLF s (s .used + a .count)) line (a .out) ≡ feedByte (whole s line out) b
+      unfolding feedByte appendLine pick
+      byte-lf l a ea z =
+          rw (ea, eq-eqb (s .refusal) 0 r, ne-eqb (s .taken) 1048576 n, eq-eqb b LF l)
+          (lf-taken l (lineFault (length out) (s .used) (take (s .held) line)) (line-nonzero (length out) (s .used) (take (s .held) line)) (rw ea at z))
+
+-- take_end
+module _ (s : Upload) (line out : List ℕ) where
+  pub end-empty : s .held ≡ 0 → (t : Upload) → t ≡ atEnd s (s .used) → whole t line out ≡ finishAll (whole s line out)
+  unfolding finishAll pick
+  end-empty e t et = rw (et, eq-eqb (s .held) 0 e) (rw (eq-eqb (s .held) 0 e, put-none out (s .used), add-zero (s .used)))
+
+  module _ (h : s .held ≡ 0 → ⊥) where
+    end-refused-by : (f : Fault) → (appendBy f (take (s .held) line) out (s .used) .number ≡ 0 → ⊥) → whole (keeping s (appendBy f (take (s .held) line) out (s .used) .number) (appendBy f (take (s .held) line) out (s .used) .place)) line (appendBy f (take (s .held) line) out (s .used) .out) ≡ finishBy f (whole s line out)
+    end-refused-by none z = absurd (z refl)
+    end-refused-by (refuse m p) z = refl
+
+    end-taken-by : (f : Fault) → NonZero f → (appendBy f (take (s .held) line) out (s .used) .number ≡ 0) → whole (atEnd s (s .used + appendBy f (take (s .held) line) out (s .used) .count)) line (appendBy f (take (s .held) line) out (s .used) .out) ≡ finishBy f (whole s line out)
+    unfolding pick
+    end-taken-by none z e = rw (ne-eqb (s .held) 0 h)
+    end-taken-by (refuse m p) z e = absurd (eqb-false m 0 z e)
+
+    pub end-refused : (a : Appended) → a ≡ appendLine (take (s .held) line) out (s .used) → (a .number ≡ 0 → ⊥) → (t : Upload) → t ≡ keeping s (a .number) (a .place) → whole t line (a .out) ≡ finishAll (whole s line out)
+    unfolding finishAll appendLine pick
+    end-refused a ea z t et =
+        rw (et, ea, ne-eqb (s .held) 0 h) (end-refused-by (lineFault (length out) (s .used) (take (s .held) line)) (rw ea at z))
+
+    pub end-taken : (a : Appended) → a ≡ appendLine (take (s .held) line) out (s .used) → a .number ≡ 0 → (t : Upload) → t ≡ atEnd s (s .used + a .count) → whole t line (a .out) ≡ finishAll (whole s line out)
+    unfolding finishAll appendLine pick
+    end-taken a ea z t et =
+        rw (et, ea, ne-eqb (s .held) 0 h) (end-taken-by (lineFault (length out) (s .used) (take (s .held) line)) (line-nonzero (length out) (s .used) (take (s .held) line)) (rw ea at z))
+
+-- what a line adds ends inside the output
+added-by : (f : Fault) (l out : List ℕ) (used : ℕ) → lineFault (length out) used l ≡ f → used ≤ length out → used + appendBy f l out used .count ≤ length out
+added-by none l out used e h = line-fits (length out) used l h e
+added-by (refuse n p) l out used e h = omega arith
+
+pub added-fits : (a : Appended) (l out : List ℕ) (used : ℕ) → a ≡ appendLine l out used → used ≤ length out → used + a .count ≤ length out
+unfolding appendLine pick
+added-fits a l out used e h = rw e (added-by (lineFault (length out) used l) l out used refl h)
+
+-- feed and finish
+module _ (m d : Whole) where
+  pub call-unfit : fit m ≡ false → record { whole = m; answer = record { number = 1; line = 0; place = 0 } } ≡ guarded m d
+  unfolding pick
+  call-unfit f = rw f
+
+  pub call-kept : fit m ≡ true → (m .state .refusal ≡ 0 → ⊥) → record { whole = m; answer = record { number = m .state .refusal; line = m .state .line; place = m .state .place } } ≡ guarded m d
+  unfolding pick
+  call-kept f e = rw (f, ne-eqb (m .state .refusal) 0 e)
+
+  pub call-ended : fit m ≡ true → m .state .refusal ≡ 0 → m .state .ended ≡ true → record { whole = m; answer = record { number = 18; line = 0; place = 0 } } ≡ guarded m d
+  unfolding pick
+  call-ended f e t = rw (f, eq-eqb (m .state .refusal) 0 e, t)
+
+  pub call-done : fit m ≡ true → m .state .refusal ≡ 0 → m .state .ended ≡ false → (w : Whole) → w ≡ d → (a : Answer) → a ≡ answerOf (w .state) → record { whole = w; answer = a } ≡ guarded m d
+  unfolding pick
+  call-done f e t w q a p = rw (p, f, eq-eqb (m .state .refusal) 0 e, t, q)
+
+-- take_bytes
+pub fit-ok : (m : Whole) → Fit m → Ok (m .line) (m .out) m
+fit-ok m f = record { held = f .held; taken = f .taken; lfs = f .lfs; used = f .used; room = refl; wide = refl; large = f .large }
+
+pub ok-fits : (line out : List ℕ) (m : Whole) → Ok line out m → Fit m
+ok-fits line out m k =
+    record { held = k .held; taken = k .taken; lfs = k .lfs; used = omega (arith, k .used, k .room); large = omega (arith, k .large, k .wide) }
+
+pub after-bytes : (m : Whole) → Fit m → (bs : List ℕ) (w : Whole) → w ≡ feedBytes m bs → Ok (m .line) (m .out) w
+after-bytes m f bs w e = rw e (ok-bytes (m .line) (m .out) m bs (fit-ok m f))
+
+bytes-snoc : (m : Whole) (bs : List ℕ) (b : ℕ) → feedBytes m (bs ++ (b ∷ [])) ≡ feedByte (feedBytes m bs) b
+unfolding feedBytes pick
+bytes-snoc m [] b = refl
+bytes-snoc m (x ∷ bs) b = bytes-snoc (feedByte m x) bs b
+
+pub bytes-next : (m : Whole) (piece : List ℕ) (i : ℕ) → i < length piece → (w v : Whole) → w ≡ feedBytes m (take i piece) → v ≡ feedByte w (getD piece i 0) → v ≡ feedBytes m (take (i + 1) piece)
+bytes-next m piece i h w v e q = rw (q, e, add-one i, take-suc piece i 0 h, bytes-snoc m (take i piece) (getD piece i 0))
+
+pub bytes-none : (m : Whole) → m ≡ feedBytes m []
+unfolding feedBytes pick
+bytes-none m = refl
+
+pub bytes-all : (m : Whole) (piece : List ℕ) (i : ℕ) (w : Whole) → length piece ≤ i → w ≡ feedBytes m (take i piece) → w ≡ feedBytes m piece
+bytes-all m piece i w h e = rw (take-all i piece h) at e
+
+pub feed-done : (m : Whole) (piece : List ℕ) → fit m ≡ true → m .state .refusal ≡ 0 → m .state .ended ≡ false → (w : Whole) → w ≡ feedBytes m piece → (a : Answer) → a ≡ answerOf (w .state) → record { whole = w; answer = a } ≡ feed m piece
+unfolding feed pick
+feed-done m piece f e t w q a p = call-done m (feedBytes m piece) f e t w q a p
+
+pub finish-done : (m : Whole) → fit m ≡ true → m .state .refusal ≡ 0 → m .state .ended ≡ false → (w : Whole) → w ≡ finishAll m → (a : Answer) → a ≡ answerOf (w .state) → record { whole = w; answer = a } ≡ finish m
+unfolding finish pick
+finish-done m f e t w q a p = call-done m (finishAll m) f e t w q a p
+
+-- answer_of
+pub answer-none : (s : Upload) → s .refusal ≡ 0 → record { number = 0; line = 0; place = 0 } ≡ answerOf s
+unfolding answerOf pick
+answer-none s e = rw (eq-eqb (s .refusal) 0 e)
+
+pub answer-some : (s : Upload) → (s .refusal ≡ 0 → ⊥) → record { number = s .refusal; line = s .line; place = s .place } ≡ answerOf s
+unfolding answerOf pick
+answer-some s e = rw (ne-eqb (s .refusal) 0 e)

@@ -1,0 +1,26 @@
+-- The copy stores the run, and the counts follow.
+-- Assumes nothing.
+use borrow.Author.Needs.{needs}
+use Rattle.upload.proofs.pieces.take_run.Statement.{statement}
+use Rattle.upload.proofs.pieces.take_run.Tie as tie
+use mathlib.Core.Path.{refl}
+use Rattle.upload.proofs.Step.{whole-path}
+
+copy-run-requires : tie.Need-copy-run-requires
+copy-run-requires c κs = search needs
+
+add-t9 : tie.Need-add-t9
+add-t9 c = search needs
+
+add-t10 : tie.Need-add-t10
+add-t10 c = search needs
+
+same-length : tie.Need-same-length
+same-length c = search needs
+
+returns : tie.Need-returns
+returns c =
+    λ out. whole-path _ _ refl (c .before .before .before .before .copy-run .ensures) refl
+
+pub take-run-spec : {M : Type 1} → statement M
+take-run-spec = tie.close (tie.spec copy-run-requires add-t9 add-t10 same-length returns)

@@ -1,0 +1,16 @@
+-- The test of the refusal decides as in `answerOf`.
+-- Assumes nothing.
+use Rattle.upload.proofs.uploads.answer_of.Statement.{statement}
+use Rattle.upload.proofs.uploads.answer_of.Tie as tie
+use Rattle.upload.proofs.Values.{answer-none, answer-some}
+
+returns : tie.Need-returns
+returns c =
+    answer-none _ (c .if1 .taken)
+
+returns-2 : tie.Need-returns-2
+returns-2 c =
+    answer-some _ (c .if1 .left)
+
+pub answer-of-spec : {M : Type 1} → statement M
+answer-of-spec = tie.close (tie.spec returns returns-2)

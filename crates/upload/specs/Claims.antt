@@ -1,0 +1,112 @@
+-- What is claimed of the upload's calls and the J8 Lines definition, beside the contracts: each claim is a type, and proofs/Claims.antt has
+-- a term of it.
+-- Assumes nothing.
+use Prim.Native.Nat.{ℕ, _+_, _≤_}
+use Prim.Native.Char.{code}
+use Prim.Native.String.{String}
+use Prim.Native.String
+use mathlib.Core.Bool.{true, false}
+use mathlib.Core.List.{List, [], _∷_, _++_}
+use mathlib.Core.Path.{_≡_}
+use lib.ListN.{length, take}
+use Rattle.lines.specs.Records.{lineRecord, Fault, none, refuse}
+use Rattle.upload.specs.declared.uploads.Upload.{Upload}
+use Rattle.upload.specs.declared.uploads.Answer.{Answer}
+use Rattle.upload.specs.Lines.{LF, lineLimit, cut, records, front, firstFault, openFault, Whole, j8Lines}
+use Rattle.upload.specs.Calls.{Call, feeds, finishes, call, run, began, joined, finished, defined, decode}
+
+-- the answers of a list of calls, in order, from a state and two buffers
+unfoldable pub answers : Whole → List Call → List Answer
+answers m [] = []
+answers m (c ∷ cs) = call m c .answer ∷ answers (call m c .whole) cs
+
+-- the definition's: each call's answer is that of the calls up to and with it; `before` have gone before
+unfoldable pub definedAnswers : List Call → List Call → List ℕ → List ℕ → List Answer
+definedAnswers before [] line out = []
+definedAnswers before (c ∷ cs) line out =
+    defined (before ++ (c ∷ [])) line out .answer ∷ definedAnswers (before ++ (c ∷ [])) cs line out
+
+pub record AsDefined (cs : List Call) (line out : List ℕ) : Type 0 where
+  pub state-and-buffers : run (began line out) cs .whole ≡ j8Lines (joined cs) (finished cs) line out
+  pub each-answer : answers (began line out .whole) cs ≡ definedAnswers [] cs line out
+
+-- Demand 3: "Take any list of feeds and finishes of one J8 Lines upload, in any order, empty pieces and refused calls included. .. After
+-- every such list, the state and both buffers are exactly what the J8 Lines definition gives for the joined text, finished or not, and each
+-- call's answer is what it gives for the calls up to and with that one."
+abbrev pub Every-List-Of-Calls : Type 0
+Every-List-Of-Calls = (cs : List Call) (line out : List ℕ) → lineLimit ≤ length line → AsDefined cs line out
+
+-- "lists of one or more feeds and no finish, alike in the joined text and in the buffers first lent, end in the same state, buffers and last
+-- answer, whatever the pieces"; with no feed at all, zeros stand for the answer
+abbrev pub Pieces-Do-Not-Matter : Type 0
+Pieces-Do-Not-Matter =
+    (cs ds : List Call) (line out : List ℕ) → lineLimit ≤ length line → finished cs ≡ false → finished ds ≡ false
+    → joined cs ≡ joined ds → run (began line out) cs ≡ run (began line out) ds
+
+-- all records of a text: of the lines that an LF ends, and of the open line
+abbrev pub textRecords : List ℕ → List ℕ
+textRecords text = records (cut text .closed) ++ lineRecord (cut text .openLine)
+
+-- the first refusal of a finished text: a byte's, or else the open line's
+abbrev pub orOpenLine : Fault → ℕ → List ℕ → Fault
+orOpenLine none room text = openFault room (length (records (cut text .closed))) (cut text .openLine)
+orOpenLine (refuse number at) room text = refuse number at
+
+abbrev pub firstRefusal : ℕ → List ℕ → Fault
+firstRefusal room text = orOpenLine (firstFault room text .why) room text
+
+-- what a finished text leaves, by its first refusal: all its records; or those of the lines before the refused byte, and the refusal
+abbrev pub Finished : Fault → List ℕ → List ℕ → Whole → Type 0
+Finished none text out m =
+    (m .state .refusal ≡ 0) × (m .state .ended ≡ true) × (m .state .used ≡ length (textRecords text))
+    × (m .out ≡ front (textRecords text) out)
+Finished (refuse number at) text out m =
+    (m .state .refusal ≡ number) × (m .state .place ≡ at) × (m .state .line ≡ m .state .lfs + 1)
+    × (m .state .taken ≡ firstFault (length out) text .place)
+    × (m .out ≡ front (records (cut (take (firstFault (length out) text .place) text) .closed)) out)
+
+-- "After a finish the output holds all the text's records, or those before the first refusal, which the state then holds."
+abbrev pub Records-After-Finish : Type 0
+Records-After-Finish =
+    (cs : List Call) (line out : List ℕ) → lineLimit ≤ length line → finished cs ≡ true
+    → Finished (firstRefusal (length out) (joined cs)) (joined cs) out (run (began line out) cs .whole)
+
+-- every list of calls is the decoding of a text and a list of numbers, so `replay` runs every list
+abbrev pub Every-List-Is-Encoded : Type 0
+Every-List-Is-Encoded = (cs : List Call) → (text : List ℕ) × (cuts : List ℕ) × (decode text cuts ≡ cs)
+
+-- a text of ASCII characters, as bytes
+abbrev pub ascii : String → List ℕ
+ascii String.[] = []
+ascii (String._∷_ c s) = code c ∷ ascii s
+
+-- "Whole case, 22 bytes fed, then finish"
+abbrev pub caseText : List ℕ
+caseText = ascii "scans/a b" ++ (LF ∷ ascii "b'x\\yff'" ++ (LF ∷ LF ∷ ascii "''"))
+
+-- "LFs read: 3."; nothing is held
+abbrev pub caseState : Upload
+caseState =
+    record {
+      taken = 22;
+      lfs = 3;
+      held = 0;
+      used = 23;
+      ended = true;
+      refusal = 0;
+      line = 0;
+      place = 0;
+    }
+
+-- "Output, 23 bytes"
+abbrev pub caseOut : List ℕ
+caseOut =
+    0x09 ∷ 0x00 ∷ 0x01 ∷ 0x00 ∷ ascii "scans/a b"
+    ++ (0x02 ∷ 0x00 ∷ 0x02 ∷ 0x00 ∷ 0x78 ∷ 0xff ∷ 0x00 ∷ 0x00 ∷ 0x01 ∷ 0x00 ∷ [])
+
+-- one feed and a finish, with a line buffer and an output of just the size that is needed, whatever they hold
+abbrev pub Whole-Case : Type 0
+Whole-Case =
+    (line out : List ℕ) → length line ≡ lineLimit → length out ≡ 23
+    → (length caseText ≡ 22) × (run (began line out) (feeds caseText ∷ finishes ∷ []) .whole .state ≡ caseState)
+    × (run (began line out) (feeds caseText ∷ finishes ∷ []) .whole .out ≡ caseOut)

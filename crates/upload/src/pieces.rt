@@ -1,0 +1,175 @@
+// The bytes of a piece, taken by runs up to the next LF; and an upload's end.
+ghost use mathlib.Core.List.{List};
+ghost use mathlib.Core.Path.{_≡_};
+ghost use Prim.Native.Nat.{ℕ, _+_, _≤_};
+ghost use lib.ListN.{length, take, drop};
+ghost use Rattle.upload.specs.Calls.{keeping, atEnd, whole, Fit, feedByte, feedBytes, finishAll, lineRun, storedRun};
+use crate::uploads::LINE_MAX;
+use crate::uploads::UPLOAD_MAX;
+use crate::uploads::Upload;
+use lines::records;
+use prelude::refusals;
+use prelude::slices;
+
+// The state with a refusal that is kept.
+fn with_refusal(s: Upload, number: u32, place: usize) -> Upload
+    requires { ⌜ s .lfs ≤ 1048576 ⌝ }
+    ensures { λ r. ⌜ r ≡ keeping s number place ⌝ }
+{
+    Upload {
+        taken: s.taken,
+        lfs: s.lfs,
+        held: s.held,
+        used: s.used,
+        ended: s.ended,
+        refusal: number,
+        line: s.lfs + 1,
+        place,
+    }
+}
+
+// One byte of a piece.
+fn take_byte(s: Upload, b: u8, line: &mut [u8], out: &mut [u8]) -> Upload
+    requires { ⌜ Fit (whole s (now line) (now out)) ⌝ }
+    ensures { λ r. ⌜ whole r (now (line .exit)) (now (out .exit)) ≡ feedByte (whole s (now (line .entry)) (now (out .entry))) b ⌝ }
+{
+    let held = s.held;
+    if s.refusal != 0 {
+        return s;
+    }
+    if s.taken == UPLOAD_MAX {
+        return with_refusal(s, refusals::OVER_LIMIT, held);
+    }
+    if b == b'\n' {
+        let a = records::append_line(&line[..held], s.used, out);
+        if a.number != 0 {
+            return with_refusal(s, a.number, a.place);
+        }
+        return Upload {
+            taken: s.taken + 1,
+            lfs: s.lfs + 1,
+            held: 0,
+            used: s.used + a.count,
+            ended: s.ended,
+            refusal: s.refusal,
+            line: s.line,
+            place: s.place,
+        };
+    }
+    if held == LINE_MAX {
+        return with_refusal(s, refusals::TOO_LONG, LINE_MAX);
+    }
+    line[held] = b;
+    Upload {
+        taken: s.taken + 1,
+        lfs: s.lfs,
+        held: held + 1,
+        used: s.used,
+        ended: s.ended,
+        refusal: s.refusal,
+        line: s.line,
+        place: s.place,
+    }
+}
+
+// The place of the next LF from a place on, or the end.
+fn lf_from(p: &[u8], from: usize) -> usize
+    requires { ⌜ from ≤ length (now p) ⌝ }
+    ensures { λ r. ⌜ r ≡ from + lineRun (drop from (now (p .entry))) ⌝ }
+{
+    let mut i = from;
+    while i < p.len() {
+        if p[i] == b'\n' {
+            return i;
+        }
+        i += 1;
+    }
+    i
+}
+
+fn least(a: usize, b: usize) -> usize
+    ensures { λ r. ⌜ (r ≤ a) × (r ≤ b) ⌝ }
+{
+    if a < b { a } else { b }
+}
+
+// How many of n bytes that are no LF find their place in the line and in the upload.
+fn run_fits(s: Upload, n: usize) -> usize
+    requires { ⌜ (s .held ≤ 1024) × (s .taken ≤ 1048576) ⌝ }
+    ensures { λ r. ⌜ (r ≤ n) × (s .held + r ≤ 1024) × (s .taken + r ≤ 1048576) ⌝ }
+{
+    least(n, least(LINE_MAX - s.held, UPLOAD_MAX - s.taken))
+}
+
+// The a bytes of a piece from i on, none an LF, stored behind those held.
+fn take_run(s: Upload, piece: &[u8], i: usize, a: usize, line: &mut [u8]) -> Upload
+    requires { ⌜ (i + a ≤ length (now piece)) × (s .held + a ≤ 1024) × (s .taken + a ≤ 1048576) ⌝ }
+    ensures { λ r. ⌜ ((out : List ℕ) → whole r (now (line .exit)) out ≡ storedRun (whole s (now (line .entry)) out) a (take a (drop i (now (piece .entry))))) ⌝ }
+{
+    slices::copy_run(piece, i, a, s.held, line);
+    Upload {
+        taken: s.taken + a,
+        lfs: s.lfs,
+        held: s.held + a,
+        used: s.used,
+        ended: s.ended,
+        refusal: s.refusal,
+        line: s.line,
+        place: s.place,
+    }
+}
+
+// The bytes of a piece: runs up to the next LF or limit, and the byte behind each.
+pub fn take_bytes(state: Upload, piece: &[u8], line: &mut [u8], out: &mut [u8]) -> Upload
+    requires { ⌜ Fit (whole state (now line) (now out)) ⌝ }
+    ensures { λ r. ⌜ whole r (now (line .exit)) (now (out .exit)) ≡ feedBytes (whole state (now (line .entry)) (now (out .entry))) (now (piece .entry)) ⌝ }
+{
+    let mut s = state;
+    let mut i = 0;
+    loop {
+        if s.refusal != 0 {
+            return s;
+        }
+        let e = lf_from(piece, i);
+        let a = run_fits(s, e - i);
+        s = take_run(s, piece, i, a, line);
+        i += a;
+        if piece.len() <= i {
+            return s;
+        }
+        s = take_byte(s, piece[i], line, out);
+        i += 1;
+    }
+}
+
+// The state of an upload that is ended, with this much of the output used.
+fn at_end(s: Upload, used: usize) -> Upload
+    ensures { λ r. ⌜ r ≡ atEnd s used ⌝ }
+{
+    Upload {
+        taken: s.taken,
+        lfs: s.lfs,
+        held: 0,
+        used,
+        ended: true,
+        refusal: s.refusal,
+        line: s.line,
+        place: s.place,
+    }
+}
+
+// The end of an upload that is neither refused nor ended.
+pub fn take_end(s: Upload, line: &mut [u8], out: &mut [u8]) -> Upload
+    requires { ⌜ Fit (whole s (now line) (now out)) ⌝ }
+    ensures { λ r. ⌜ whole r (now (line .exit)) (now (out .exit)) ≡ finishAll (whole s (now (line .entry)) (now (out .entry))) ⌝ }
+{
+    let held = s.held;
+    if held == 0 {
+        return at_end(s, s.used);
+    }
+    let a = records::append_line(&line[..held], s.used, out);
+    if a.number != 0 {
+        return with_refusal(s, a.number, a.place);
+    }
+    at_end(s, s.used + a.count)
+}

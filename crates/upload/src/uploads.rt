@@ -1,0 +1,175 @@
+// The upload's state and its calls.
+ghost use mathlib.Core.Path.{_≡_};
+ghost use lib.ListN.{length};
+ghost use Rattle.upload.specs.Calls.{fresh, whole, called, fitBy, answerOf, feed, finish};
+use crate::pieces;
+use prelude::refusals;
+
+// The longest line, without its LF.
+pub const LINE_MAX: usize = 1024;
+
+// The most bytes that an upload takes.
+pub const UPLOAD_MAX: usize = 1048576;
+
+// The state of an upload. A refusal of 0 says that nothing is refused.
+pub struct Upload {
+    pub taken: usize,
+    pub lfs: usize,
+    pub held: usize,
+    pub used: usize,
+    pub ended: bool,
+    pub refusal: u32,
+    pub line: usize,
+    pub place: usize,
+}
+
+// What a call answers: all 0 where nothing is refused.
+pub struct Answer {
+    pub number: u32,
+    pub line: usize,
+    pub place: usize,
+}
+
+// What a call hands back: the new state, and the answer.
+pub struct Fed {
+    pub state: Upload,
+    pub answer: Answer,
+}
+
+// Whether a state and buffers of these lengths are fit.
+fn is_fit(s: Upload, line: usize, out: usize) -> bool
+    ensures { λ r. ⌜ r ≡ fitBy s line out ⌝ }
+{
+    if line < LINE_MAX {
+        return false;
+    }
+    if s.held > LINE_MAX {
+        return false;
+    }
+    if s.taken > UPLOAD_MAX {
+        return false;
+    }
+    if s.lfs > s.taken {
+        return false;
+    }
+    s.used <= out
+}
+
+// The answer of a call that left the state s.
+fn answer_of(s: Upload) -> Answer
+    ensures { λ r. ⌜ r ≡ answerOf s ⌝ }
+{
+    if s.refusal == 0 {
+        return Answer {
+            number: 0,
+            line: 0,
+            place: 0,
+        };
+    }
+    Answer {
+        number: s.refusal,
+        line: s.line,
+        place: s.place,
+    }
+}
+
+impl Upload {
+    pub fn fresh() -> Upload
+        ensures { λ r. ⌜ r ≡ fresh ⌝ }
+    {
+        Upload {
+            taken: 0,
+            lfs: 0,
+            held: 0,
+            used: 0,
+            ended: false,
+            refusal: 0,
+            line: 0,
+            place: 0,
+        }
+    }
+
+    // Takes the bytes of a piece. The line buffer has at least LINE_MAX bytes; records go to `out`.
+    pub fn feed(self, piece: &[u8], line: &mut [u8], out: &mut [u8]) -> Fed
+        ensures { λ r. ⌜ called r (now (line .exit)) (now (out .exit)) ≡ feed (whole self (now (line .entry)) (now (out .entry))) (now (piece .entry)) ⌝ }
+    {
+        if !is_fit(self, line.len(), out.len()) {
+            return Fed {
+                state: self,
+                answer: Answer {
+                    number: refusals::UNFIT,
+                    line: 0,
+                    place: 0,
+                },
+            };
+        }
+        if self.refusal != 0 {
+            return Fed {
+                state: self,
+                answer: Answer {
+                    number: self.refusal,
+                    line: self.line,
+                    place: self.place,
+                },
+            };
+        }
+        if self.ended {
+            return Fed {
+                state: self,
+                answer: Answer {
+                    number: refusals::ENDED,
+                    line: 0,
+                    place: 0,
+                },
+            };
+        }
+        let s = pieces::take_bytes(self, piece, line, out);
+        let a = answer_of(s);
+        Fed {
+            state: s,
+            answer: a,
+        }
+    }
+
+    // Reads the open line, if it holds a byte, and ends the upload.
+    pub fn finish(self, line: &mut [u8], out: &mut [u8]) -> Fed
+        ensures { λ r. ⌜ called r (now (line .exit)) (now (out .exit)) ≡ finish (whole self (now (line .entry)) (now (out .entry))) ⌝ }
+    {
+        if !is_fit(self, line.len(), out.len()) {
+            return Fed {
+                state: self,
+                answer: Answer {
+                    number: refusals::UNFIT,
+                    line: 0,
+                    place: 0,
+                },
+            };
+        }
+        if self.refusal != 0 {
+            return Fed {
+                state: self,
+                answer: Answer {
+                    number: self.refusal,
+                    line: self.line,
+                    place: self.place,
+                },
+            };
+        }
+        if self.ended {
+            return Fed {
+                state: self,
+                answer: Answer {
+                    number: refusals::ENDED,
+                    line: 0,
+                    place: 0,
+                },
+            };
+        }
+        let s = pieces::take_end(self, line, out);
+        let a = answer_of(s);
+        Fed {
+            state: s,
+            answer: a,
+        }
+    }
+}
