@@ -14,7 +14,9 @@ use Rattle.strings.specs.declared.answers.Written.{Written}
 use Rattle.strings.specs.declared.answers.Written.the-variants.{Wrote, Full}
 use Rattle.strings.specs.Read.{StringRead, accepted, refused, decodedOf}
 use Rattle.strings.specs.Write.{writtenIn}
-use Rattle.j8.specs.Results.{done, refusal, readResult, writeResult}
+use Rattle.lines.specs.declared.write.WroteLines.{WroteLines}
+use Rattle.lines.specs.declared.write.WroteLines.the-variants as lines
+use Rattle.j8.specs.Results.{done, refusal, readResult, writeResult, linesResult}
 
 module _ (d : Decoded) where
   pub read-done : (v : StringRead) (n : ℕ) → d ≡ decodedOf v → d ≡ Done n → done n ≡ readResult v
@@ -47,3 +49,10 @@ module _ (w : Written) (room : ℕ) (text : List ℕ) (p : w ≡ writtenIn room 
       split (leb (length text) room)
       (λ e. let f : w ≡ Wrote (length text) = fits-is e in never (cc))
       (λ e. let f : w ≡ Full 12 = full-is e in let z : number ≡ 12 = cc in rw e (ap (λ (k : ℕ). refusal k 0) z))
+
+module _ (w v : WroteLines) (p : w ≡ v) where
+  pub lines-done : (n : ℕ) → w ≡ lines.Wrote n → done n ≡ linesResult v
+  lines-done n q = ap linesResult (sym q ∙ p)
+
+  pub lines-refused : (number : ℕ) → w ≡ lines.Refused number → refusal number 0 ≡ linesResult v
+  lines-refused number q = ap linesResult (sym q ∙ p)

@@ -7,6 +7,8 @@ use lib.ListN.{length}
 use Rattle.prelude.specs.Pick.{pick}
 use Rattle.prelude.specs.Refusals.{noRoom}
 use Rattle.strings.specs.Read.{StringRead, accepted, refused}
+use Rattle.lines.specs.declared.write.WroteLines.{WroteLines}
+use Rattle.lines.specs.declared.write.WroteLines.the-variants.{Wrote, Refused}
 use Rattle.j8.specs.declared.J8Result.{J8Result}
 
 abbrev pub done : ℕ → J8Result
@@ -23,3 +25,8 @@ readResult (refused number at) = refusal number at
 -- a text written into so much room
 unfoldable pub writeResult : ℕ → List ℕ → J8Result
 writeResult room text = pick (leb (length text) room) (done (length text)) (refusal noRoom 0)
+
+-- records written as lines
+abbrev pub linesResult : WroteLines → J8Result
+linesResult (Wrote n) = done n
+linesResult (Refused number) = refusal number 0

@@ -3,11 +3,15 @@ ghost use mathlib.Core.Path.{_≡_};
 ghost use lib.ListN.{length};
 ghost use Rattle.strings.specs.Read.{readText, readInto};
 ghost use Rattle.strings.specs.Write.{writeString, wroteInto};
-ghost use Rattle.j8.specs.Results.{readResult, writeResult};
+ghost use Rattle.j8.specs.Results.{readResult, writeResult, linesResult};
+ghost use Rattle.lines.specs.Write.{wroteLines, linesInto};
+use lines::write::WroteLines;
 use strings::answers::Decoded;
 use strings::answers::Written;
 use strings::read;
 use strings::write;
+
+pub mod uploads;
 
 // `j8_result` of the header.
 #[repr(C)]
@@ -50,6 +54,26 @@ pub extern "C" fn j8_string_write(data: &[u8], out: &mut [u8]) -> J8Result
             length: n,
         },
         Written::Full(number) => J8Result {
+            number,
+            place: 0,
+            length: 0,
+        },
+    }
+}
+
+#[no_mangle]
+pub extern "C" fn j8_lines_write(records: &[u8], out: &mut [u8]) -> J8Result
+    ensures answer { λ r. ⌜ r ≡ linesResult (wroteLines (length (now (out .entry))) (now (records .entry))) ⌝ }
+    ensures stored { λ r. ⌜ now (out .exit) ≡ linesInto (now (records .entry)) (now (out .entry)) ⌝ }
+{
+    let written = lines::write::write(records, out);
+    match written {
+        WroteLines::Wrote(n) => J8Result {
+            number: 0,
+            place: 0,
+            length: n,
+        },
+        WroteLines::Refused(number) => J8Result {
             number,
             place: 0,
             length: 0,

@@ -1,0 +1,42 @@
+-- What the upload's calls leave, as the C interface's structs and the two buffers.
+-- Assumes nothing.
+use mathlib.Core.Bool.{Bool}
+use mathlib.Core.List.{List}
+use mathlib.Core.Path.{_≡_, ap, _∙_}
+use Prim.Native.Nat.{ℕ}
+use Rattle.upload.specs.declared.uploads.Upload.{Upload}
+use Rattle.upload.specs.declared.uploads.Fed.{Fed}
+use Rattle.upload.specs.Calls.{fresh, Called, whole, called, feed, finish}
+use Rattle.j8.specs.declared.uploads.J8Upload.{J8Upload}
+use Rattle.j8.specs.declared.uploads.J8Fed.{J8Fed}
+use Rattle.j8.specs.Uploads.{isEnded, endedNumber, stateWith, stateOf, uploadWith, uploadOf, answerOf, given, fedFrom, fedOf}
+
+pub state-of : (u : J8Upload) (over : Bool) → over ≡ isEnded (u .ended) → stateWith u over ≡ stateOf u
+state-of u over e = ap (stateWith u) e
+
+pub upload-of : (s : Upload) (over : ℕ) → over ≡ endedNumber (s .ended) → uploadWith s over ≡ uploadOf s
+upload-of s over e = ap (uploadWith s) e
+
+pub fed-from :
+    (f : Fed) (v : J8Upload) → v ≡ uploadOf (f .state)
+    → _≡_ {A = J8Fed} (record { upload = v; answer = answerOf (f .answer) }) (fedFrom f)
+fed-from f v e = ap (λ (w : J8Upload). record { upload = w; answer = answerOf (f .answer) }) e
+
+pub as-fresh : (s : Upload) (r : J8Upload) → s ≡ fresh → r ≡ uploadOf s → r ≡ uploadOf fresh
+as-fresh s r e d = d ∙ ap uploadOf e
+
+-- a call's answer and both buffers
+abbrev Left : Called → J8Fed → List ℕ → List ℕ → Type 0
+Left x r line out = (r ≡ fedOf x) × ((line ≡ x .whole .line) × (out ≡ x .whole .out))
+
+left : (f : Fed) (r : J8Fed) (line out : List ℕ) (x : Called) → called f line out ≡ x → r ≡ fedFrom f → Left x r line out
+left f r line out x e d = (d ∙ ap fedOf e, (ap (λ (y : Called). y .whole .line) e, ap (λ (y : Called). y .whole .out) e))
+
+module _ (u : J8Upload) (s : Upload) (line out line' out' : List ℕ) (f : Fed) (r : J8Fed) (e : s ≡ stateOf u) (d : r ≡ fedFrom f) where
+  pub as-fed :
+      (piece : List ℕ) → called f line' out' ≡ feed (whole s line out) piece
+      → Left (feed (given u line out) piece) r line' out'
+  as-fed piece p = left f r line' out' _ (p ∙ ap (λ (t : Upload). feed (whole t line out) piece) e) d
+
+  pub as-finished : called f line' out' ≡ finish (whole s line out) → Left (finish (given u line out)) r line' out'
+  as-finished p = left f r line' out' _ (p ∙ ap (λ (t : Upload). finish (whole t line out)) e) d

@@ -1,0 +1,16 @@
+-- The state by `upload_of`, and the answer's fields as they stand (Calls).
+-- Assumes nothing.
+use borrow.Author.Needs.{needs}
+use Rattle.j8.proofs.uploads.fed_from.Statement.{statement}
+use Rattle.j8.proofs.uploads.fed_from.Tie as tie
+use Rattle.j8.proofs.Calls.{fed-from}
+
+upload-of-requires : tie.Need-upload-of-requires
+upload-of-requires c κs = search needs
+
+returns : tie.Need-returns
+returns c =
+    search fed-from
+
+pub fed-from-spec : {M : Type 1} → statement M
+fed-from-spec = tie.close (tie.spec upload-of-requires returns)
