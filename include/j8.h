@@ -1,5 +1,5 @@
 /*
- * j8.h - J8 Notation strings for printer backups.
+ * j8.h - J8 Notation strings and lines for printer backups.
  *
  * Link with libj8.a. C99.
  *
@@ -10,7 +10,8 @@
  *  - Any bytes may be handed in; the call always ends with an answer.
  *  - A refused call leaves every byte of the lent result as it was. A call
  *    that is done writes its result from the start of the lent part, and
- *    never touches a byte past it.
+ *    never touches a byte past it. An upload appends instead, and keeps the
+ *    records of the good lines before a bad one.
  *  - Nothing is kept between calls: no global state, no allocation, no I/O.
  *    Every call is reentrant, and threads may call at the same time.
  */
@@ -27,12 +28,15 @@ extern "C" {
 /*
  * Refusal numbers. 0 is no refusal.
  *
- * Reading a string gives 2 to 12 only, writing one gives 12 only. The other
- * numbers belong to J8 Lines and JSON8 and stand here so that a number has
- * one meaning everywhere.
+ * Reading a string gives 2 to 12 only, writing one gives 12 only. An upload
+ * gives 1, 2, 4 to 12, 17 and 18, writing lines gives 1 and 12. The other
+ * numbers belong to JSON8 and stand here so that a number has one meaning
+ * everywhere.
  *
  * Order: 1, then 2 on whole texts, then the leftmost fault in the text, then
- * 12. Places are byte offsets from 0.
+ * 12. In an upload the faults and 12 are judged for each line by itself, when
+ * its LF or the finish reads it; 2 and 17 come at their byte, before any fault
+ * in the line held. Places are byte offsets from 0.
  */
 
 /* a lent buffer, table or state is unfit; place 0 */
@@ -88,6 +92,27 @@ extern "C" {
    and the two quotes. n must be at most (SIZE_MAX - 2) / 6. */
 #define J8_STRING_WRITE_ROOM(n) ((size_t)6 * (size_t)(n) + (size_t)2)
 
+/* The line buffer of an upload, and the longest line that is read, its LF not
+   counted but blanks and CR with it; the 1,025th byte is J8_TOO_LONG. A longer
+   buffer is fit too, a shorter one is J8_UNFIT. */
+#define J8_LINE_ROOM 1024
+
+/* The longest upload, LFs with it; one byte more is J8_UPLOAD_LIMIT. */
+#define J8_UPLOAD_MAX 1048576
+
+/* Room that always suffices for an upload's output. Each a LF becomes five
+   bytes, and a last line without its LF saves one more: 524,287 times a LF and
+   then ab, 1,048,576 bytes in all, need just this. */
+#define J8_UPLOAD_OUTPUT_MAX 2621441
+
+/* The bytes of a record before its payload: length and kind. */
+#define J8_RECORD_HEAD 4
+
+/* Room that always suffices to write n bytes of records as lines: a payload
+   byte becomes six at most, and the quotes and the LF are fewer than six times
+   the head. n must be at most SIZE_MAX / 6. */
+#define J8_LINES_WRITE_ROOM(n) ((size_t)6 * (size_t)(n))
+
 /*
  * The answer of a call.
  *
@@ -123,6 +148,152 @@ j8_result j8_string_read(const uint8_t *text, size_t text_len,
  */
 j8_result j8_string_write(const uint8_t *data, size_t data_len,
                           uint8_t *out, size_t out_len);
+
+/*
+ * J8 Lines.
+ *
+ * LF ends a line. Space, tab and CR are stripped at both ends of it. If nothing
+ * is left, the line is ignored. If it begins with " ' u' b' it must be one J8
+ * string and nothing more. Otherwise it is bare: valid UTF-8, with no control
+ * but tab.
+ *
+ * Each line that isn't ignored becomes a record: the payload's length in two
+ * bytes, its kind in two bytes, both little-endian, then the payload. Records
+ * stand one behind the other with nothing between them.
+ */
+
+/* A record's kind: its payload is valid UTF-8. The payload alone decides, and
+   not the style that the line was written in. */
+#define J8_KIND_TEXT 1
+/* A record's kind: its payload is anything else. */
+#define J8_KIND_BYTES 2
+
+/*
+ * The state of an upload: everything that is known between two calls besides
+ * the two buffers. Begin with j8_upload_fresh, hand each call the state that
+ * the last one returned, and change none of its fields.
+ *
+ * Any state may be handed in. One is unfit (J8_UNFIT) if held is over
+ * J8_LINE_ROOM, taken over J8_UPLOAD_MAX, lfs over taken, or used over the
+ * output lent with it.
+ */
+typedef struct {
+    /* bytes taken, LFs with them; the byte that causes a refusal isn't */
+    size_t taken;
+    /* LFs among the bytes taken */
+    size_t lfs;
+    /* bytes of the open line, from the start of the line buffer */
+    size_t held;
+    /* bytes of the output that hold records */
+    size_t used;
+    /* whether a finish ended the upload: 0 or 1; a call takes all but 0 as 1 */
+    uint32_t ended;
+    /* the refusal that is kept, or 0: every later call repeats it and changes
+       nothing. J8_UNFIT and J8_ENDED aren't kept. */
+    uint32_t refusal;
+    /* the line of that refusal, counted from 1, or 0 */
+    size_t line;
+    /* its place in the line as received, blanks with it, or 0 */
+    size_t place;
+} j8_upload;
+
+/*
+ * What one call of an upload answers.
+ *
+ * number 0: nothing is refused; line and place are 0.
+ * Otherwise number is the refusal, line its line from 1 and place its place in
+ * that line as received. J8_UNFIT and J8_ENDED have line 0 and place 0.
+ */
+typedef struct {
+    uint32_t number;
+    size_t line;
+    size_t place;
+} j8_answer;
+
+/*
+ * What a feed or a finish returns.
+ */
+typedef struct {
+    /* the new state, for the next call */
+    j8_upload upload;
+    /* the answer of this call */
+    j8_answer answer;
+} j8_fed;
+
+/*
+ * The state of an upload that nothing was fed to: 0 in each field.
+ *
+ * A whole upload. How the text is cut into pieces makes no difference to the
+ * state, the records or the refusal.
+ *
+ *     static uint8_t line[J8_LINE_ROOM], out[J8_UPLOAD_OUTPUT_MAX];
+ *     uint8_t piece[1460];
+ *     size_t got, at, length;
+ *     unsigned kind;
+ *     j8_fed fed;
+ *
+ *     fed.upload = j8_upload_fresh();
+ *     while ((got = receive(piece, sizeof piece)) > 0) {
+ *         fed = j8_upload_feed(fed.upload, piece, got,
+ *                              line, sizeof line, out, sizeof out);
+ *         if (fed.answer.number != 0) {
+ *             break;
+ *         }
+ *     }
+ *     fed = j8_upload_finish(fed.upload, line, sizeof line, out, sizeof out);
+ *     if (fed.answer.number != 0) {
+ *         complain(fed.answer.number, fed.answer.line, fed.answer.place);
+ *     }
+ *     for (at = 0; at < fed.upload.used; at += J8_RECORD_HEAD + length) {
+ *         length = (size_t)out[at] | (size_t)out[at + 1] << 8;
+ *         kind = (unsigned)out[at + 2] | (unsigned)out[at + 3] << 8;
+ *         entry(kind, out + at + J8_RECORD_HEAD, length);
+ *     }
+ *
+ * After a refused feed the finish repeats its refusal; so it is enough to look
+ * at the finish. The records are then those of the lines before the bad one.
+ */
+j8_upload j8_upload_fresh(void);
+
+/*
+ * Feeds a piece of the text, of any length, 0 too. Its bytes are taken one by
+ * one: an LF reads the line held and appends its record to the output, any
+ * other byte is stored in the line buffer. At a refusal that byte and the ones
+ * behind it aren't taken.
+ *
+ * Hand every call of an upload the same two buffers, and write to neither in
+ * between. Nothing of them is touched but the line buffer's places where bytes
+ * are stored and the output's where records are appended.
+ *
+ * Refusals: 1, then the one that is kept, then 18; then 2, 4 to 12 and 17. A
+ * line whose record doesn't fit whole is 12 at place 0.
+ */
+j8_fed j8_upload_feed(j8_upload upload,
+                      const uint8_t *piece, size_t piece_len,
+                      uint8_t *line, size_t line_len,
+                      uint8_t *out, size_t out_len);
+
+/*
+ * Ends an upload. A line that is still held is read as if an LF came; no LF or
+ * byte is counted for it. A refused finish doesn't end the upload. The line
+ * buffer isn't written.
+ *
+ * Refusals: 1, then the one that is kept, then 18; then 4 to 12.
+ */
+j8_fed j8_upload_finish(j8_upload upload,
+                        uint8_t *line, size_t line_len,
+                        uint8_t *out, size_t out_len);
+
+/*
+ * Writes records as J8 Lines: each payload as j8_string_write has it, an LF
+ * after each, however long the line. No records give no text. Uploaded again,
+ * lines of at most J8_LINE_ROOM bytes give the same records.
+ *
+ * Refusals, both at place 0: 1 if a record is cut short or its kind doesn't fit
+ * its payload, then 12.
+ */
+j8_result j8_lines_write(const uint8_t *records, size_t records_len,
+                         uint8_t *out, size_t out_len);
 
 #ifdef __cplusplus
 }

@@ -1,5 +1,7 @@
-//! Reading and writing J8 strings, beside serde_json and the reference. See
-//! the README for what is compared.
+//! Reading and writing J8 strings, beside serde_json and the reference, and the
+//! upload of J8 Lines. See the README for what is compared.
+
+mod upload;
 
 use std::hint::black_box;
 use std::time::Instant;
@@ -177,4 +179,5 @@ fn main() {
             }
         }
     }
+    upload::run(rounds);
 }

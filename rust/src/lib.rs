@@ -1,4 +1,4 @@
-//! J8 Notation strings for printer backups.
+//! J8 Notation strings and lines for printer backups.
 //!
 //! A J8 string is a text for any bytes: `"..."` for valid UTF-8, as in JSON,
 //! and `b'...'` for the rest. So a folder name with odd bytes comes back from
@@ -22,11 +22,28 @@
 //!     "refusal 11 at byte 7: there are bytes after the closing quote"
 //! );
 //! ```
+//!
+//! J8 Lines have one name a line: [`Upload`] reads them from an upload that
+//! arrives in pieces, [`write_lines`] writes them.
 
 use std::fmt;
 
+mod lines;
+mod upload;
+
+pub use lines::{
+    push_record, write_lines, write_lines_room, write_lines_to_vec, Record, Records, KIND_BYTES,
+    KIND_TEXT, RECORD_HEAD,
+};
+pub use upload::{
+    LentUpload, Upload, UploadRefusal, UploadState, LINE_ROOM, UPLOAD_MAX, UPLOAD_OUTPUT_MAX,
+};
+
 /// The C interface as it stands in `include/j8.h`.
 pub mod raw {
+    mod lines;
+    pub use lines::*;
+
     /// The answer of a call: `number` 0 means done with a result of `length`
     /// bytes, otherwise it is a refusal at `place`.
     #[repr(C)]
@@ -64,7 +81,9 @@ pub mod raw {
     }
 }
 
-/// The text is over [`TEXT_MAX`] bytes.
+/// A lent buffer, state or record is unfit.
+pub const UNFIT: u32 = 1;
+/// The text is over [`TEXT_MAX`] bytes, or an upload's line over 1,024.
 pub const TOO_LONG: u32 = 2;
 /// The text doesn't begin with `"` `'` `u'` `b'`.
 pub const NO_OPENING: u32 = 3;
@@ -86,6 +105,10 @@ pub const BYTE_ESCAPE: u32 = 10;
 pub const TRAILING: u32 = 11;
 /// All else is right, and the result is longer than the room.
 pub const NO_ROOM: u32 = 12;
+/// An upload is over [`UPLOAD_MAX`] bytes.
+pub const UPLOAD_LIMIT: u32 = 17;
+/// An upload already ended.
+pub const ENDED: u32 = 18;
 
 /// The longest text that is read.
 pub const TEXT_MAX: usize = 32_768;
@@ -113,6 +136,7 @@ pub struct Refusal {
 impl Refusal {
     fn sentence(&self) -> &'static str {
         match self.number {
+            UNFIT => "a record is cut short, or its kind doesn't fit its payload",
             TOO_LONG => "the text is over 32,768 bytes",
             NO_OPENING => "the text doesn't begin with \" ' u' b'",
             CUT_OFF => "the text ends where more is needed",

@@ -1,9 +1,11 @@
-//! J8 strings, written from the rules alone and from none of the library's
-//! code, so that the two can be compared. It is also a contestant of the
-//! benchmark.
+//! J8 strings and, in [`lines`], J8 Lines, written from the rules alone and
+//! from none of the library's code, so that the two can be compared. It is also
+//! a contestant of the benchmark.
 //!
-//! Every function fills the lent room from its start and answers the length,
-//! or refuses and leaves the room as it was.
+//! Every function on strings fills the lent room from its start and answers the
+//! length, or refuses and leaves the room as it was.
+
+pub mod lines;
 
 /// The longest text that is read.
 pub const TEXT_MAX: usize = 32_768;

@@ -1,0 +1,169 @@
+//! What the tests of J8 Lines share: the library and the reference as sides of
+//! one shape, and buffers that are watched on every side.
+
+use j8::raw::{self, j8_answer, j8_fed, j8_result, j8_upload};
+use j8_reference::lines::{self, Answer, Upload};
+
+// ------------------------------------------------------------- both sides
+
+/// One implementation of the upload.
+pub struct Side {
+    pub fresh: fn() -> j8_upload,
+    pub feed: fn(j8_upload, &[u8], &mut [u8], &mut [u8]) -> j8_fed,
+    pub finish: fn(j8_upload, &mut [u8], &mut [u8]) -> j8_fed,
+    pub write: fn(&[u8], &mut [u8]) -> j8_result,
+}
+
+impl Side {
+    pub fn call(
+        &self,
+        state: j8_upload,
+        call: lines::Call,
+        line: &mut [u8],
+        out: &mut [u8],
+    ) -> j8_fed {
+        match call {
+            lines::Call::Feed(piece) => (self.feed)(state, piece, line, out),
+            lines::Call::Finish => (self.finish)(state, line, out),
+        }
+    }
+}
+
+// SAFETY of the four calls: all parts come from slices that don't overlap.
+pub const LIBRARY: Side = Side {
+    fresh: || unsafe { raw::j8_upload_fresh() },
+    feed: |state, piece, line, out| unsafe {
+        raw::j8_upload_feed(
+            state,
+            piece.as_ptr(),
+            piece.len(),
+            line.as_mut_ptr(),
+            line.len(),
+            out.as_mut_ptr(),
+            out.len(),
+        )
+    },
+    finish: |state, line, out| unsafe {
+        raw::j8_upload_finish(
+            state,
+            line.as_mut_ptr(),
+            line.len(),
+            out.as_mut_ptr(),
+            out.len(),
+        )
+    },
+    write: |records, out| unsafe {
+        raw::j8_lines_write(records.as_ptr(), records.len(), out.as_mut_ptr(), out.len())
+    },
+};
+
+pub const REFERENCE: Side = Side {
+    fresh: || as_state(Upload::fresh()),
+    feed: |state, piece, line, out| as_fed(as_upload(state).feed(piece, line, out)),
+    finish: |state, line, out| as_fed(as_upload(state).finish(line, out)),
+    write: |records, out| match lines::write_lines(records, out) {
+        Ok(length) => j8_result {
+            number: 0,
+            place: 0,
+            length,
+        },
+        Err(refusal) => j8_result {
+            number: refusal.number,
+            place: refusal.place,
+            length: 0,
+        },
+    },
+};
+
+pub fn as_state(upload: Upload) -> j8_upload {
+    j8_upload {
+        taken: upload.taken,
+        lfs: upload.lfs,
+        held: upload.held,
+        used: upload.used,
+        ended: u32::from(upload.ended),
+        refusal: upload.refusal,
+        line: upload.line,
+        place: upload.place,
+    }
+}
+
+fn as_upload(state: j8_upload) -> Upload {
+    Upload {
+        taken: state.taken,
+        lfs: state.lfs,
+        held: state.held,
+        used: state.used,
+        ended: state.ended != 0,
+        refusal: state.refusal,
+        line: state.line,
+        place: state.place,
+    }
+}
+
+pub fn as_answer(answer: Answer) -> j8_answer {
+    j8_answer {
+        number: answer.number,
+        line: answer.line,
+        place: answer.place,
+    }
+}
+
+fn as_fed((upload, answer): (Upload, Answer)) -> j8_fed {
+    j8_fed {
+        upload: as_state(upload),
+        answer: as_answer(answer),
+    }
+}
+
+// ---------------------------------------------------------------- buffers
+
+/// Bytes on each side of a lent part.
+const MARGIN: usize = 32;
+
+/// A lent part with its margins.
+#[derive(Clone, PartialEq, Eq)]
+pub struct Lent {
+    whole: Vec<u8>,
+}
+
+/// Differs from place to place.
+fn margin() -> [u8; MARGIN] {
+    std::array::from_fn(|i| (i as u8).wrapping_mul(37) ^ 0x5a)
+}
+
+impl Lent {
+    /// The part holds these bytes.
+    pub fn new(bytes: &[u8]) -> Lent {
+        Lent {
+            whole: [&margin(), bytes, &margin()].concat(),
+        }
+    }
+
+    pub fn part(&mut self) -> &mut [u8] {
+        let end = self.whole.len() - MARGIN;
+        &mut self.whole[MARGIN..end]
+    }
+
+    /// Whether the part holds these bytes and the margins are as they were.
+    pub fn holds(&self, bytes: &[u8]) -> bool {
+        let (before, rest) = self.whole.split_at(MARGIN);
+        let (part, behind) = rest.split_at(rest.len() - MARGIN);
+        before == margin() && part == bytes && behind == margin()
+    }
+}
+
+/// A pattern that differs from place to place; `flip` turns every bit of it, so
+/// that no byte can hide by being what the pattern has.
+pub fn pattern(length: usize, flip: bool) -> Vec<u8> {
+    let mask = if flip { 0xff } else { 0 };
+    let mut bytes: Vec<u8> = (0..=255u8).map(|i| i.wrapping_mul(37) ^ mask).collect();
+    bytes = bytes.repeat(length / 256 + 1);
+    bytes.truncate(length);
+    bytes
+}
+
+pub fn record(kind: u16, payload: &[u8]) -> Vec<u8> {
+    let length = u16::try_from(payload.len()).expect("a payload for a record");
+    [&length.to_le_bytes(), &kind.to_le_bytes(), payload].concat()
+}

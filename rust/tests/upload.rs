@@ -1,0 +1,524 @@
+//! J8 Lines: every vector of tests/vectors through the C interface and against
+//! the reference, buffers compared whole; the safe types; the C interface's
+//! empty parts.
+
+mod lines;
+
+use j8::raw::{self, j8_answer, j8_result, j8_upload};
+use j8::{LentUpload, Upload, UploadRefusal, UploadState};
+use j8_reference::lines::{definition, definition_answer, joined, Call, LINE_MAX};
+use lines::{as_answer, as_state, pattern, record, Lent, Side, LIBRARY, REFERENCE};
+
+/// A field of bytes: `-`, or parts joined by `.`, each hex or `hh*n`.
+fn bytes(field: &str) -> Vec<u8> {
+    let mut out = Vec::new();
+    if field == "-" {
+        return out;
+    }
+    for part in field.split('.') {
+        let (hex, times) = match part.split_once('*') {
+            Some((hex, times)) => (hex, times.parse().expect("a count")),
+            None => (part, 1),
+        };
+        assert!(hex.len() % 2 == 0 && !hex.is_empty(), "part {part}");
+        let once: Vec<u8> = (0..hex.len())
+            .step_by(2)
+            .map(|i| u8::from_str_radix(&hex[i..i + 2], 16).expect("hex digits"))
+            .collect();
+        out.extend(once.repeat(times));
+    }
+    out
+}
+
+/// The numbers of a field, divided by commas.
+fn numbers<const N: usize>(field: &str) -> [usize; N] {
+    let list: Vec<usize> = field
+        .split(',')
+        .map(|n| n.parse().expect("a number"))
+        .collect();
+    list.try_into().expect("so many numbers")
+}
+
+/// Hands each case of a file to `run`, with its fields and where it stands.
+fn each_case<const N: usize>(file: &str, run: impl Fn([&str; N], &str)) -> usize {
+    let path = format!("{}/../tests/vectors/{file}", env!("CARGO_MANIFEST_DIR"));
+    let content = std::fs::read_to_string(&path).unwrap_or_else(|e| panic!("{path}: {e}"));
+    let mut cases = 0;
+    for (index, line) in content.lines().enumerate() {
+        if line.starts_with('#') || line.is_empty() {
+            continue;
+        }
+        let what = format!("{file} line {}", index + 1);
+        let fields: Vec<&str> = line.split(' ').collect();
+        run(fields.try_into().expect(&what), &what);
+        cases += 1;
+    }
+    println!("{file}: {cases} cases");
+    cases
+}
+
+// ------------------------------------------------------------- upload.txt
+
+fn answer(field: &str) -> j8_answer {
+    let [number, line, place] = numbers(field);
+    j8_answer {
+        number: number as u32,
+        line,
+        place,
+    }
+}
+
+fn state(field: &str) -> j8_upload {
+    let [taken, lfs, held, used, ended, refusal, line, place] = numbers(field);
+    j8_upload {
+        taken,
+        lfs,
+        held,
+        used,
+        ended: ended as u32,
+        refusal: refusal as u32,
+        line,
+        place,
+    }
+}
+
+/// The pieces of a field of calls, `None` for a finish.
+fn pieces(field: &str) -> Vec<Option<Vec<u8>>> {
+    if field == "-" {
+        return Vec::new();
+    }
+    let piece = |call: &str| match call.split_at(1) {
+        ("F", piece) => Some(bytes(piece)),
+        ("E", "") => None,
+        _ => panic!("call {call}"),
+    };
+    field.split(';').map(piece).collect()
+}
+
+fn as_calls(pieces: &[Option<Vec<u8>>]) -> Vec<Call<'_>> {
+    pieces
+        .iter()
+        .map(|piece| piece.as_deref().map_or(Call::Finish, Call::Feed))
+        .collect()
+}
+
+fn uploads(side: &Side) -> usize {
+    each_case("upload.txt", |fields: [&str; 7], what| {
+        let [line_room, room, calls, answers, at_end, output, line_buffer] = fields;
+        let pieces = pieces(calls);
+        let before = pieces.clone();
+        let calls = as_calls(&pieces);
+        let answers: Vec<j8_answer> = match answers {
+            "-" => Vec::new(),
+            some => some.split(';').map(answer).collect(),
+        };
+        assert_eq!(calls.len(), answers.len(), "{what}: fields");
+
+        let line_room: usize = line_room.parse().expect("line room");
+        let (line_lent, lent) = (
+            vec![0xaa; line_room],
+            vec![0xbb; room.parse().expect("room")],
+        );
+        let (mut line, mut out) = (Lent::new(&line_lent), Lent::new(&lent));
+        let mut upload = (side.fresh)();
+        for (at, &call) in calls.iter().enumerate() {
+            let fed = side.call(upload, call, line.part(), out.part());
+            assert_eq!(fed.answer, answers[at], "{what}: answer {at}");
+            upload = fed.upload;
+        }
+        assert_eq!(upload, state(at_end), "{what}: state");
+        assert!(out.holds(&bytes(output)), "{what}: output");
+        assert!(line.holds(&bytes(line_buffer)), "{what}: line buffer");
+        assert!(pieces == before, "{what}: pieces");
+    })
+}
+
+#[test]
+fn library_uploads() {
+    assert_eq!(uploads(&LIBRARY), 288);
+}
+
+#[test]
+fn reference_uploads() {
+    assert_eq!(uploads(&REFERENCE), 288);
+}
+
+/// The same cases by the J8 Lines definition, after each call.
+#[test]
+fn defined_uploads() {
+    each_case("upload.txt", |fields: [&str; 7], what| {
+        let [line_room, room, calls, answers, at_end, output, line_buffer] = fields;
+        let line_room: usize = line_room.parse().expect("line room");
+        if line_room < LINE_MAX {
+            return;
+        }
+        let (line_lent, lent) = (
+            vec![0xaa; line_room],
+            vec![0xbb; room.parse().expect("room")],
+        );
+        let pieces = pieces(calls);
+        let calls = as_calls(&pieces);
+        for (at, expected) in answers.split(';').filter(|&a| a != "-").enumerate() {
+            let (text, finished) = joined(&calls[..=at]);
+            let (_, finished_before) = joined(&calls[..at]);
+            let (state, _, _) = definition(&text, finished, &line_lent, &lent);
+            let found = definition_answer(&state, finished_before);
+            assert_eq!(as_answer(found), answer(expected), "{what}: answer {at}");
+        }
+        let (text, finished) = joined(&calls);
+        let (found, line, out) = definition(&text, finished, &line_lent, &lent);
+        assert_eq!(as_state(found), state(at_end), "{what}: state");
+        assert!(out == bytes(output), "{what}: output");
+        assert!(line == bytes(line_buffer), "{what}: line buffer");
+    });
+}
+
+// ---------------------------------------------------------- line_read.txt
+
+/// What a case of line_read.txt expects: an empty record if it is ignored.
+fn expected_line(
+    outcome: &str,
+    number: &str,
+    place: &str,
+    payload: &str,
+) -> Result<Vec<u8>, (u32, usize)> {
+    let number: u16 = number.parse().expect("number");
+    match outcome {
+        "ignored" => Ok(Vec::new()),
+        "record" => Ok(record(number, &bytes(payload))),
+        "refused" => Err((u32::from(number), place.parse().expect("place"))),
+        _ => panic!("outcome {outcome}"),
+    }
+}
+
+/// One line by fresh, feed and what reads it, a finish or an LF.
+fn line(
+    side: &Side,
+    text: &[u8],
+    by_finish: bool,
+    room: usize,
+    flip: bool,
+    expected: &Result<Vec<u8>, (u32, usize)>,
+    what: &str,
+) {
+    let (line_lent, lent) = (pattern(LINE_MAX + 3, flip), pattern(room, !flip));
+    let (mut line, mut out) = (Lent::new(&line_lent), Lent::new(&lent));
+    let fed = (side.feed)((side.fresh)(), text, line.part(), out.part());
+    let nothing = j8_answer {
+        number: 0,
+        line: 0,
+        place: 0,
+    };
+    assert_eq!(fed.answer, nothing, "{what}: feed");
+    let reader = if by_finish {
+        Call::Finish
+    } else {
+        Call::Feed(b"\n")
+    };
+    let fed = side.call(fed.upload, reader, line.part(), out.part());
+
+    let mut after = j8_upload {
+        taken: text.len(),
+        lfs: 0,
+        held: text.len(),
+        used: 0,
+        ended: 0,
+        refusal: 0,
+        line: 0,
+        place: 0,
+    };
+    let mut answer = nothing;
+    let mut output = lent;
+    match expected {
+        Ok(record) => {
+            after.held = 0;
+            after.used = record.len();
+            if by_finish {
+                after.ended = 1;
+            } else {
+                after.taken += 1;
+                after.lfs = 1;
+            }
+            output[..record.len()].copy_from_slice(record);
+        }
+        &Err((number, place)) => {
+            (after.refusal, after.line, after.place) = (number, 1, place);
+            answer = j8_answer {
+                number,
+                line: 1,
+                place,
+            };
+        }
+    }
+    let mut line_after = line_lent;
+    line_after[..text.len()].copy_from_slice(text);
+    assert_eq!(fed.answer, answer, "{what}: answer");
+    assert_eq!(fed.upload, after, "{what}: state");
+    assert!(out.holds(&output), "{what}: output");
+    assert!(line.holds(&line_after), "{what}: line buffer");
+}
+
+fn single_lines(side: &Side) -> usize {
+    each_case("line_read.txt", |fields: [&str; 5], what| {
+        let [text, outcome, number, place, payload] = fields;
+        let text = bytes(text);
+        let expected = expected_line(outcome, number, place, payload);
+        let length = expected.as_ref().map_or(0, Vec::len);
+        for by_finish in [true, false] {
+            for flip in [true, false] {
+                for room in [length, length + 50] {
+                    line(side, &text, by_finish, room, flip, &expected, what);
+                }
+                if length > 0 {
+                    let short = Err((j8::NO_ROOM, 0));
+                    line(side, &text, by_finish, length - 1, flip, &short, what);
+                    line(side, &text, by_finish, 0, flip, &short, what);
+                }
+            }
+        }
+    })
+}
+
+#[test]
+fn library_lines() {
+    assert_eq!(single_lines(&LIBRARY), 408);
+}
+
+#[test]
+fn reference_lines() {
+    assert_eq!(single_lines(&REFERENCE), 408);
+}
+
+// -------------------------------------------------------- lines_write.txt
+
+fn writes(side: &Side) -> usize {
+    each_case("lines_write.txt", |fields: [&str; 5], what| {
+        let [records, room, number, place, text] = fields;
+        let (records, text) = (bytes(records), bytes(text));
+        let expected = j8_result {
+            number: number.parse().expect("number"),
+            place: place.parse().expect("place"),
+            length: text.len(),
+        };
+        for flip in [false, true] {
+            let before = records.clone();
+            let lent = pattern(room.parse().expect("room"), flip);
+            let mut out = Lent::new(&lent);
+            let answer = (side.write)(&records, out.part());
+            let mut output = lent;
+            // Empty on a refusal, so the pattern stays as it is.
+            output[..text.len()].copy_from_slice(&text);
+            assert_eq!(answer, expected, "{what}: answer");
+            assert!(out.holds(&output), "{what}: output");
+            assert!(records == before, "{what}: records");
+        }
+    })
+}
+
+#[test]
+fn library_writes() {
+    assert_eq!(writes(&LIBRARY), 154);
+}
+
+#[test]
+fn reference_writes() {
+    assert_eq!(writes(&REFERENCE), 154);
+}
+
+// ---------------------------------------------------------- the safe types
+
+const WHOLE_CASE: &[u8] = b"scans/a b\nb'x\\yff'\n\n''";
+const ITS_OUTPUT: &[u8] = b"\x09\0\x01\0scans/a b\x02\0\x02\0x\xff\0\0\x01\0";
+
+#[test]
+fn whole_case() {
+    let (mut line, mut out) = ([0xaa; j8::LINE_ROOM], [0xbb; 30]);
+    let mut lent = LentUpload::new(&mut line, &mut out);
+    let mut owned = Upload::new();
+    for piece in WHOLE_CASE.chunks(5) {
+        lent.feed(piece).unwrap();
+        owned.feed(piece).unwrap();
+    }
+    assert_eq!(owned.state().held, 2);
+    assert_eq!(owned.records().count(), 2);
+    lent.finish().unwrap();
+    owned.finish().unwrap();
+    let state = UploadState {
+        taken: 22,
+        lfs: 3,
+        held: 0,
+        used: 23,
+        ended: true,
+        refusal: None,
+    };
+    assert_eq!((lent.state(), owned.state()), (state, state));
+    for (records, output) in [
+        (lent.records(), lent.output()),
+        (owned.records(), owned.output()),
+    ] {
+        assert_eq!(output, ITS_OUTPUT);
+        let kinds: Vec<u16> = records.clone().map(|r| r.kind).collect();
+        assert_eq!(kinds, [j8::KIND_TEXT, j8::KIND_BYTES, j8::KIND_TEXT]);
+        let texts: Vec<Option<&str>> = records.map(|r| r.text()).collect();
+        assert_eq!(texts, [Some("scans/a b"), None, Some("")]);
+    }
+    assert_eq!(lent.into_output(), ITS_OUTPUT);
+    assert_eq!(owned.into_output(), ITS_OUTPUT);
+    assert_eq!(&line[..10], b"''x\\yff'b\xaa");
+    assert_eq!(out[23..], [0xbb; 7]);
+}
+
+#[test]
+fn an_upload_refuses() {
+    let ended = UploadRefusal {
+        number: j8::ENDED,
+        line: 0,
+        place: 0,
+    };
+    let mut upload = Upload::with_room(23);
+    upload.feed(WHOLE_CASE).unwrap();
+    upload.finish().unwrap();
+    assert_eq!(upload.feed(b""), Err(ended));
+    assert_eq!(upload.finish(), Err(ended));
+    assert_eq!(ended.to_string(), "refusal 18: the upload already ended");
+    assert_eq!(upload.state().refusal, None);
+
+    let no_room = UploadRefusal {
+        number: j8::NO_ROOM,
+        line: 4,
+        place: 0,
+    };
+    let mut upload = Upload::with_room(22);
+    upload.feed(WHOLE_CASE).unwrap();
+    assert_eq!(upload.finish(), Err(no_room));
+    assert_eq!(upload.feed(b"x"), Err(no_room));
+    assert_eq!(upload.state().refusal, Some(no_room));
+    assert!(!upload.state().ended);
+    assert_eq!(upload.output(), &ITS_OUTPUT[..19]);
+
+    let (mut line, mut out) = ([0; j8::LINE_ROOM], []);
+    let mut upload = LentUpload::new(&mut line, &mut out);
+    let too_long = upload.feed(&[b' '; 1_025]).unwrap_err();
+    assert_eq!(
+        too_long.to_string(),
+        "refusal 2 in line 1 at byte 1024: the line is over 1,024 bytes"
+    );
+    assert_eq!(upload.records().next(), None);
+    assert!(format!("{upload:?}").starts_with("LentUpload { state: UploadState { taken: 1024,"));
+}
+
+/// The one text that needs all of the greatest output.
+#[test]
+fn the_longest_output() {
+    let mut text = b"a\n".repeat(j8::UPLOAD_MAX / 2 - 1);
+    text.extend(b"ab");
+    assert_eq!(text.len(), j8::UPLOAD_MAX);
+    let mut upload = Upload::default();
+    for piece in text.chunks(1_460) {
+        upload.feed(piece).unwrap();
+    }
+    upload.finish().unwrap();
+    assert_eq!(upload.state().used, j8::UPLOAD_OUTPUT_MAX);
+    assert_eq!(upload.records().count(), j8::UPLOAD_MAX / 2);
+
+    let mut upload = Upload::with_room(j8::UPLOAD_OUTPUT_MAX - 1);
+    upload.feed(&text).unwrap();
+    let refusal = upload.finish().unwrap_err();
+    assert_eq!((refusal.number, refusal.line), (12, j8::UPLOAD_MAX / 2));
+
+    let mut upload = Upload::new();
+    upload.feed(&text).unwrap();
+    let refusal = upload.feed(b"\n").unwrap_err();
+    assert_eq!(
+        refusal.to_string(),
+        "refusal 17 in line 524288 at byte 2: the upload is over 1,048,576 bytes"
+    );
+}
+
+#[test]
+fn lines_are_written() {
+    let mut records = Vec::new();
+    for name in [b"scans/a b".as_slice(), b"x\xff", b"", &[1; 40]] {
+        j8::push_record(&mut records, name);
+    }
+    let text = j8::write_lines_to_vec(&records).unwrap();
+    let controls = "\\u0001".repeat(40);
+    let expected = format!("\"scans/a b\"\nb'x\\yff'\n\"\"\n\"{controls}\"\n");
+    assert_eq!(text, expected.as_bytes());
+    assert!(text.len() <= j8::write_lines_room(records.len()));
+    assert_eq!(j8::write_lines_to_vec(b"").unwrap(), b"");
+
+    let mut out = [0xaa; 8];
+    let refusal = j8::write_lines(&records, &mut out).unwrap_err();
+    assert_eq!((refusal.number, refusal.place), (j8::NO_ROOM, 0));
+    let refusal = j8::write_lines(&records[..20], &mut out).unwrap_err();
+    assert_eq!((refusal.number, refusal.place), (j8::UNFIT, 0));
+    assert_eq!(
+        refusal.to_string(),
+        "refusal 1 at byte 0: a record is cut short, or its kind doesn't fit its payload"
+    );
+    assert_eq!(j8::write_lines_to_vec(&[0; 4]), Err(refusal));
+    assert_eq!(out, [0xaa; 8]);
+}
+
+#[test]
+fn records_cut_short() {
+    let records = record(1, b"ab");
+    for cut in 0..records.len() {
+        let mut few = j8::Records::new(&records[..cut]);
+        assert_eq!(few.next(), None);
+        assert_eq!(few.rest(), &records[..cut]);
+        assert_eq!(few.next(), None);
+    }
+    let mut all = j8::Records::new(&records);
+    assert_eq!(all.next().unwrap().payload, b"ab");
+    assert!(all.rest().is_empty());
+}
+
+#[test]
+fn every_refusal_has_a_sentence() {
+    let numbers = [1, 2, 4, 5, 6, 7, 8, 9, 10, 11, 12, 17, 18];
+    let sentences: std::collections::BTreeSet<String> = numbers
+        .iter()
+        .map(|&number| {
+            let refusal = UploadRefusal {
+                number,
+                line: 1,
+                place: 0,
+            };
+            refusal.to_string()
+        })
+        .collect();
+    assert_eq!(sentences.len(), numbers.len());
+    assert!(sentences.iter().all(|s| !s.contains("no string call")));
+}
+
+#[test]
+fn null_with_length_0() {
+    let (none, no_room) = (std::ptr::null(), std::ptr::null_mut());
+    let mut line = [0xaa; 1024];
+    let lent = line.as_mut_ptr();
+    // SAFETY: null stands only where the length is 0.
+    unsafe {
+        let fresh = raw::j8_upload_fresh();
+        assert_eq!(fresh, (REFERENCE.fresh)());
+        // No line buffer is a short one.
+        let fed = raw::j8_upload_feed(fresh, none, 0, no_room, 0, no_room, 0);
+        assert_eq!((fed.answer.number, fed.upload), (1, fresh));
+        let fed = raw::j8_upload_finish(fresh, no_room, 0, no_room, 0);
+        assert_eq!((fed.answer.number, fed.upload), (1, fresh));
+        let fed = raw::j8_upload_feed(fresh, none, 0, lent, 1024, no_room, 0);
+        assert_eq!((fed.answer.number, fed.upload), (0, fresh));
+        let fed = raw::j8_upload_feed(fresh, b"a".as_ptr(), 1, lent, 1024, no_room, 0);
+        assert_eq!((fed.answer.number, fed.upload.held), (0, 1));
+        let fed = raw::j8_upload_finish(fed.upload, lent, 1024, no_room, 0);
+        assert_eq!((fed.answer.number, fed.answer.line), (12, 1));
+        let fed = raw::j8_upload_finish(fresh, lent, 1024, no_room, 0);
+        assert_eq!((fed.answer.number, fed.upload.ended), (0, 1));
+        let written = raw::j8_lines_write(none, 0, no_room, 0);
+        assert_eq!((written.number, written.length), (0, 0));
+        let written = raw::j8_lines_write([0, 0, 1, 0].as_ptr(), 4, no_room, 0);
+        assert_eq!(written.number, 12);
+    }
+    assert_eq!(&line[..2], b"a\xaa");
+}
