@@ -53,7 +53,7 @@ keep-some : (x b : ℕ) (xs : List ℕ) → keep x (xs ++ (b ∷ [])) ≡ x ∷ 
 keep-some x b [] = refl
 keep-some x b (y ∷ ys) = refl
 
-trim-stop : (b : ℕ) → blank b ≡ false → (xs : List ℕ) → trimmed (xs ++ (b ∷ [])) ≡ xs ++ (b ∷ [])
+pub trim-stop : (b : ℕ) → blank b ≡ false → (xs : List ℕ) → trimmed (xs ++ (b ∷ [])) ≡ xs ++ (b ∷ [])
 unfolding trimmed pick
 trim-stop b e [] = rw e
 trim-stop b e (x ∷ xs) = ap (keep x) (trim-stop b e xs) ∙ keep-some x b xs

@@ -39,10 +39,10 @@ lines-skip (suc k) [] = refl
 lines-skip (suc k) (x ∷ r) = lines-skip k r
 
 -- behind the record at the head
-next : (x n : ℕ) (r : List ℕ) → drop (3 + n) r ≡ drop (4 + n) (x ∷ r)
+pub next : (x n : ℕ) (r : List ℕ) → drop (3 + n) r ≡ drop (4 + n) (x ∷ r)
 next x n r = ap (λ (k : ℕ). drop k (x ∷ r)) (let e : suc (3 + n) ≡ 4 + n = omega arith in e)
 
-sound-step : (s : List ℕ) → 0 < length s → sound s ≡ true → soundFrom 0 s ≡ soundFrom 0 (drop (4 + sizeAt s) s)
+pub sound-step : (s : List ℕ) → 0 < length s → sound s ≡ true → soundFrom 0 s ≡ soundFrom 0 (drop (4 + sizeAt s) s)
 unfolding soundFrom
 sound-step [] h e = absurd (omega arith)
 sound-step (x ∷ r) h e = rw e (sound-skip (3 + sizeAt (x ∷ r)) r ∙ ap (soundFrom 0) (next x (sizeAt (x ∷ r)) r))
@@ -52,12 +52,12 @@ unfolding soundFrom
 sound-stop [] h e = absurd (omega arith)
 sound-stop (x ∷ r) h e = rw e
 
-sound-first : (s : List ℕ) → 0 < length s → soundFrom 0 s ≡ true → sound s ≡ true
+pub sound-first : (s : List ℕ) → 0 < length s → soundFrom 0 s ≡ true → sound s ≡ true
 unfolding soundFrom
 sound-first [] h e = absurd (omega arith)
 sound-first (x ∷ r) h e = and-left (sound (x ∷ r)) _ e
 
-lines-step : (s : List ℕ) → 0 < length s → linesFrom 0 s ≡ lineAt s ++ linesFrom 0 (drop (4 + sizeAt s) s)
+pub lines-step : (s : List ℕ) → 0 < length s → linesFrom 0 s ≡ lineAt s ++ linesFrom 0 (drop (4 + sizeAt s) s)
 unfolding linesFrom lineAt
 lines-step [] h = absurd (omega arith)
 lines-step (x ∷ r) h =
@@ -65,11 +65,11 @@ lines-step (x ∷ r) h =
     ∙ sym (append-assoc (writeString (payloadAt (x ∷ r))) (10 ∷ []) _)
 
 -- what a sound record is
-sound-size : (s : List ℕ) → sound s ≡ true → 4 + sizeAt s ≤ length s
+pub sound-size : (s : List ℕ) → sound s ≡ true → 4 + sizeAt s ≤ length s
 unfolding sound
 sound-size s e = leb-true _ _ (and-left (leb (4 + sizeAt s) (length s)) _ e)
 
-sound-kind : (s : List ℕ) → sound s ≡ true → kindAt s ≡ kindOf (payloadAt s)
+pub sound-kind : (s : List ℕ) → sound s ≡ true → kindAt s ≡ kindOf (payloadAt s)
 unfolding sound
 sound-kind s e = eqb-true _ _ (and-right (leb (4 + sizeAt s) (length s)) _ e)
 

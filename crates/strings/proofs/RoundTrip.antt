@@ -1,10 +1,11 @@
 -- A byte string, written and read, is itself: unit by unit in any style that writes it, with any text behind the closing quote.
 -- Assumes nothing.
-use Prim.Native.Nat.{ℕ, suc, pred, _+_, _≤_}
+use Prim.Native.Nat.{ℕ, zero, suc, pred, _+_, _≤_}
 use mathlib.Core.Bool.{true}
 use mathlib.Core.List.{List, [], _∷_, _++_, append-assoc, append-nil}
 use mathlib.Core.Path.{_≡_, refl, sym, ap, _∙_}
 use native.Mathlib.Omega.{arith}
+use lib.Dec.{lit<}
 use lib.ListN.{length, take, drop, length-append, take-append-drop}
 use lib.Seq.{drop-append-seam, getD-drop}
 use borrow.Author.Tests.{eq-eqb, le-ltb}
@@ -25,8 +26,14 @@ use Rattle.strings.specs.Write.{writeUnits, mark, quoted, writeString}
 use Rattle.strings.specs.Claims.{IsBytes}
 use Rattle.strings.proofs.Steps.{read-skip, write-skip, read-close, read-took}
 
-bytes-drop : (k : ℕ) (s : List ℕ) → IsBytes s → IsBytes (drop k s)
+pub bytes-drop : (k : ℕ) (s : List ℕ) → IsBytes s → IsBytes (drop k s)
 bytes-drop k s h i = rw getD-drop (h (k + i))
+
+pub bytes-take : (n : ℕ) (s : List ℕ) → IsBytes s → IsBytes (take n s)
+bytes-take zero s h i = lit< tt
+bytes-take (suc n) [] h i = lit< tt
+bytes-take (suc n) (x ∷ s) h zero = h 0
+bytes-take (suc n) (x ∷ s) h (suc i) = bytes-take n s (λ j. h (suc j)) i
 
 -- the byte strings that a style writes
 abbrev pub Writable : Style → List ℕ → Type 0

@@ -6,13 +6,14 @@ use mathlib.Core.Path.{refl, ap}
 use native.Mathlib.Omega.{arith}
 use lib.ListN.{length}
 use Rattle.upload.specs.Lines.{lineLimit}
-use Rattle.upload.specs.Calls.{Called, feeds, finishes, run, joined, finished, defined}
-use Rattle.upload.specs.Claims.{Every-List-Of-Calls, Pieces-Do-Not-Matter, Records-After-Finish, Every-List-Is-Encoded, Whole-Case, caseText}
+use Rattle.upload.specs.Calls.{Called, feeds, finishes, run, began, joined, finished, defined}
+use Rattle.upload.specs.Claims.{Every-List-Of-Calls, Pieces-Do-Not-Matter, Records-After-Finish, Written-Lines-Read-Back, Every-List-Is-Encoded, Whole-Case, caseText}
 use Rattle.upload.proofs.Answers.{each-answer, same-pieces}
 use Rattle.upload.proofs.CaseComputed.{case-state, case-out}
 use Rattle.upload.proofs.Encoded.{textOf, cutsOf, all-lists}
 use Rattle.upload.proofs.Finished.{as-finished}
 use Rattle.upload.proofs.WholeList.{whole-list}
+use Rattle.upload.proofs.WrittenTexts.{text-read, all-read}
 
 pub every-list-of-calls : Every-List-Of-Calls
 unfolding defined run
@@ -26,6 +27,11 @@ pieces-do-not-matter cs ds line out h a b e =
 pub records-after-finish : Records-After-Finish
 unfolding defined
 records-after-finish cs line out h e = rw (whole-list cs line out h, e) (as-finished (joined cs) line out)
+
+pub written-lines-read-back : Written-Lines-Read-Back
+written-lines-read-back rs cs line out h b e j f w u r =
+    all-read (joined cs) rs out (run (began line out) cs .whole) (rw j (text-read (length out) rs b e w u r))
+    (records-after-finish cs line out h f)
 
 pub every-list-is-encoded : Every-List-Is-Encoded
 every-list-is-encoded cs = (textOf cs, cutsOf cs, all-lists cs)

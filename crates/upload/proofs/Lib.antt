@@ -3,6 +3,7 @@ pub mod Step
 pub mod WholeList
 pub mod Answers
 pub mod Finished
+pub mod WrittenTexts
 pub mod Values
 pub mod Runs
 pub mod Playing

@@ -162,7 +162,7 @@ stop-path x y p q = λ i. record { place = p i; why = q i }
 pub stop-none : (room : ℕ) (t : List ℕ) → firstFault room t .why ≡ none → firstFault room t ≡ record { place = length t; why = none }
 stop-none room t e = stop-path _ _ (none-end room t e) e
 
-stop-snoc : (room : ℕ) (t : List ℕ) (b : ℕ) → firstFault room t .why ≡ none → firstFault room (t ++ (b ∷ [])) ≡ orElse (length t) (faultBehind room t b) (record { place = suc (length t); why = none })
+pub stop-snoc : (room : ℕ) (t : List ℕ) (b : ℕ) → firstFault room t .why ≡ none → firstFault room (t ++ (b ∷ [])) ≡ orElse (length t) (faultBehind room t b) (record { place = suc (length t); why = none })
 stop-snoc room t b e =
     rw (first-snoc room t b, stop-none room t e, take-append-seam t (b ∷ []), getD-append-seam t b [] 0)
 

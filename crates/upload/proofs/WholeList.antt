@@ -51,7 +51,7 @@ ok-fit line out m k =
     rw (le-leb lineLimit (length (m .line)) (omega (arith, k .wide, k .large)), le-leb (m .state .held) lineLimit (k .held), le-leb (m .state .taken) uploadLimit (k .taken), le-leb (m .state .lfs) (m .state .taken) (k .lfs), le-leb (m .state .used) (length (m .out)) (omega (arith, k .used, k .room)))
 
 -- a finish
-empty-record : lineRecord [] ≡ []
+pub empty-record : lineRecord [] ≡ []
 unfolding lineRecord readLine readStripped strip trimmed leads
 empty-record = refl
 

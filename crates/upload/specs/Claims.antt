@@ -9,10 +9,12 @@ use mathlib.Core.Bool.{true, false}
 use mathlib.Core.List.{List, [], _∷_, _++_}
 use mathlib.Core.Path.{_≡_}
 use lib.ListN.{length, take}
+use Rattle.strings.specs.Claims.{IsBytes}
 use Rattle.lines.specs.Records.{lineRecord, Fault, none, refuse}
+use Rattle.lines.specs.Write.{soundFrom, writeQuoted}
 use Rattle.upload.specs.declared.uploads.Upload.{Upload}
 use Rattle.upload.specs.declared.uploads.Answer.{Answer}
-use Rattle.upload.specs.Lines.{LF, lineLimit, cut, records, front, firstFault, openFault, Whole, j8Lines}
+use Rattle.upload.specs.Lines.{LF, uploadLimit, lineLimit, cut, records, front, firstFault, openFault, Whole, j8Lines}
 use Rattle.upload.specs.Calls.{Call, feeds, finishes, call, run, began, joined, finished, defined, decode}
 
 -- the answers of a list of calls, in order, from a state and two buffers
@@ -55,11 +57,14 @@ orOpenLine (refuse number at) room text = refuse number at
 abbrev pub firstRefusal : ℕ → List ℕ → Fault
 firstRefusal room text = orOpenLine (firstFault room text .why) room text
 
+-- an upload ended with nothing refused: these records at the output's front, and the rest as lent
+abbrev pub EndedWith : List ℕ → List ℕ → Whole → Type 0
+EndedWith rs out m =
+    (m .state .refusal ≡ 0) × (m .state .ended ≡ true) × (m .state .used ≡ length rs) × (m .out ≡ front rs out)
+
 -- what a finished text leaves, by its first refusal: all its records; or those of the lines before the refused byte, and the refusal
 abbrev pub Finished : Fault → List ℕ → List ℕ → Whole → Type 0
-Finished none text out m =
-    (m .state .refusal ≡ 0) × (m .state .ended ≡ true) × (m .state .used ≡ length (textRecords text))
-    × (m .out ≡ front (textRecords text) out)
+Finished none text out m = EndedWith (textRecords text) out m
 Finished (refuse number at) text out m =
     (m .state .refusal ≡ number) × (m .state .place ≡ at) × (m .state .line ≡ m .state .lfs + 1)
     × (m .state .taken ≡ firstFault (length out) text .place)
@@ -70,6 +75,20 @@ abbrev pub Records-After-Finish : Type 0
 Records-After-Finish =
     (cs : List Call) (line out : List ℕ) → lineLimit ≤ length line → finished cs ≡ true
     → Finished (firstRefusal (length out) (joined cs)) (joined cs) out (run (began line out) cs .whole)
+
+-- every line is at most so many bytes long
+abbrev pub Within : ℕ → List (List ℕ) → Type 0
+Within n [] = Unit
+Within n (l ∷ ls) = (length l ≤ n) × Within n ls
+
+-- Demand 2, of lines: "written so that it reads back the same". Records that the Lines writer takes, written, uploaded in any pieces and
+-- finished, are all the records of the upload, where each line, the text and the records stay within their limits
+abbrev pub Written-Lines-Read-Back : Type 0
+Written-Lines-Read-Back =
+    (rs : List ℕ) (cs : List Call) (line out : List ℕ) → lineLimit ≤ length line
+    → IsBytes rs → soundFrom 0 rs ≡ true → joined cs ≡ writeQuoted rs → finished cs ≡ true
+    → Within lineLimit (cut (writeQuoted rs) .closed) → length (writeQuoted rs) ≤ uploadLimit → length rs ≤ length out
+    → EndedWith rs out (run (began line out) cs .whole)
 
 -- every list of calls is the decoding of a text and a list of numbers, so `replay` runs every list
 abbrev pub Every-List-Is-Encoded : Type 0

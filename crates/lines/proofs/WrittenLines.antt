@@ -1,0 +1,114 @@
+-- What the Lines writer writes reads back, line by line: nothing is stripped from a text in quotes, so the line reads as the string that was
+-- written, and its record is the one that the writer took.
+-- Assumes nothing.
+use Prim.Native.Nat.{ℕ, _+_, _*_, _/_, _%_, _≤_, _<_}
+use mathlib.Core.Bool.{true, false}
+use mathlib.Core.List.{List, [], _∷_, _++_, append-assoc}
+use mathlib.Core.Path.{_≡_, refl, sym, ap, _∙_, subst}
+use native.Mathlib.Omega.{arith}
+use borrow.Author.Tests.{le-leb}
+use lib.ListN.{length, take, drop, length-drop}
+use lib.Seq.{take-add, length-take-le}
+use Rattle.prelude.specs.Pick.{pick}
+use Rattle.prelude.proofs.Picks.{pick-case}
+use Rattle.prelude.proofs.Suffix.{by-suffix}
+use Rattle.utf8.specs.Utf8.{validUtf8}
+use Rattle.units.specs.declared.styles.Style.{Style}
+use Rattle.units.specs.declared.styles.Style.the-variants.{Json, Unicode, Bytes}
+use Rattle.units.specs.Styles.{quote}
+use Rattle.strings.specs.Read.{opening, readString}
+use Rattle.strings.specs.Write.{writeUnits, mark, quoted, writeString}
+use Rattle.strings.specs.Claims.{IsBytes}
+use Rattle.strings.proofs.RoundTrip.{bytes-drop, bytes-take, round-trip}
+use Rattle.lines.specs.Line.{blank, leads, strip, kindOf, holds, fromString, readStripped, readLine}
+use Rattle.lines.specs.Records.{headSize, head, recordOf, lineRecord, none, lineFault}
+use Rattle.lines.specs.Write.{sizeAt, kindAt, payloadAt, sound, soundFrom}
+use Rattle.lines.proofs.LineEnds.{trim-stop}
+use Rattle.lines.proofs.LineTexts.{next, sound-step, sound-first, sound-size, sound-kind}
+
+-- a text in quotes begins and ends with marks, which are no blanks
+no-leads : (st : Style) (r : List ℕ) → leads (mark st ++ r) ≡ 0
+unfolding leads blank pick
+no-leads Json r = refl
+no-leads Unicode r = refl
+no-leads Bytes r = refl
+
+quote-kept : (st : Style) → blank (quote st) ≡ false
+unfolding blank pick
+quote-kept Json = refl
+quote-kept Unicode = refl
+quote-kept Bytes = refl
+
+quoted-strip : (st : Style) (s : List ℕ) → strip (quoted st s) ≡ quoted st s
+unfolding strip quoted
+quoted-strip st s =
+    let u : List ℕ = writeUnits st 0 s in
+    rw (no-leads st (u ++ (quote st ∷ [])), ← append-assoc (mark st) u (quote st ∷ [])) (trim-stop (quote st) (quote-kept st) (mark st ++ u))
+
+quoted-opens : (st : Style) (s : List ℕ) → readStripped (quoted st s) ≡ fromString (readString (quoted st s))
+unfolding readStripped quoted opening pick
+quoted-opens Json s = refl
+quoted-opens Unicode s = refl
+quoted-opens Bytes s = refl
+
+written-strip : (s : List ℕ) → strip (writeString s) ≡ writeString s
+unfolding writeString
+written-strip s = pick-case (λ w. strip w ≡ w) (validUtf8 s) _ _ (λ e. quoted-strip Json s) (λ e. quoted-strip Bytes s)
+
+written-opens : (s : List ℕ) → readStripped (writeString s) ≡ fromString (readString (writeString s))
+unfolding writeString
+written-opens s =
+    pick-case (λ w. readStripped w ≡ fromString (readString w)) (validUtf8 s) _ _ (λ e. quoted-opens Json s) (λ e. quoted-opens Bytes s)
+
+written-line : (s : List ℕ) → IsBytes s → readLine (writeString s) ≡ holds (kindOf s) s
+unfolding readLine
+written-line s b = rw (written-strip s, written-opens s, round-trip s b)
+
+-- the two bytes of a number
+low : (x y : ℕ) → x < 256 → (x + 256 * y) % 256 ≡ x
+low x y h = omega arith
+
+high : (x y : ℕ) → x < 256 → y < 256 → (x + 256 * y) / 256 % 256 ≡ y
+high x y h g = let e : (x + 256 * y) / 256 ≡ y = omega arith in rw e (let f : y % 256 ≡ y = omega arith in f)
+
+-- the head of a record that is there is that of its own length and kind
+head-back : (s : List ℕ) → IsBytes s → headSize ≤ length s → head (sizeAt s) (kindAt s) ≡ take headSize s
+head-back [] b h = absurd (omega arith)
+head-back (w ∷ []) b h = absurd (omega arith)
+head-back (w ∷ x ∷ []) b h = absurd (omega arith)
+head-back (w ∷ x ∷ y ∷ []) b h = absurd (omega arith)
+head-back (w ∷ x ∷ y ∷ z ∷ r) b h = λ i. low w x (b 0) i ∷ high w x (b 0) (b 1) i ∷ low y z (b 2) i ∷ high y z (b 2) (b 3) i ∷ []
+
+module _ (s : List ℕ) (b : IsBytes s) (e : sound s ≡ true) where
+  payload-bytes : IsBytes (payloadAt s)
+  payload-bytes = bytes-take (sizeAt s) (drop headSize s) (bytes-drop headSize s b)
+
+  record-back : recordOf (kindOf (payloadAt s)) (payloadAt s) ≡ take (headSize + sizeAt s) s
+  record-back =
+      let n : length (payloadAt s) ≡ sizeAt s =
+      length-take-le (sizeAt s) (drop headSize s) (omega (arith, sound-size s e, length-drop headSize s)) in
+      (λ i. head (n i) (sym (sound-kind s e) i) ++ payloadAt s)
+      ∙ ap (λ (h : List ℕ). h ++ payloadAt s) (head-back s b (omega (arith, sound-size s e)))
+      ∙ sym (take-add headSize (sizeAt s) s)
+
+  -- the line of the record at the head of s
+  pub line-record : lineRecord (writeString (payloadAt s)) ≡ take (headSize + sizeAt s) s
+  unfolding lineRecord
+  line-record = rw (written-line (payloadAt s) payload-bytes) record-back
+
+  pub line-fault : (room used : ℕ) → used + length (take (headSize + sizeAt s) s) ≤ room → lineFault room used (writeString (payloadAt s)) ≡ none
+  unfolding lineFault pick
+  line-fault room used h =
+      let g : used + length (recordOf (kindOf (payloadAt s)) (payloadAt s)) ≤ room = omega (arith, ap length record-back) in
+      rw (written-line (payloadAt s) payload-bytes, le-leb _ _ g)
+
+-- induction on records: what holds of none, and of records whenever it holds of those behind the first, holds of all that are sound
+module _ (P : List ℕ → Type 0) (empty : P []) (one : (s : List ℕ) → 0 < length s → sound s ≡ true → P (drop (headSize + sizeAt s) s) → P s) where
+  pub by-records : (s : List ℕ) → soundFrom 0 s ≡ true → P s
+  by-records =
+      by-suffix (λ s. soundFrom 0 s ≡ true → P s) (λ e. empty)
+      (λ x r ih e. let n : ℕ = sizeAt (x ∷ r) in
+      let h : 0 < length (x ∷ r) = omega arith in
+      let f : sound (x ∷ r) ≡ true = sound-first (x ∷ r) h e in
+      let g : soundFrom 0 (drop (3 + n) r) ≡ true = ap (soundFrom 0) (next x n r) ∙ sym (sound-step (x ∷ r) h f) ∙ e in
+      one (x ∷ r) h f (subst P (next x n r) (ih (3 + n) g)))
