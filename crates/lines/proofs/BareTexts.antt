@@ -11,12 +11,15 @@ use lib.ListN.{length, getD, drop, length-drop, drop-of-length-le}
 use lib.Seq.{drop-drop, drop-cons}
 use Rattle.prelude.specs.Pick.{pick}
 use Rattle.prelude.proofs.Cases.{split}
-use Rattle.utf8.specs.Class.{classOf, plainRun}
+use Rattle.utf8.specs.Class.{classOf}
 use Rattle.utf8.specs.Utf8.{charLen, charBy, charAt, longLen}
 use Rattle.utf8.proofs.ByteClasses.{by-byte}
-use Rattle.utf8.proofs.PlainRuns.{run-within}
 use Rattle.utf8.proofs.CharSteps.{one-byte, lone-tail, long-char}
 use Rattle.utf8.proofs.Characters.{char-le}
+use Rattle.units.specs.declared.styles.Style.{Style}
+use Rattle.units.specs.Units.{literalRun}
+use Rattle.units.specs.Blocks.{Running}
+use Rattle.units.proofs.LiteralLaws.{literal-char, literal-printed, by-run, run-fits}
 use Rattle.lines.specs.declared.bare.Checked.{Checked}
 use Rattle.lines.specs.declared.bare.Checked.the-variants.{Fine, Faulty}
 use Rattle.lines.specs.Line.{badChar, bareFault, unless, bareFrom, bare}
@@ -70,35 +73,47 @@ unfolding bareFrom bareFault pick
 bare-control p [] h l g = absurd (omega arith)
 bare-control p (x ∷ r) h l g = simp (lt-ltb x 32 l, ne-eqb x 9 g)
 
--- plain bytes in front are taken off
-bare-plain : (n p : ℕ) (s : List ℕ) → n ≤ plainRun s → bareFrom p 0 s ≡ bareFrom (p + n) 0 (drop n s)
-unfolding plainRun pick
-bare-plain zero p s h = ap (λ (q : ℕ). bareFrom q 0 s) (let z : p ≡ p + 0 = omega arith in z)
-bare-plain (suc n) p [] h = absurd (omega arith)
-bare-plain (suc n) p (x ∷ r) h =
-    split (eqb (classOf x) 0)
-    (λ e. let k : classOf x ≡ 0 = eqb-true (classOf x) 0 e in
-    let l : 32 ≤ x = no-control x (λ z. omega arith) in
-    let q : p + 1 + n ≡ p + suc n = omega arith in
-    bare-good p 1 (x ∷ r) (omega arith) (one-byte (x ∷ r) 0 (classOf x) (omega arith) refl (omega arith)) (λ z. omega arith) (λ g. absurd (omega arith))
-    ∙ bare-plain n (p + 1) r (omega (arith, rw e at h)) ∙ ap (λ (m : ℕ). bareFrom m 0 (drop n r)) q)
-    (λ e. absurd (omega (arith, rw e at h)))
+-- literal characters in front are taken off
+run-bare : (st : Style) (s : List ℕ) (p : ℕ) → bareFrom p 0 s ≡ bareFrom (p + literalRun st 0 s) 0 (drop (literalRun st 0 s) s)
+run-bare st =
+    by-run st (λ s n. (p : ℕ) → bareFrom p 0 s ≡ bareFrom (p + n) 0 (drop n s))
+    (λ s e p. ap (λ (q : ℕ). bareFrom q 0 s) (let z : p ≡ p + 0 = omega arith in z))
+    (λ s n m e f h p.
+    let l : 32 ≤ getD s 0 0 = literal-printed st s n e in
+    let q : p + suc n + m ≡ p + (suc n + m) = omega arith in
+    bare-good p (suc n) s (omega arith) (literal-char st s n e) (λ z. omega arith) (λ g. absurd (omega arith)) ∙ h (p + suc n)
+    ∙ (λ i. bareFrom (q i) 0 (drop-drop m (suc n) s i)))
+
+module _ (st : Style) (s : List ℕ) (at : ℕ) (r : Running st s 0 at) where
+  -- a run that reaches the end
+  pub all-run : at ≡ length s → literalRun st 0 s ≡ length s
+  unfolding literalRun
+  all-run e = omega (arith, rw (drop-of-length-le s {i = at} (omega arith)) at (r .same))
+
+  pub run-fine : at ≡ length s → Fine ≡ bare s
+  unfolding bare bareFrom
+  run-fine e = sym (run-bare st s 0 ∙ rw (all-run e, drop-of-length-le s {i = length s} (omega arith)))
+
+  pub run-inside : (e : ℕ) → e ≡ at + literalRun st 0 (drop at s) → e ≤ length s
+  run-inside e h = omega (arith, r .same, run-fits st s)
+
+  pub behind-run : (e : ℕ) (c : Checked) → e ≡ at + literalRun st 0 (drop at s) → c ≡ bareFrom e 0 (drop e s) → c ≡ bare s
+  unfolding bare
+  behind-run e c h g =
+      let z : e ≡ 0 + literalRun st 0 s = omega (arith, r .same) in
+      let y : e ≡ literalRun st 0 s = omega (arith, r .same) in
+      g ∙ (λ i. bareFrom (z i) 0 (drop (y i) s)) ∙ sym (run-bare st s 0)
 
 -- the loop's invariant at a place
-pub record Passing (s : List ℕ) (at : ℕ) : Type 0 where
+pub record Passing (s : List ℕ) (from at : ℕ) : Type 0 where
   pub inside : at ≤ length s
-  pub same : bare s ≡ bareFrom at 0 (drop at s)
+  pub same : bareFrom from 0 (drop from s) ≡ bareFrom at 0 (drop at s)
 
--- behind the eights that are plain
-pub begun : (s : List ℕ) (i : ℕ) → i ≡ 0 + 8 * (plainRun (drop 0 s) / 8) → Passing s i
-unfolding bare
-begun s i e =
-    let l : i ≤ plainRun s = omega arith in
-    let z : 0 + i ≡ i = omega arith in
-    record { inside = omega (arith, run-within s); same = bare-plain i 0 s l ∙ ap (λ (m : ℕ). bareFrom m 0 (drop i s)) z }
+pub begun : (s : List ℕ) (from : ℕ) → from ≤ length s → Passing s from from
+begun s from h = record { inside = h; same = refl }
 
-module _ (s : List ℕ) (at : ℕ) (i : Passing s at) where
-  pub ended : length s ≤ at → Fine ≡ bare s
+module _ (s : List ℕ) (from at : ℕ) (i : Passing s from at) where
+  pub ended : length s ≤ at → Fine ≡ bareFrom from 0 (drop from s)
   unfolding bareFrom
   ended h = sym (i .same ∙ ap (bareFrom at 0) (drop-of-length-le s h))
 
@@ -109,16 +124,16 @@ module _ (s : List ℕ) (at : ℕ) (i : Passing s at) where
     first : getD (drop at s) 0 0 ≡ getD s at 0
     first = rw (drop-cons s at 0 h)
 
-    moved : (n : ℕ) → charLen (drop at s) ≡ n → (n ≡ 0 → ⊥) → (getD s at 0 < 32 → getD s at 0 ≡ 9) → Passing s (at + n)
+    moved : (n : ℕ) → charLen (drop at s) ≡ n → (n ≡ 0 → ⊥) → (getD s at 0 < 32 → getD s at 0 ≡ 9) → Passing s from (at + n)
     moved n e p g = record {
       inside = omega (arith, char-le (drop at s), length-drop at s, i .inside);
       same = i .same ∙ bare-good at n (drop at s) some e p (λ l. first ∙ g (omega (arith, first))) ∙ ap (bareFrom (at + n) 0) (drop-drop n at s);
     }
 
-    stuck : charLen (drop at s) ≡ 0 → 32 ≤ getD s at 0 → Faulty 5 at ≡ bare s
+    stuck : charLen (drop at s) ≡ 0 → 32 ≤ getD s at 0 → Faulty 5 at ≡ bareFrom from 0 (drop from s)
     stuck e g = sym (i .same ∙ bare-stuck at (drop at s) some e (omega (arith, first)))
 
-    controlled : getD s at 0 < 32 → (getD s at 0 ≡ 9 → ⊥) → Faulty 6 at ≡ bare s
+    controlled : getD s at 0 < 32 → (getD s at 0 ≡ 9 → ⊥) → Faulty 6 at ≡ bareFrom from 0 (drop from s)
     controlled l g = sym (i .same ∙ bare-control at (drop at s) some (omega (arith, first)) (λ z. g (sym first ∙ z)))
 
     -- the loop's turns, way by way
@@ -126,25 +141,25 @@ module _ (s : List ℕ) (at : ℕ) (i : Passing s at) where
       class-over : 5 ≤ k → 32 ≤ getD s at 0
       class-over l = no-control (getD s at 0) (λ z. omega arith)
 
-      pub plain-on : k < 5 → (k ≡ 1 → ⊥) → Passing s (at + 1)
+      pub plain-on : k < 5 → (k ≡ 1 → ⊥) → Passing s from (at + 1)
       plain-on l g =
           let m : 32 ≤ getD s at 0 = no-control (getD s at 0) (λ z. g (ek ∙ z)) in
           moved 1 (one-byte s at k h ek l) (λ z. omega arith) (λ z. absurd (omega arith))
 
-      pub tab-on : k < 5 → getD s at 0 ≡ 9 → Passing s (at + 1)
+      pub tab-on : k < 5 → getD s at 0 ≡ 9 → Passing s from (at + 1)
       tab-on l g = moved 1 (one-byte s at k h ek l) (λ z. omega arith) (λ z. g)
 
-      pub control-stop : k ≡ 1 → (getD s at 0 ≡ 9 → ⊥) → Faulty 6 at ≡ bare s
+      pub control-stop : k ≡ 1 → (getD s at 0 ≡ 9 → ⊥) → Faulty 6 at ≡ bareFrom from 0 (drop from s)
       control-stop l g = controlled (is-control (getD s at 0) (sym ek ∙ l)) g
 
-      pub lone-stop : 5 ≤ k → k < 6 → Faulty 5 at ≡ bare s
+      pub lone-stop : 5 ≤ k → k < 6 → Faulty 5 at ≡ bareFrom from 0 (drop from s)
       lone-stop l m = stuck (lone-tail s at k h ek l m) (class-over l)
 
       module _ (n : ℕ) (en : n ≡ longLen k (getD (drop at s) 1 0) (getD (drop at s) 2 0) (getD (drop at s) 3 0)) (l : 6 ≤ k) where
-        pub cut-stop : n ≡ 0 → Faulty 5 at ≡ bare s
+        pub cut-stop : n ≡ 0 → Faulty 5 at ≡ bareFrom from 0 (drop from s)
         cut-stop z = stuck (long-char s at k h ek n en l ∙ z) (class-over (omega arith))
 
-        pub long-on : (n ≡ 0 → ⊥) → Passing s (at + n)
+        pub long-on : (n ≡ 0 → ⊥) → Passing s from (at + n)
         long-on z =
             let m : 32 ≤ getD s at 0 = class-over (omega arith) in
             moved n (long-char s at k h ek n en l) z (λ g. absurd (omega arith))

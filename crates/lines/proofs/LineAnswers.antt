@@ -14,6 +14,9 @@ use Rattle.prelude.proofs.Cases.{split, never}
 use Rattle.prelude.proofs.Stores.{sets-over}
 use Rattle.utf8.specs.Utf8.{validUtf8}
 use Rattle.units.specs.declared.styles.Style.{Style}
+use Rattle.units.specs.declared.styles.Style.the-variants.{Json}
+use Rattle.units.specs.Blocks.{Running}
+use Rattle.units.proofs.LiteralLaws.{all-literal}
 use Rattle.strings.specs.declared.answers.Decoded.{Decoded}
 use Rattle.strings.specs.declared.answers.Decoded.the-variants.{Done, Refused as Undone}
 use Rattle.strings.specs.declared.read.Mark.{Mark}
@@ -26,6 +29,7 @@ use Rattle.lines.specs.declared.read.Line.{Line}
 use Rattle.lines.specs.declared.read.Line.the-variants.{Ignored, Holds, Refused}
 use Rattle.lines.specs.Line.{LineRead, ignored, holds, faulty, bare, kindOf, fromString, fromBare, byOpening, readStripped, shifted, leads, trimmed, strip, readLine}
 use Rattle.lines.specs.Answers.{fittedLine, lineOf, lineInto, Told}
+use Rattle.lines.proofs.BareTexts.{all-run}
 use Rattle.lines.proofs.LineEnds.{strip-part, strip-inside}
 use Rattle.lines.proofs.Refusing.{LineFault, stripped-fault}
 
@@ -37,6 +41,10 @@ kind-valid s v e h = rw (sym e ∙ h)
 pub kind-other : (s : List ℕ) (v : Bool) → v ≡ validUtf8 s → v ≡ false → 2 ≡ kindOf s
 unfolding kindOf pick
 kind-other s v e h = rw (sym e ∙ h)
+
+pub kind-run : (s : List ℕ) (at : ℕ) → Running Json s 0 at → at ≡ length s → 1 ≡ kindOf s
+unfolding kindOf pick
+kind-run s at r e = rw (all-literal Json s (all-run Json s at r e))
 
 -- a string v, read into out
 module _ (out : List ℕ) where

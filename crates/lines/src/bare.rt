@@ -1,8 +1,13 @@
 // A bare line's check.
 ghost use mathlib.Core.Path.{_≡_};
+ghost use Prim.Native.Nat.{_≤_};
+ghost use lib.ListN.{length, drop};
 ghost use Rattle.utf8.specs.Class.{IsTable};
-ghost use Rattle.lines.specs.Line.{bare};
+ghost use Rattle.lines.specs.Line.{bareFrom, bare};
 use prelude::refusals;
+use units::blocks;
+use units::literals;
+use units::styles::Style;
 use utf8::chars;
 use utf8::classes;
 
@@ -12,12 +17,12 @@ pub enum Checked {
     Faulty(u32, usize),
 }
 
-// Whether a text is valid UTF-8 with no control but tab. Eight plain bytes at a time, as long as they last, and then one loop.
-pub fn check_bare(t: &[u8; 256], s: &[u8]) -> Checked
-    requires { ⌜ IsTable (now t) ⌝ }
-    ensures { λ r. ⌜ r ≡ bare (now (s .entry)) ⌝ }
+// Whether the characters from a place on are well-formed, with no control but tab.
+fn check_from(t: &[u8; 256], s: &[u8], from: usize) -> Checked
+    requires { ⌜ IsTable (now t) × (from ≤ length (now s)) ⌝ }
+    ensures { λ r. ⌜ r ≡ bareFrom from 0 (drop from (now (s .entry))) ⌝ }
 {
-    let mut at = classes::eights(t, s, 0);
+    let mut at = from;
     while at < s.len() {
         let x = s[at];
         let k = classes::class_in(t, x);
@@ -42,4 +47,18 @@ pub fn check_bare(t: &[u8; 256], s: &[u8]) -> Checked
         at += n;
     }
     Checked::Fine
+}
+
+// Whether a text is valid UTF-8 with no control but tab. What is literal in a string may stand bare, so blocks take the most of it; the
+// table is made only where they don't reach the end.
+pub fn check_bare(s: &[u8]) -> Checked
+    ensures { λ r. ⌜ r ≡ bare (now (s .entry)) ⌝ }
+{
+    let at = blocks::strides(s, 0, Style::Json);
+    if at == s.len() {
+        return Checked::Fine;
+    }
+    let t = classes::table();
+    let e = literals::literal_run(&t, s, at, Style::Json);
+    check_from(&t, s, e)
 }

@@ -13,6 +13,8 @@ use prelude::refusals;
 use prelude::slices;
 use strings::answers::Decoded;
 use strings::read::Mark;
+use units::blocks;
+use units::styles::Style;
 use utf8::chars;
 use utf8::classes;
 
@@ -23,8 +25,8 @@ pub enum Line {
     Refused(u32, usize),
 }
 
-// The kind of a payload.
-pub fn kind_of(t: &[u8; 256], s: &[u8]) -> u32
+// The kind of a payload, with the table lent.
+pub fn kind_in(t: &[u8; 256], s: &[u8]) -> u32
     requires { ⌜ IsTable (now t) ⌝ }
     ensures { λ r. ⌜ r ≡ kindOf (now (s .entry)) ⌝ }
 {
@@ -34,24 +36,33 @@ pub fn kind_of(t: &[u8; 256], s: &[u8]) -> u32
     2
 }
 
+// The kind of a payload. What is literal in a string is valid, so blocks tell most of those; the table is made for the others.
+fn kind_of(s: &[u8]) -> u32
+    ensures { λ r. ⌜ r ≡ kindOf (now (s .entry)) ⌝ }
+{
+    if blocks::strides(s, 0, Style::Json) == s.len() {
+        return 1;
+    }
+    let t = classes::table();
+    kind_in(&t, s)
+}
+
 // A line that is one string.
-fn read_quoted(t: &[u8; 256], s: &[u8], out: &mut [u8]) -> Line
-    requires { ⌜ IsTable (now t) ⌝ }
+fn read_quoted(s: &[u8], out: &mut [u8]) -> Line
     ensures { λ r. ⌜ Told (fromString (readString (now (s .entry)))) r (now (out .entry)) (now (out .exit)) ⌝ }
 {
-    let read = strings::read::read_in(t, s, out);
+    let read = strings::read::read_string(s, out);
     match read {
-        Decoded::Done(n) => Line::Holds(kind_of(t, &out[..n]), n),
+        Decoded::Done(n) => Line::Holds(kind_of(&out[..n]), n),
         Decoded::Refused(number, place) => Line::Refused(number, place),
     }
 }
 
 // A bare line.
-fn read_bare(t: &[u8; 256], s: &[u8], out: &mut [u8]) -> Line
-    requires { ⌜ IsTable (now t) ⌝ }
+fn read_bare(s: &[u8], out: &mut [u8]) -> Line
     ensures { λ r. ⌜ Told (fromBare (now (s .entry)) (bare (now (s .entry)))) r (now (out .entry)) (now (out .exit)) ⌝ }
 {
-    let checked = bare::check_bare(t, s);
+    let checked = bare::check_bare(s);
     match checked {
         Checked::Fine => {
             let n = s.len();
@@ -70,11 +81,10 @@ fn read_stripped(s: &[u8], out: &mut [u8]) -> Line
     requires { ⌜ 0 < length (now s) ⌝ }
     ensures { λ r. ⌜ Told (readStripped (now (s .entry))) r (now (out .entry)) (now (out .exit)) ⌝ }
 {
-    let t = classes::table();
     let mark = strings::read::mark_at(s);
     match mark {
-        Mark::Opens(_, _) => read_quoted(&t, s, out),
-        Mark::Unopened => read_bare(&t, s, out),
+        Mark::Opens(_, _) => read_quoted(s, out),
+        Mark::Unopened => read_bare(s, out),
     }
 }
 

@@ -38,7 +38,7 @@ fn sound_at(t: &[u8; 256], s: &[u8], at: usize) -> bool
         return false;
     }
     let from = at + HEAD;
-    let kind = read::kind_of(t, &s[from..from + n]);
+    let kind = read::kind_in(t, &s[from..from + n]);
     number_at(s, at, 2) == kind as usize
 }
 

@@ -226,19 +226,6 @@ fn read_marked(
     two_passes(t, s, from, style, out)
 }
 
-// The string that a text of any length is, with the table lent.
-pub fn read_in(t: &[u8; 256], s: &[u8], out: &mut [u8]) -> Decoded
-    requires { ⌜ IsTable (now t) ⌝ }
-    ensures answer { λ r. ⌜ r ≡ decodedOf (fitted (length (now (out .entry))) (readString (now (s .entry)))) ⌝ }
-    ensures stored { λ r. ⌜ now (out .exit) ≡ readInto (fitted (length (now (out .entry))) (readString (now (s .entry)))) (now (out .entry)) ⌝ }
-{
-    let mark = mark_at(s);
-    match mark {
-        Mark::Opens(style, from) => read_marked(t, s, from, from, style, out),
-        Mark::Unopened => Decoded::Refused(refusals::NO_OPENING, 0),
-    }
-}
-
 // The units behind a mark: the table is made only where blocks don't reach the closing quote.
 fn read_open(s: &[u8], from: usize, style: Style, out: &mut [u8]) -> Decoded
     requires { ⌜ from ≤ length (now s) ⌝ }
@@ -253,6 +240,18 @@ fn read_open(s: &[u8], from: usize, style: Style, out: &mut [u8]) -> Decoded
     read_marked(&t, s, from, at, style, out)
 }
 
+// Reads the J8 string that a text of any length is.
+pub fn read_string(s: &[u8], out: &mut [u8]) -> Decoded
+    ensures answer { λ r. ⌜ r ≡ decodedOf (fitted (length (now (out .entry))) (readString (now (s .entry)))) ⌝ }
+    ensures stored { λ r. ⌜ now (out .exit) ≡ readInto (fitted (length (now (out .entry))) (readString (now (s .entry)))) (now (out .entry)) ⌝ }
+{
+    let mark = mark_at(s);
+    match mark {
+        Mark::Opens(style, from) => read_open(s, from, style, out),
+        Mark::Unopened => Decoded::Refused(refusals::NO_OPENING, 0),
+    }
+}
+
 // Reads the J8 string that a text is: its bytes in front of out, or a refusal and out as it was.
 pub fn read(text: &[u8], out: &mut [u8]) -> Decoded
     ensures answer { λ r. ⌜ r ≡ decodedOf (readText (length (now (out .entry))) (now (text .entry))) ⌝ }
@@ -261,9 +260,5 @@ pub fn read(text: &[u8], out: &mut [u8]) -> Decoded
     if TEXT_MAX < text.len() {
         return Decoded::Refused(refusals::TOO_LONG, 0);
     }
-    let mark = mark_at(text);
-    match mark {
-        Mark::Opens(style, from) => read_open(text, from, style, out),
-        Mark::Unopened => Decoded::Refused(refusals::NO_OPENING, 0),
-    }
+    read_string(text, out)
 }

@@ -7,7 +7,7 @@ use mathlib.Core.List.{List, [], _∷_}
 use mathlib.Core.Path.{_≡_, refl, sym, ap, _∙_, subst}
 use native.Mathlib.Omega.{arith}
 use lib.Dec.{ltb, eqb, lit<, lit≤}
-use lib.ListN.{length, take, drop, length-drop, drop-of-length-le}
+use lib.ListN.{length, getD, take, drop, length-drop, drop-of-length-le}
 use lib.Seq.{drop-drop}
 use borrow.Author.Tests.{ltb-false, ne-eqb}
 use Rattle.prelude.specs.Pick.{pick}
@@ -49,6 +49,11 @@ literal-nil st = refl
 pub literal-char : (st : Style) (s : List ℕ) (n : ℕ) → literalLen st s ≡ suc n → charLen s ≡ suc n
 literal-char st [] n e = absurd (omega (arith, literal-nil st))
 literal-char st (x ∷ r) n e = literal-is st x r n e .size
+
+-- a literal character begins with no control
+pub literal-printed : (st : Style) (s : List ℕ) (n : ℕ) → literalLen st s ≡ suc n → 32 ≤ getD s 0 0
+literal-printed st [] n e = absurd (omega (arith, literal-nil st))
+literal-printed st (x ∷ r) n e = ltb-false x 32 (literal-is st x r n e .no-control)
 
 pub literal-unit : (st : Style) (s : List ℕ) (n : ℕ) → literalLen st s ≡ suc n → unitAt st s ≡ took (suc n) (take (suc n) s)
 unfolding unitAt pick

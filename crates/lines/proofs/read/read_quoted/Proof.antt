@@ -1,4 +1,4 @@
--- What `read_in` promises of a string is what is told of the line (LineAnswers).
+-- What `read_string` promises of a string is what is told of the line (LineAnswers).
 -- Assumes nothing.
 use borrow.Author.Needs.{needs}
 use Rattle.lines.proofs.read.read_quoted.Statement.{statement}
@@ -8,19 +8,19 @@ use denote.Ref.{now}
 use lib.Seq.{length-take-le}
 use Rattle.lines.proofs.LineAnswers.{quoted-holds, quoted-inside, quoted-faulty}
 
-read-in-requires : tie.Need-read-in-requires
-read-in-requires c κs = search needs
+read-string-requires : tie.Need-read-string-requires
+read-string-requires c κs = search needs
 
 enum-known-read : tie.Need-enum-known-read
 enum-known-read c = search needs
 
 slice-reshare-prefix-kind-of : tie.Need-slice-reshare-prefix-kind-of
 slice-reshare-prefix-kind-of c =
-    quoted-inside (now (c .before .before .before .before .before .before .before .before .before .args .s)) (now (c .before .before .before .before .before .before .before .before .before .args .out)) _ _ (c .before .before .before .before .before .read-in .ensures) _ (c .before .read .given .1)
+    quoted-inside (now (c .before .before .before .before .before .before .before .before .before .args .s)) (now (c .before .before .before .before .before .before .before .before .before .args .out)) _ _ (c .before .before .before .before .before .read-string .ensures) _ (c .before .read .given .1)
 
 slice-aggregate-kind-of : tie.Need-slice-aggregate-kind-of
 slice-aggregate-kind-of c =
-    sym (length-take-le _ _ (quoted-inside (now (c .before .before .before .before .before .before .before .before .before .before .args .s)) (now (c .before .before .before .before .before .before .before .before .before .before .args .out)) _ _ (c .before .before .before .before .before .before .read-in .ensures) _ (c .before .before .read .given .1)))
+    sym (length-take-le _ _ (quoted-inside (now (c .before .before .before .before .before .before .before .before .before .before .args .s)) (now (c .before .before .before .before .before .before .before .before .before .before .args .out)) _ _ (c .before .before .before .before .before .before .read-string .ensures) _ (c .before .before .read .given .1)))
 
 kind-of-requires : tie.Need-kind-of-requires
 kind-of-requires c κs = search needs
@@ -46,7 +46,7 @@ pub read-quoted-spec : {M : Type 1} → statement M
 read-quoted-spec =
     tie.close
     (tie.spec
-    read-in-requires
+    read-string-requires
     enum-known-read
     slice-reshare-prefix-kind-of
     slice-aggregate-kind-of

@@ -5,9 +5,6 @@ use Rattle.lines.proofs.read.read_stripped.Statement.{statement}
 use Rattle.lines.proofs.read.read_stripped.Tie as tie
 use Rattle.lines.proofs.LineAnswers.{marked, unmarked}
 
-table-requires : tie.Need-table-requires
-table-requires c κs = search needs
-
 mark-at-requires : tie.Need-mark-at-requires
 mark-at-requires c κs = search needs
 
@@ -41,7 +38,6 @@ pub read-stripped-spec : {M : Type 1} → statement M
 read-stripped-spec =
     tie.close
     (tie.spec
-    table-requires
     mark-at-requires
     enum-told
     read-quoted-requires

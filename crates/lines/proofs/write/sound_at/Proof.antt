@@ -23,20 +23,20 @@ returns c =
 add-from : tie.Need-add-from
 add-from c = search needs
 
-add-kind-of : tie.Need-add-kind-of
-add-kind-of c = search needs
+add-kind-in : tie.Need-add-kind-in
+add-kind-in c = search needs
 
-sub-kind-of : tie.Need-sub-kind-of
-sub-kind-of c = search needs
+sub-kind-in : tie.Need-sub-kind-in
+sub-kind-in c = search needs
 
-part-kind-of-start : tie.Need-part-kind-of-start
-part-kind-of-start c = search needs
+part-kind-in-start : tie.Need-part-kind-in-start
+part-kind-in-start c = search needs
 
-part-kind-of-end : tie.Need-part-kind-of-end
-part-kind-of-end c = search needs
+part-kind-in-end : tie.Need-part-kind-in-end
+part-kind-in-end c = search needs
 
-kind-of-requires : tie.Need-kind-of-requires
-kind-of-requires c κs = search needs
+kind-in-requires : tie.Need-kind-in-requires
+kind-in-requires c κs = search needs
 
 number-at-requires-2 : tie.Need-number-at-requires-2
 number-at-requires-2 c κs = search needs
@@ -46,7 +46,7 @@ cast-result c = search needs
 
 returns-2 : tie.Need-returns-2
 returns-2 c =
-    kind-told (now (c .before .before .before .before .before .before .args .s)) _ _ (c .before .before .before .before .before .before .pre .1) (c .before .before .before .before .number-at .ensures .0) _ _ (omega arith) (c .before .kind-of .ensures) (c .number-at2 .ensures .0)
+    kind-told (now (c .before .before .before .before .before .before .args .s)) _ _ (c .before .before .before .before .before .before .pre .1) (c .before .before .before .before .number-at .ensures .0) _ _ (omega arith) (c .before .kind-in .ensures) (c .number-at2 .ensures .0)
 
 pub sound-at-spec : {M : Type 1} → statement M
 sound-at-spec =
@@ -57,11 +57,11 @@ sound-at-spec =
     add-if1
     returns
     add-from
-    add-kind-of
-    sub-kind-of
-    part-kind-of-start
-    part-kind-of-end
-    kind-of-requires
+    add-kind-in
+    sub-kind-in
+    part-kind-in-start
+    part-kind-in-end
+    kind-in-requires
     number-at-requires-2
     cast-result
     returns-2)
