@@ -15,7 +15,7 @@ use Rattle.prelude.specs.Pick.{pick}
 use Rattle.prelude.proofs.Cases.{split}
 use Rattle.upload.specs.declared.uploads.Upload.{Upload}
 use Rattle.upload.specs.Lines.{LF, Whole}
-use Rattle.upload.specs.Calls.{stored, feedByte, feedBytes, whole, lineRun, storedRun}
+use Rattle.upload.specs.Calls.{stored, feedByte, feedBytes, whole, lineRun, NoLF, storedRun}
 use Rattle.upload.proofs.Step.{state-path, whole-path}
 use Rattle.upload.proofs.Values.{byte-kept, byte-stored}
 
@@ -45,6 +45,15 @@ at-lf s i h e = rw (drop-cons s i 0) (run-lf (getD s i 0) (drop (suc i) s) (eq-e
 
 pub at-end : (s : List ℕ) (i : ℕ) → length s ≤ i → lineRun (drop i s) ≡ 0
 at-end s i h = omega (arith, run-within (drop i s), length-drop i s)
+
+pub run-block : (n : ℕ) (s : List ℕ) (i : ℕ) → i + n ≤ length s → NoLF s i n → lineRun (drop i s) ≡ n + lineRun (drop (i + n) s)
+run-block zero s i h g = omega (arith, ap (λ (k : ℕ). lineRun (drop k s)) (let z : i ≡ i + 0 = omega arith in z))
+run-block (suc n) s i h g =
+    let a : lineRun (drop i s) ≡ suc (lineRun (drop (suc i) s)) =
+    at-on s i (omega arith) (λ e. g 0 (omega arith) (ap (λ (k : ℕ). getD s k 0) (let z : i + 0 ≡ i = omega arith in z) ∙ e)) in
+    let b : lineRun (drop (suc i) s) ≡ n + lineRun (drop (suc i + n) s) =
+    run-block n s (suc i) (omega arith) (λ k l e. g (suc k) (omega arith) (ap (λ (j : ℕ). getD s j 0) (let z : i + suc k ≡ suc i + k = omega arith in z) ∙ e)) in
+    omega (arith, a, b, ap (λ (k : ℕ). lineRun (drop k s)) (let z : suc i + n ≡ i + suc n = omega arith in z))
 
 bytes-cons : (m : Whole) (b : ℕ) (bs : List ℕ) → feedBytes m (b ∷ bs) ≡ feedBytes (feedByte m b) bs
 unfolding feedBytes pick

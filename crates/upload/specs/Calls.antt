@@ -1,11 +1,11 @@
 -- The upload's calls, for any state and any buffers, from document 01's paragraphs on the upload and its state; and lists of calls.
 -- Assumes nothing.
-use Prim.Native.Nat.{ℕ, suc, _+_, _-_, _≤_}
+use Prim.Native.Nat.{ℕ, suc, _+_, _-_, _≤_, _<_}
 use mathlib.Core.Bool.{Bool, true, false, _&&_}
 use mathlib.Core.List.{List, [], _∷_, _++_}
 use mathlib.Core.Path.{_≡_}
 use lib.Dec.{leb, eqb}
-use lib.ListN.{length, take, drop, set}
+use lib.ListN.{length, getD, take, drop, set}
 use lib.Seq.{sets}
 use Rattle.prelude.specs.Pick.{pick}
 use Rattle.prelude.specs.Refusals.{unfit, tooLong, overLimit, ended}
@@ -251,6 +251,10 @@ pub record Fit (m : Whole) : Type 0 where
 unfoldable pub lineRun : List ℕ → ℕ
 lineRun [] = 0
 lineRun (b ∷ bs) = pick (eqb b LF) 0 (suc (lineRun bs))
+
+-- n bytes from a place on, none of them an LF
+abbrev pub NoLF : List ℕ → ℕ → ℕ → Type 0
+NoLF p at n = (k : ℕ) → k < n → getD p (at + k) 0 ≡ LF → ⊥
 
 -- a run of n bytes stored, none of them an LF
 abbrev pub storedRun : Whole → ℕ → List ℕ → Whole

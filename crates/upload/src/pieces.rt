@@ -1,9 +1,10 @@
 // The bytes of a piece, taken by runs up to the next LF; and an upload's end.
+ghost use mathlib.Core.Bool.{false};
 ghost use mathlib.Core.List.{List};
 ghost use mathlib.Core.Path.{_≡_};
 ghost use Prim.Native.Nat.{ℕ, _+_, _≤_};
 ghost use lib.ListN.{length, take, drop};
-ghost use Rattle.upload.specs.Calls.{keeping, atEnd, whole, Fit, feedByte, feedBytes, finishAll, lineRun, storedRun};
+ghost use Rattle.upload.specs.Calls.{keeping, atEnd, whole, Fit, feedByte, feedBytes, finishAll, lineRun, NoLF, storedRun};
 use crate::uploads::LINE_MAX;
 use crate::uploads::UPLOAD_MAX;
 use crate::uploads::Upload;
@@ -72,8 +73,22 @@ fn take_byte(s: Upload, b: u8, line: &mut [u8], out: &mut [u8]) -> Upload
     }
 }
 
-// The place of the next LF from a place on, or the end.
-fn lf_from(p: &[u8], from: usize) -> usize
+// Whether one of 32 bytes is an LF. They are tested without an early end, so that they are compared at once.
+fn any_lf(p: &[u8], at: usize) -> bool
+    requires { ⌜ at + 32 ≤ length (now p) ⌝ }
+    ensures { λ r. ⌜ (r ≡ false → NoLF (now (p .entry)) at 32) ⌝ }
+{
+    let mut found = false;
+    let mut k: usize = 0;
+    while k < 32 {
+        found = found | (p[at + k] == b'\n');
+        k += 1;
+    }
+    found
+}
+
+// The place of the next LF from a place on, or the end, byte by byte.
+fn lf_near(p: &[u8], from: usize) -> usize
     requires { ⌜ from ≤ length (now p) ⌝ }
     ensures { λ r. ⌜ r ≡ from + lineRun (drop from (now (p .entry))) ⌝ }
 {
@@ -85,6 +100,21 @@ fn lf_from(p: &[u8], from: usize) -> usize
         i += 1;
     }
     i
+}
+
+// The place of the next LF from a place on, or the end.
+fn lf_from(p: &[u8], from: usize) -> usize
+    requires { ⌜ from ≤ length (now p) ⌝ }
+    ensures { λ r. ⌜ r ≡ from + lineRun (drop from (now (p .entry))) ⌝ }
+{
+    let mut i = from;
+    while 32 <= p.len() - i {
+        if any_lf(p, i) {
+            return lf_near(p, i);
+        }
+        i += 32;
+    }
+    lf_near(p, i)
 }
 
 fn least(a: usize, b: usize) -> usize

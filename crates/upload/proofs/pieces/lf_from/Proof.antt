@@ -1,15 +1,14 @@
--- The invariant: the LF looked for is found from the place reached as from the first.
+-- The invariant: the LF looked for is found from the place reached as from the first (Runs).
 -- Assumes nothing.
 use Rattle.upload.proofs.pieces.lf_from.Statement.{statement}
 use Rattle.upload.proofs.pieces.lf_from.Tie as tie
-use Prim.Native.Nat.{suc, _+_, _-_, _≤_}
+use Prim.Native.Nat.{_+_, _-_, _≤_}
 use mathlib.Core.Path.{_≡_, refl}
-use lib.ListN.{length, drop}
 use native.Mathlib.Omega.{arith}
-use native.Mathlib.Numerals.{add-one}
+use lib.ListN.{length, drop}
 use denote.Ref.{now}
 use Rattle.upload.specs.Calls.{lineRun}
-use Rattle.upload.proofs.Runs.{at-on, at-lf, at-end}
+use Rattle.upload.proofs.Runs.{run-block}
 
 abbrev Inv-loop : tie.InvT-loop
 Inv-loop p from i₀ i =
@@ -21,15 +20,23 @@ abbrev μ-loop : tie.MeasureT-loop
 
 loop-holds : tie.Need-loop-holds Inv-loop μ-loop
 loop-holds c =
-    (c .pre, refl)
+    (c .before .pre, refl)
 
-shared-slice-read-if1 : tie.Need-shared-slice-read-if1 Inv-loop μ-loop
-shared-slice-read-if1 c =
+sub-loop : tie.Need-sub-loop Inv-loop μ-loop
+sub-loop c =
     omega arith
+
+any-lf-requires : tie.Need-any-lf-requires Inv-loop μ-loop
+any-lf-requires c κs =
+    omega arith
+
+lf-near-requires : tie.Need-lf-near-requires Inv-loop μ-loop
+lf-near-requires c κs =
+    c .before .before .before .loop .inv .0
 
 returns : tie.Need-returns Inv-loop μ-loop
 returns c =
-    omega (arith, at-lf (now (c .before .before .before .before .args .p)) (c .before .before .before .loop .i) (c .before .before .loop-test .taken) (c .if1 .taken))
+    omega arith
 
 add-i : tie.Need-add-i Inv-loop μ-loop
 add-i c =
@@ -41,13 +48,15 @@ loop-less c =
 
 loop-again : tie.Need-loop-again Inv-loop μ-loop
 loop-again c =
-    let p : lineRun (drop (c .before .before .before .loop .i) (now (c .before .before .before .before .args .p))) ≡ suc (lineRun (drop (suc (c .before .before .before .loop .i)) (now (c .before .before .before .before .args .p)))) =
-    at-on (now (c .before .before .before .before .args .p)) (c .before .before .before .loop .i) (c .before .before .loop-test .taken) (c .if1 .left) in
-    (omega arith, rw add-one (omega arith))
+    (omega arith, omega (arith, run-block 32 (now (c .before .before .before .before .before .args .p)) (c .before .before .before .loop .i) (omega arith) (c .before .any-lf .ensures (c .if1 .left))))
+
+lf-near-requires-2 : tie.Need-lf-near-requires-2 Inv-loop μ-loop
+lf-near-requires-2 c κs =
+    c .before .loop .inv .0
 
 returns-2 : tie.Need-returns-2 Inv-loop μ-loop
 returns-2 c =
-    omega (arith, at-end (now (c .before .before .args .p)) (c .before .loop .i) (omega arith))
+    omega arith
 
 pub lf-from-spec : {M : Type 1} → statement M
 lf-from-spec =
@@ -56,9 +65,12 @@ lf-from-spec =
     Inv-loop
     μ-loop
     loop-holds
-    shared-slice-read-if1
+    sub-loop
+    any-lf-requires
+    lf-near-requires
     returns
     add-i
     loop-less
     loop-again
+    lf-near-requires-2
     returns-2)
