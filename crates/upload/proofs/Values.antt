@@ -3,7 +3,7 @@
 use Prim.Native.Nat.{ℕ, _+_, _≤_, _<_}
 use mathlib.Core.Bool.{true, false}
 use mathlib.Core.List.{List, [], _∷_, _++_}
-use mathlib.Core.Path.{_≡_, refl}
+use mathlib.Core.Path.{_≡_, refl, sym, ap, _∙_}
 use native.Mathlib.Nat.{add-zero}
 use native.Mathlib.Numerals.{add-one}
 use native.Mathlib.Omega.{arith}
@@ -12,12 +12,12 @@ use lib.Dec.{leb}
 use lib.ListN.{length, take, getD, take-append-drop}
 use lib.Seq.{take-all, take-suc}
 use Rattle.prelude.specs.Pick.{pick}
-use Rattle.prelude.proofs.Cases.{and-left, and-right}
+use Rattle.prelude.proofs.Cases.{split, and-left, and-right}
 use Rattle.lines.specs.Records.{Fault, none, refuse, lineFault, putAt, Appended, appendBy, appendLine}
 use Rattle.upload.specs.declared.uploads.Upload.{Upload}
 use Rattle.upload.specs.declared.uploads.Answer.{Answer}
 use Rattle.upload.specs.Lines.{LF, uploadLimit, lineLimit, Whole}
-use Rattle.upload.specs.Calls.{keeping, stored, behindLF, atEnd, byteBy, feedByte, feedBytes, finishBy, finishAll, fitBy, fit, answerOf, guarded, feed, finish, whole, Fit}
+use Rattle.upload.specs.Calls.{keeping, stored, behindLF, atEnd, byteBy, feedByte, feedBytes, finishBy, finishAll, fitBy, fit, plain, answerOf, stopBy, stop, guarded, feed, finish, whole, Fit}
 use Rattle.upload.proofs.Step.{line-fits, NonZero, line-nonzero, Ok}
 use Rattle.upload.proofs.WholeList.{ok-bytes}
 
@@ -120,23 +120,29 @@ pub added-fits : (a : Appended) (l out : List ℕ) (used : ℕ) → a ≡ append
 unfolding appendLine pick
 added-fits a l out used e h = rw e (added-by (lineFault (length out) used l) l out used refl h)
 
--- feed and finish
-module _ (m d : Whole) where
-  pub call-unfit : fit m ≡ false → record { whole = m; answer = record { number = 1; line = 0; place = 0 } } ≡ guarded m d
+-- feed and finish: what stops a call, and what a call that isn't stopped may build on
+module _ (m : Whole) (a : Answer) (e : a ≡ stop m) where
+  pub call-stopped : (d : Whole) → (a .number ≡ 0 → ⊥) → record { whole = m; answer = a } ≡ guarded m d
   unfolding pick
-  call-unfit f = rw f
+  call-stopped d z = rw e (rw (ne-eqb (stop m .number) 0 (λ y. z (ap (λ (x : Answer). x .number) e ∙ y))))
 
-  pub call-kept : fit m ≡ true → (m .state .refusal ≡ 0 → ⊥) → record { whole = m; answer = record { number = m .state .refusal; line = m .state .line; place = m .state .place } } ≡ guarded m d
+  call-done : (d : Whole) → a .number ≡ 0 → (w : Whole) → w ≡ d → (b : Answer) → b ≡ answerOf (w .state) → record { whole = w; answer = b } ≡ guarded m d
   unfolding pick
-  call-kept f e = rw (f, ne-eqb (m .state .refusal) 0 e)
+  call-done d z w q b p = rw (p, eq-eqb (stop m .number) 0 (sym (ap (λ (x : Answer). x .number) e) ∙ z), q)
 
-  pub call-ended : fit m ≡ true → m .state .refusal ≡ 0 → m .state .ended ≡ true → record { whole = m; answer = record { number = 18; line = 0; place = 0 } } ≡ guarded m d
-  unfolding pick
-  call-ended f e t = rw (f, eq-eqb (m .state .refusal) 0 e, t)
+  pub feed-done : (piece : List ℕ) → a .number ≡ 0 → (w : Whole) → w ≡ feedBytes m piece → (b : Answer) → b ≡ answerOf (w .state) → record { whole = w; answer = b } ≡ feed m piece
+  unfolding feed
+  feed-done piece z w q b p = call-done (feedBytes m piece) z w q b p
 
-  pub call-done : fit m ≡ true → m .state .refusal ≡ 0 → m .state .ended ≡ false → (w : Whole) → w ≡ d → (a : Answer) → a ≡ answerOf (w .state) → record { whole = w; answer = a } ≡ guarded m d
-  unfolding pick
-  call-done f e t w q a p = rw (p, f, eq-eqb (m .state .refusal) 0 e, t, q)
+  pub finish-done : a .number ≡ 0 → (w : Whole) → w ≡ finishAll m → (b : Answer) → b ≡ answerOf (w .state) → record { whole = w; answer = b } ≡ finish m
+  unfolding finish
+  finish-done z w q b p = call-done (finishAll m) z w q b p
+
+  pub not-stopped : a .number ≡ 0 → Fit m
+  unfolding stopBy pick
+  not-stopped z =
+      split (fit m) (λ f. fit-facts m f)
+      (λ f. let n : stop m .number ≡ 1 = rw f in let k : a .number ≡ stop m .number = ap (λ (x : Answer). x .number) e in absurd (let y : ⊥ = omega arith in y))
 
 -- take_bytes
 pub fit-ok : (m : Whole) → Fit m → Ok (m .line) (m .out) m
@@ -164,18 +170,10 @@ bytes-none m = refl
 pub bytes-all : (m : Whole) (piece : List ℕ) (i : ℕ) (w : Whole) → length piece ≤ i → w ≡ feedBytes m (take i piece) → w ≡ feedBytes m piece
 bytes-all m piece i w h e = rw (take-all i piece h) at e
 
-pub feed-done : (m : Whole) (piece : List ℕ) → fit m ≡ true → m .state .refusal ≡ 0 → m .state .ended ≡ false → (w : Whole) → w ≡ feedBytes m piece → (a : Answer) → a ≡ answerOf (w .state) → record { whole = w; answer = a } ≡ feed m piece
-unfolding feed pick
-feed-done m piece f e t w q a p = call-done m (feedBytes m piece) f e t w q a p
-
-pub finish-done : (m : Whole) → fit m ≡ true → m .state .refusal ≡ 0 → m .state .ended ≡ false → (w : Whole) → w ≡ finishAll m → (a : Answer) → a ≡ answerOf (w .state) → record { whole = w; answer = a } ≡ finish m
-unfolding finish pick
-finish-done m f e t w q a p = call-done m (finishAll m) f e t w q a p
-
 -- answer_of
-pub answer-none : (s : Upload) → s .refusal ≡ 0 → record { number = 0; line = 0; place = 0 } ≡ answerOf s
+pub answer-none : (s : Upload) (a : Answer) → a ≡ plain 0 → s .refusal ≡ 0 → a ≡ answerOf s
 unfolding answerOf pick
-answer-none s e = rw (eq-eqb (s .refusal) 0 e)
+answer-none s a p e = rw (eq-eqb (s .refusal) 0 e) p
 
 pub answer-some : (s : Upload) → (s .refusal ≡ 0 → ⊥) → record { number = s .refusal; line = s .line; place = s .place } ≡ answerOf s
 unfolding answerOf pick

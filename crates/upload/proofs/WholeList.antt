@@ -14,7 +14,7 @@ use Rattle.prelude.specs.Pick.{pick}
 use Rattle.lines.specs.Line.{readLine, readStripped, strip, trimmed, leads}
 use Rattle.lines.specs.Records.{lineRecord, Fault, none, refuse, lineFault}
 use Rattle.upload.specs.Lines.{uploadLimit, lineLimit, cut, countLF, records, firstFrom, firstFault, openFault, Whole, left, endBy, j8Lines, zeros, j8Answer}
-use Rattle.upload.specs.Calls.{fresh, refused, heldLine, closing, feedByte, feedBytes, endFault, finishBy, finishAll, fitBy, fit, Called, keptAnswer, answerOf, guarded, feed, finish, Call, feeds, finishes, call, run, began, joined, finished, earlier, defined}
+use Rattle.upload.specs.Calls.{fresh, refused, heldLine, closing, feedByte, feedBytes, endFault, finishBy, finishAll, fitBy, fit, Called, keptAnswer, answerOf, stopBy, guarded, feed, finish, Call, feeds, finishes, call, run, began, joined, finished, earlier, defined}
 use Rattle.upload.proofs.Snoc.{buffer-none}
 use Rattle.upload.proofs.Step.{standing, state-path, whole-path, line-fits, NonZero, line-nonzero, front-put, front-length, Sound, held-open, stop-none, defined-none, defined-refused, Ok, nonzero-at, stays, step, put-length, ok-byte}
 
@@ -134,12 +134,12 @@ stays-all t line out n p (b ∷ bs) z = rw (stays t line out n p b z) (stays-all
 
 -- a call with nothing refused so far, and one after a refusal
 guard-none : (t line out : List ℕ) (d : Whole) → fit (standing t none line out) ≡ true → guarded (standing t none line out) d ≡ record { whole = d; answer = j8Answer (d .state) false }
-unfolding left j8Answer answerOf pick
+unfolding left j8Answer answerOf stopBy pick
 guard-none t line out d f = rw f
 
 guard-refused : (t line out : List ℕ) (n p : ℕ) (d : Whole) → eqb n 0 ≡ false → fit (standing t (refuse n p) line out) ≡ true → guarded (standing t (refuse n p) line out) d ≡ record { whole = standing t (refuse n p) line out; answer = keptAnswer (standing t (refuse n p) line out .state) }
-unfolding left pick
-guard-refused t line out n p d z f = rw (f, z)
+unfolding left stopBy pick
+guard-refused t line out n p d z f = rw (f, z) (rw z)
 
 module _ (t line out : List ℕ) (h : lineLimit ≤ length line) where
   feed-by : (piece : List ℕ) (f : Fault) → firstFault (length out) t .why ≡ f → feed (j8Lines t false line out) piece ≡ says (t ++ piece) false false line out
@@ -193,9 +193,9 @@ end-of : (t line out o : List ℕ) → Settled (endBy (openFault (length out) (l
 end-of t line out o = end-by t line out (openFault (length out) (length (records (cut t .closed))) o) (open-nonzero (length out) (length (records (cut t .closed))) o)
 
 settled-guard : (m d : Whole) → fit m ≡ true → (k : Bool) → eqb (m .state .refusal) 0 ≡ k → pick k (m .state .ended) true ≡ true → guarded m d ≡ record { whole = m; answer = j8Answer (m .state) true }
-unfolding j8Answer pick
+unfolding j8Answer stopBy pick
 settled-guard m d f true e s = rw (f, e, s)
-settled-guard m d f false e s = rw (f, e)
+settled-guard m d f false e s = rw (f, e) (rw e)
 
 module _ (t line out : List ℕ) (h : lineLimit ≤ length line) where
   ended-by : (f : Fault) → firstFault (length out) t .why ≡ f → (finish (j8Lines t false line out) ≡ says t true false line out) × (Ok line out (j8Lines t true line out) × Settled (j8Lines t true line out))

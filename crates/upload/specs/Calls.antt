@@ -170,16 +170,22 @@ keptAnswer s = record { number = s .refusal; line = s .line; place = s .place }
 unfoldable pub answerOf : Upload → Answer
 answerOf s = pick (eqb (s .refusal) 0) zeros (keptAnswer s)
 
--- "Order in a call: 1, kept refusal, 18."; "every later feed or finish repeats it and changes nothing"
+-- "Order in a call: 1, kept refusal, 18.": what stops a call before it does anything, zeros where nothing does
+unfoldable pub stopBy : Upload → ℕ → ℕ → Answer
+stopBy s line out =
+    pick (fitBy s line out)
+    (pick (eqb (s .refusal) 0) (pick (s .ended) (plain ended) zeros) (keptAnswer s))
+    (plain unfit)
+
+abbrev pub stop : Whole → Answer
+stop m = stopBy (m .state) (length (m .line)) (length (m .out))
+
+-- "every later feed or finish repeats it and changes nothing", and 1 and 18 "change nothing" likewise
 abbrev pub guarded : Whole → Whole → Called
 guarded m done =
-    pick (fit m)
-    (pick (eqb (m .state .refusal) 0)
-    (pick (m .state .ended)
-    (record { whole = m; answer = plain ended })
-    (record { whole = done; answer = answerOf (done .state) }))
-    (record { whole = m; answer = keptAnswer (m .state) }))
-    (record { whole = m; answer = plain unfit })
+    pick (eqb (stop m .number) 0)
+    (record { whole = done; answer = answerOf (done .state) })
+    (record { whole = m; answer = stop m })
 
 unfoldable pub feed : Whole → List ℕ → Called
 feed m piece = guarded m (feedBytes m piece)

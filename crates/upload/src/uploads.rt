@@ -1,7 +1,7 @@
 // The upload's state and its calls.
 ghost use mathlib.Core.Path.{_≡_};
 ghost use lib.ListN.{length};
-ghost use Rattle.upload.specs.Calls.{fresh, whole, called, fitBy, answerOf, feed, finish};
+ghost use Rattle.upload.specs.Calls.{fresh, whole, called, fitBy, plain, answerOf, stopBy, feed, finish};
 use crate::pieces;
 use prelude::refusals;
 
@@ -55,22 +55,49 @@ fn is_fit(s: Upload, line: usize, out: usize) -> bool
     s.used <= out
 }
 
+// An answer without a line.
+fn plain(number: u32) -> Answer
+    ensures { λ r. ⌜ r ≡ plain number ⌝ }
+{
+    Answer {
+        number,
+        line: 0,
+        place: 0,
+    }
+}
+
 // The answer of a call that left the state s.
 fn answer_of(s: Upload) -> Answer
     ensures { λ r. ⌜ r ≡ answerOf s ⌝ }
 {
     if s.refusal == 0 {
-        return Answer {
-            number: 0,
-            line: 0,
-            place: 0,
-        };
+        return plain(0);
     }
     Answer {
         number: s.refusal,
         line: s.line,
         place: s.place,
     }
+}
+
+// What stops a call before it does anything: an unfit state or buffer, the refusal that is kept, the end. A number of 0 says that nothing does.
+fn stop(s: Upload, line: usize, out: usize) -> Answer
+    ensures { λ r. ⌜ r ≡ stopBy s line out ⌝ }
+{
+    if !is_fit(s, line, out) {
+        return plain(refusals::UNFIT);
+    }
+    if s.refusal != 0 {
+        return Answer {
+            number: s.refusal,
+            line: s.line,
+            place: s.place,
+        };
+    }
+    if s.ended {
+        return plain(refusals::ENDED);
+    }
+    plain(0)
 }
 
 impl Upload {
@@ -93,41 +120,17 @@ impl Upload {
     pub fn feed(self, piece: &[u8], line: &mut [u8], out: &mut [u8]) -> Fed
         ensures { λ r. ⌜ called r (now (line .exit)) (now (out .exit)) ≡ feed (whole self (now (line .entry)) (now (out .entry))) (now (piece .entry)) ⌝ }
     {
-        if !is_fit(self, line.len(), out.len()) {
+        let a = stop(self, line.len(), out.len());
+        if a.number != 0 {
             return Fed {
                 state: self,
-                answer: Answer {
-                    number: refusals::UNFIT,
-                    line: 0,
-                    place: 0,
-                },
-            };
-        }
-        if self.refusal != 0 {
-            return Fed {
-                state: self,
-                answer: Answer {
-                    number: self.refusal,
-                    line: self.line,
-                    place: self.place,
-                },
-            };
-        }
-        if self.ended {
-            return Fed {
-                state: self,
-                answer: Answer {
-                    number: refusals::ENDED,
-                    line: 0,
-                    place: 0,
-                },
+                answer: a,
             };
         }
         let s = pieces::take_bytes(self, piece, line, out);
-        let a = answer_of(s);
         Fed {
             state: s,
-            answer: a,
+            answer: answer_of(s),
         }
     }
 
@@ -135,41 +138,17 @@ impl Upload {
     pub fn finish(self, line: &mut [u8], out: &mut [u8]) -> Fed
         ensures { λ r. ⌜ called r (now (line .exit)) (now (out .exit)) ≡ finish (whole self (now (line .entry)) (now (out .entry))) ⌝ }
     {
-        if !is_fit(self, line.len(), out.len()) {
+        let a = stop(self, line.len(), out.len());
+        if a.number != 0 {
             return Fed {
                 state: self,
-                answer: Answer {
-                    number: refusals::UNFIT,
-                    line: 0,
-                    place: 0,
-                },
-            };
-        }
-        if self.refusal != 0 {
-            return Fed {
-                state: self,
-                answer: Answer {
-                    number: self.refusal,
-                    line: self.line,
-                    place: self.place,
-                },
-            };
-        }
-        if self.ended {
-            return Fed {
-                state: self,
-                answer: Answer {
-                    number: refusals::ENDED,
-                    line: 0,
-                    place: 0,
-                },
+                answer: a,
             };
         }
         let s = pieces::take_end(self, line, out);
-        let a = answer_of(s);
         Fed {
             state: s,
-            answer: a,
+            answer: answer_of(s),
         }
     }
 }

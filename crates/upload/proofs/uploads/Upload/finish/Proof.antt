@@ -1,34 +1,22 @@
--- The tests 1, kept refusal and 18 in the order of `guarded`, and behind them the end.
+-- What stops the call, or else the end (Values).
 -- Assumes nothing.
 use borrow.Author.Needs.{needs}
 use Rattle.upload.proofs.uploads.Upload.finish.Statement.{statement}
 use Rattle.upload.proofs.uploads.Upload.finish.Tie as tie
-use mathlib.Core.Path.{sym, _∙_}
-use borrow.Author.Tests.{not-true, not-false}
 use Rattle.upload.specs.Calls.{finish}
-use Rattle.upload.proofs.Values.{call-unfit, call-kept, call-ended, finish-done, fit-facts}
+use Rattle.upload.proofs.Values.{call-stopped, finish-done, not-stopped}
 
-is-fit-requires : tie.Need-is-fit-requires
-is-fit-requires c κs = search needs
+stop-requires : tie.Need-stop-requires
+stop-requires c κs = search needs
 
 returns : tie.Need-returns
 unfolding finish
 returns c =
-    call-unfit _ _ (sym (c .before .is-fit .ensures) ∙ not-true _ (c .if1 .taken))
-
-returns-2 : tie.Need-returns-2
-unfolding finish
-returns-2 c =
-    call-kept _ _ (sym (c .before .before .before .is-fit .ensures) ∙ not-false _ (c .before .before .if1 .left)) (c .if2 .taken)
-
-returns-3 : tie.Need-returns-3
-unfolding finish
-returns-3 c =
-    call-ended _ _ (sym (c .before .before .before .before .is-fit .ensures) ∙ not-false _ (c .before .before .before .if1 .left)) (c .before .if2 .left) (c .if3 .taken)
+    call-stopped _ _ (c .before .before .stop .ensures) _ (c .if1 .taken)
 
 take-end-requires : tie.Need-take-end-requires
 take-end-requires c κs =
-    fit-facts _ (sym (c .before .before .before .before .before .before .is-fit .ensures) ∙ not-false _ (c .before .before .before .before .before .if1 .left))
+    not-stopped _ _ (c .before .before .before .before .stop .ensures) (c .before .before .if1 .left)
 
 answer-of-requires : tie.Need-answer-of-requires
 answer-of-requires c κs = search needs
@@ -39,20 +27,18 @@ same-length c = search needs
 same-length-2 : tie.Need-same-length-2
 same-length-2 c = search needs
 
-returns-4 : tie.Need-returns-4
-returns-4 c =
-    finish-done _ (sym (c .before .before .before .before .before .before .before .before .before .before .before .before .is-fit .ensures) ∙ not-false _ (c .before .before .before .before .before .before .before .before .before .before .before .if1 .left)) (c .before .before .before .before .before .before .before .before .before .if2 .left) (c .before .before .before .before .before .before .before .before .if3 .left) _ (c .before .before .before .before .before .take-end .ensures) _ (c .answer-of .ensures)
+returns-2 : tie.Need-returns-2
+returns-2 c =
+    finish-done _ _ (c .before .before .before .before .before .before .before .before .before .before .stop .ensures) (c .before .before .before .before .before .before .before .before .if1 .left) _ (c .before .before .before .before .before .take-end .ensures) _ (c .answer-of .ensures)
 
 pub finish-spec : {M : Type 1} → statement M
 finish-spec =
     tie.close
     (tie.spec
-    is-fit-requires
+    stop-requires
     returns
-    returns-2
-    returns-3
     take-end-requires
     answer-of-requires
     same-length
     same-length-2
-    returns-4)
+    returns-2)
