@@ -10,8 +10,10 @@ archive:
 	@rt staticlib j8 >target/archive.log 2>&1 || { cat target/archive.log; exit 1; }
 
 demo: archive
-	gcc -std=c99 -O2 -Wall -Wextra -Iinclude examples/names.c target/staticlib/libj8.a -o target/names
-	target/names
+	@for program in names backup; do \
+	  gcc -std=c99 -O2 -Wall -Wextra -Iinclude examples/$$program.c target/staticlib/libj8.a -o target/$$program || exit 1; \
+	done
+	@bash examples/demo.sh
 
 # Needs serde_json from Debian's packages: bench/README.md.
 bench: archive

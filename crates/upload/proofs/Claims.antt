@@ -18,7 +18,8 @@ use Rattle.upload.proofs.WrittenTexts.{text-read, all-read}
 pub every-list-of-calls : Every-List-Of-Calls
 unfolding defined run
 every-list-of-calls cs line out h =
-    record { state-and-buffers = ap (λ (r : Called). r .whole) (whole-list cs line out h); each-answer = each-answer line out h [] cs }
+    let z : lineLimit ≤ length line = omega arith in
+    record { state-and-buffers = ap (λ (r : Called). r .whole) (whole-list cs line out z); each-answer = each-answer line out z [] cs }
 
 pub pieces-do-not-matter : Pieces-Do-Not-Matter
 pieces-do-not-matter cs ds line out h a b e =

@@ -12,19 +12,19 @@ use lines::records;
 use prelude::refusals;
 use prelude::slices;
 
-// The state with a refusal that is kept.
-fn with_refusal(s: Upload, number: u32, place: usize) -> Upload
-    requires { ⌜ s .lfs ≤ 1048576 ⌝ }
-    ensures { λ r. ⌜ r ≡ keeping s number place ⌝ }
+// The state before a byte, with the refusal that the byte causes.
+fn with_refusal(before: Upload, number: u32, place: usize) -> Upload
+    requires { ⌜ before .lfs ≤ 1048576 ⌝ }
+    ensures { λ r. ⌜ r ≡ keeping before number place ⌝ }
 {
     Upload {
-        taken: s.taken,
-        lfs: s.lfs,
-        held: s.held,
-        used: s.used,
-        ended: s.ended,
+        taken: before.taken,
+        lfs: before.lfs,
+        held: before.held,
+        used: before.used,
+        ended: before.ended,
         refusal: number,
-        line: s.lfs + 1,
+        line: before.lfs + 1,
         place,
     }
 }
