@@ -42,13 +42,29 @@ tooLarge = 9
 abbrev pub byteEscape : ℕ
 byteEscape = 10
 
--- "bytes after the closing quote"
+-- "bytes after the closing quote, or after the JSON8 value other than whitespace and comments"
 abbrev pub trailing : ℕ
 trailing = 11
 
 -- "all else is right, and the result is longer than the room"
 abbrev pub noRoom : ℕ
 noRoom = 12
+
+-- "JSON8: this can't stand here"
+abbrev pub misplaced : ℕ
+misplaced = 13
+
+-- "JSON8: malformed number"
+abbrev pub badNumber : ℕ
+badNumber = 14
+
+-- "JSON8: a 33rd open bracket"
+abbrev pub tooDeep : ℕ
+tooDeep = 15
+
+-- "JSON8: a 1,025th node"
+abbrev pub tooMany : ℕ
+tooMany = 16
 
 -- "upload: byte 1,048,577"
 abbrev pub overLimit : ℕ

@@ -24,6 +24,14 @@ pub const TRAILING: u32 = 11;
 
 pub const NO_ROOM: u32 = 12;
 
+pub const MISPLACED: u32 = 13;
+
+pub const BAD_NUMBER: u32 = 14;
+
+pub const TOO_DEEP: u32 = 15;
+
+pub const TOO_MANY: u32 = 16;
+
 pub const OVER_LIMIT: u32 = 17;
 
 pub const ENDED: u32 = 18;

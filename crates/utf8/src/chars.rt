@@ -14,7 +14,8 @@ pub enum Char {
     Bad(u32),
 }
 
-fn in_range(low: u8, high: u8, b: u8) -> bool
+// Whether a byte is from one to another.
+pub fn in_range(low: u8, high: u8, b: u8) -> bool
     ensures { λ r. ⌜ r ≡ between low high b ⌝ }
 {
     if b < low {

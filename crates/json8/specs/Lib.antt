@@ -1,0 +1,4 @@
+pub mod Nodes
+pub mod Leaves
+pub mod Values
+pub mod Read

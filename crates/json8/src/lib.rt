@@ -1,0 +1,2 @@
+// JSON8, read to a node table.
+pub mod answers;

@@ -1,0 +1,102 @@
+-- What begins at a place: each test of the code decides one pick of the definition, at the byte that stands first.
+-- Assumes nothing.
+use mathlib.Core.Path.{_≡_, refl, sym, ap, _∙_}
+use mathlib.Core.Bool.{Bool, true, false}
+use mathlib.Core.List.{List, [], _∷_}
+use Prim.Native.Nat.{ℕ, zero, suc, _+_, _-_, _≤_, _<_}
+use native.Mathlib.Omega.{arith}
+use borrow.Author.Tests.{eq-eqb, ne-eqb}
+use lib.Dec.{eqb}
+use lib.ListN.{length, getD, take, drop, length-drop, drop-of-length-le}
+use lib.Seq.{drop-cons, take-all}
+use Rattle.prelude.specs.Pick.{pick}
+use Rattle.strings.specs.declared.read.Mark.{Mark as Opener}
+use Rattle.strings.specs.declared.read.Mark.the-variants.{Opens, Unopened}
+use Rattle.strings.specs.Read.{opens, unopened, opening}
+use Rattle.strings.specs.Turns.{openingOf}
+use Rattle.units.specs.declared.styles.Style.{Style}
+use Rattle.tokens.specs.declared.starts.Start.{Start}
+use Rattle.tokens.specs.declared.starts.Start.the-variants.{Ended, String, Word, Number, List as ListStart, Dict, Nothing}
+use Rattle.tokens.specs.declared.starts.Mark.{Mark}
+use Rattle.tokens.specs.declared.starts.Mark.the-variants.{Close, Separator, Fault}
+use Rattle.tokens.specs.Words.{isLetter, isDigit}
+use Rattle.tokens.specs.Starts.{opened, startOf, colonAt, commaAt}
+
+pub rest : (s : List ℕ) (at : ℕ) → take (length s - at) (drop at s) ≡ drop at s
+rest s at = take-all (length s - at) (drop at s) (omega (arith, length-drop at s))
+
+module _ (s : List ℕ) (at : ℕ) (m : Opener) (e : openingOf m ≡ opening (take (length s - at) (drop at s))) where
+  pub opens-here : (st : Style) (n : ℕ) → m ≡ Opens st n → true ≡ opened (opening (drop at s))
+  opens-here st n q = let o : opening (drop at s) ≡ opens st n = ap opening (sym (rest s at)) ∙ sym e ∙ ap openingOf q in rw o
+
+  pub opens-not : m ≡ Unopened → false ≡ opened (opening (drop at s))
+  opens-not q = let o : opening (drop at s) ≡ unopened = ap opening (sym (rest s at)) ∙ sym e ∙ ap openingOf q in rw o
+
+pub start-end : (s : List ℕ) (at : ℕ) → length s ≤ at → Ended ≡ startOf (drop at s)
+unfolding startOf
+start-end s at h = rw (drop-of-length-le s h)
+
+module _ (s : List ℕ) (at : ℕ) (h : at < length s) where
+  cons : drop at s ≡ getD s at 0 ∷ drop (suc at) s
+  cons = drop-cons s at 0 h
+
+  pub start-string : opened (opening (drop at s)) ≡ true → String ≡ startOf (drop at s)
+  unfolding startOf pick
+  start-string o = let q = rw cons at o in rw (cons, q)
+
+  module _ (o : opened (opening (drop at s)) ≡ false) where
+    pub start-word : isLetter (getD s at 0) ≡ true → Word ≡ startOf (drop at s)
+    unfolding startOf pick
+    start-word l = let q = rw cons at o in rw (cons, q, l)
+
+    module _ (l : isLetter (getD s at 0) ≡ false) where
+      pub start-digit : isDigit (getD s at 0) ≡ true → Number ≡ startOf (drop at s)
+      unfolding startOf pick
+      start-digit d = let q = rw cons at o in rw (cons, q, l, d)
+
+      module _ (d : isDigit (getD s at 0) ≡ false) where
+        pub start-minus : getD s at 0 ≡ 0x2d → Number ≡ startOf (drop at s)
+        unfolding startOf pick
+        start-minus e = let q = rw cons at o in rw (cons, q, l, d, eq-eqb (getD s at 0) 0x2d e)
+
+        module _ (m : getD s at 0 ≡ 0x2d → ⊥) where
+          pub start-list : getD s at 0 ≡ 0x5b → ListStart ≡ startOf (drop at s)
+          unfolding startOf pick
+          start-list e = let q = rw cons at o in rw (cons, q, l, d, ne-eqb (getD s at 0) 0x2d m, eq-eqb (getD s at 0) 0x5b e)
+
+          module _ (b : getD s at 0 ≡ 0x5b → ⊥) where
+            pub start-dict : getD s at 0 ≡ 0x7b → Dict ≡ startOf (drop at s)
+            unfolding startOf pick
+            start-dict e = let q = rw cons at o in rw (cons, q, l, d, ne-eqb (getD s at 0) 0x2d m, ne-eqb (getD s at 0) 0x5b b, eq-eqb (getD s at 0) 0x7b e)
+
+            pub start-nothing : (getD s at 0 ≡ 0x7b → ⊥) → Nothing ≡ startOf (drop at s)
+            unfolding startOf pick
+            start-nothing e = let q = rw cons at o in rw (cons, q, l, d, ne-eqb (getD s at 0) 0x2d m, ne-eqb (getD s at 0) 0x5b b, ne-eqb (getD s at 0) 0x7b e)
+
+  pub colon-here : getD s at 0 ≡ 0x3a → Separator ≡ colonAt (drop at s)
+  unfolding colonAt pick
+  colon-here e = rw (cons, e)
+
+  pub colon-not : (getD s at 0 ≡ 0x3a → ⊥) → Fault 13 ≡ colonAt (drop at s)
+  unfolding colonAt pick
+  colon-not e = rw (cons, ne-eqb (getD s at 0) 0x3a e)
+
+  pub close-here : (close : ℕ) → getD s at 0 ≡ close → Close ≡ commaAt close (drop at s)
+  unfolding commaAt pick
+  close-here close e = rw (cons, eq-eqb (getD s at 0) close e)
+
+  pub comma-here : (close : ℕ) → (getD s at 0 ≡ close → ⊥) → getD s at 0 ≡ 0x2c → Separator ≡ commaAt close (drop at s)
+  unfolding commaAt pick
+  comma-here close n e = rw (cons, ne-eqb (getD s at 0) close n, eq-eqb (getD s at 0) 0x2c e)
+
+  pub comma-not : (close : ℕ) → (getD s at 0 ≡ close → ⊥) → (getD s at 0 ≡ 0x2c → ⊥) → Fault 13 ≡ commaAt close (drop at s)
+  unfolding commaAt pick
+  comma-not close n e = rw (cons, ne-eqb (getD s at 0) close n, ne-eqb (getD s at 0) 0x2c e)
+
+pub colon-end : (s : List ℕ) (at : ℕ) → length s ≤ at → Fault 4 ≡ colonAt (drop at s)
+unfolding colonAt
+colon-end s at h = rw (drop-of-length-le s h)
+
+pub comma-end : (s : List ℕ) (at close : ℕ) → length s ≤ at → Fault 4 ≡ commaAt close (drop at s)
+unfolding commaAt
+comma-end s at close h = rw (drop-of-length-le s h)

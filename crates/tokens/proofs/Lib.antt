@@ -1,0 +1,5 @@
+pub mod Runs
+pub mod Skipping
+pub mod Spelling
+pub mod Grammar
+pub mod First

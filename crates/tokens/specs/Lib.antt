@@ -1,0 +1,4 @@
+pub mod Blanks
+pub mod Words
+pub mod Numbers
+pub mod Starts

@@ -1,0 +1,185 @@
+// Number tokens by the grammar of RFC 8259, a function for each of its places. The longest run needn't be known: a text that matches
+// up to a byte that the run hasn't is the run.
+ghost use mathlib.Core.Path.{_≡_};
+ghost use Prim.Native.Nat.{_+_, _≤_, _<_};
+ghost use lib.ListN.{length, drop};
+ghost use Rattle.tokens.specs.Words.{isDigit, runOf};
+ghost use Rattle.tokens.specs.Numbers.{isE, isSign, isNumber, inExp, expDigits, behindE, behindFrac, inFrac, behindPoint, behindInt, inInt, int, numberKind, ends, numberFrom, numberAt};
+use crate::words;
+use prelude::slices;
+
+// The kind of a number token that matches the grammar whole, and its length; or one that doesn't match.
+pub enum Number {
+    Legal(u32, usize),
+    Malformed,
+}
+
+fn is_e(x: u8) -> bool
+    ensures { λ r. ⌜ r ≡ isE x ⌝ }
+{
+    if x == 0x65 {
+        return true;
+    }
+    x == 0x45
+}
+
+fn is_sign(x: u8) -> bool
+    ensures { λ r. ⌜ r ≡ isSign x ⌝ }
+{
+    if x == 0x2d {
+        return true;
+    }
+    x == 0x2b
+}
+
+fn is_number(x: u8) -> bool
+    ensures { λ r. ⌜ r ≡ isNumber x ⌝ }
+{
+    if words::is_digit(x) {
+        return true;
+    }
+    if is_sign(x) {
+        return true;
+    }
+    if x == 0x2e {
+        return true;
+    }
+    is_e(x)
+}
+
+// The place behind the digits from a place on.
+fn digits(s: &[u8], from: usize) -> usize
+    requires { ⌜ from ≤ length (now s) ⌝ }
+    ensures { λ r. ⌜ r ≡ from + length (runOf isDigit (drop from (now (s .entry)))) ⌝ }
+{
+    let mut at = from;
+    while at < s.len() {
+        if !words::is_digit(s[at]) {
+            return at;
+        }
+        at += 1;
+    }
+    at
+}
+
+// The token must end here.
+fn finish(s: &[u8], at: usize, kind: u32) -> Number
+    requires { ⌜ 0 < kind ⌝ }
+    ensures { λ r. ⌜ r ≡ numberFrom (ends kind) at (drop at (now (s .entry))) ⌝ }
+{
+    if is_number(slices::byte_at(s, at, 0)) {
+        return Number::Malformed;
+    }
+    Number::Legal(kind, at)
+}
+
+fn in_exp(s: &[u8], at: usize) -> Number
+    requires { ⌜ at ≤ length (now s) ⌝ }
+    ensures { λ r. ⌜ r ≡ numberFrom inExp at (drop at (now (s .entry))) ⌝ }
+{
+    finish(s, digits(s, at), 4)
+}
+
+fn exp_digits(s: &[u8], at: usize) -> Number
+    requires { ⌜ at ≤ length (now s) ⌝ }
+    ensures { λ r. ⌜ r ≡ numberFrom expDigits at (drop at (now (s .entry))) ⌝ }
+{
+    if words::is_digit(slices::byte_at(s, at, 0)) {
+        return in_exp(s, at + 1);
+    }
+    Number::Malformed
+}
+
+fn behind_e(s: &[u8], at: usize) -> Number
+    requires { ⌜ at ≤ length (now s) ⌝ }
+    ensures { λ r. ⌜ r ≡ numberFrom behindE at (drop at (now (s .entry))) ⌝ }
+{
+    if is_sign(slices::byte_at(s, at, 0)) {
+        return exp_digits(s, at + 1);
+    }
+    exp_digits(s, at)
+}
+
+fn behind_frac(s: &[u8], at: usize) -> Number
+    requires { ⌜ at ≤ length (now s) ⌝ }
+    ensures { λ r. ⌜ r ≡ numberFrom behindFrac at (drop at (now (s .entry))) ⌝ }
+{
+    if is_e(slices::byte_at(s, at, 0)) {
+        return behind_e(s, at + 1);
+    }
+    finish(s, at, 4)
+}
+
+fn in_frac(s: &[u8], at: usize) -> Number
+    requires { ⌜ at ≤ length (now s) ⌝ }
+    ensures { λ r. ⌜ r ≡ numberFrom inFrac at (drop at (now (s .entry))) ⌝ }
+{
+    behind_frac(s, digits(s, at))
+}
+
+fn behind_point(s: &[u8], at: usize) -> Number
+    requires { ⌜ at ≤ length (now s) ⌝ }
+    ensures { λ r. ⌜ r ≡ numberFrom behindPoint at (drop at (now (s .entry))) ⌝ }
+{
+    if words::is_digit(slices::byte_at(s, at, 0)) {
+        return in_frac(s, at + 1);
+    }
+    Number::Malformed
+}
+
+fn behind_int(s: &[u8], at: usize) -> Number
+    requires { ⌜ at ≤ length (now s) ⌝ }
+    ensures { λ r. ⌜ r ≡ numberFrom behindInt at (drop at (now (s .entry))) ⌝ }
+{
+    let x = slices::byte_at(s, at, 0);
+    if x == 0x2e {
+        return behind_point(s, at + 1);
+    }
+    if is_e(x) {
+        return behind_e(s, at + 1);
+    }
+    finish(s, at, 3)
+}
+
+fn in_int(s: &[u8], at: usize) -> Number
+    requires { ⌜ at ≤ length (now s) ⌝ }
+    ensures { λ r. ⌜ r ≡ numberFrom inInt at (drop at (now (s .entry))) ⌝ }
+{
+    behind_int(s, digits(s, at))
+}
+
+fn unsigned(s: &[u8], at: usize) -> Number
+    requires { ⌜ at ≤ length (now s) ⌝ }
+    ensures { λ r. ⌜ r ≡ numberFrom int at (drop at (now (s .entry))) ⌝ }
+{
+    let x = slices::byte_at(s, at, 0);
+    if x == 0x30 {
+        return behind_int(s, at + 1);
+    }
+    if words::is_digit(x) {
+        return in_int(s, at + 1);
+    }
+    Number::Malformed
+}
+
+fn signed(s: &[u8], at: usize) -> Number
+    requires { ⌜ at ≤ length (now s) ⌝ }
+    ensures { λ r. ⌜ r ≡ numberFrom numberKind at (drop at (now (s .entry))) ⌝ }
+{
+    if slices::byte_at(s, at, 0) == 0x2d {
+        return unsigned(s, at + 1);
+    }
+    unsigned(s, at)
+}
+
+// The number token at a place.
+pub fn number_at(s: &[u8], from: usize) -> Number
+    requires { ⌜ from ≤ length (now s) ⌝ }
+    ensures { λ r. ⌜ r ≡ numberAt (drop from (now (s .entry))) ⌝ }
+{
+    let found = signed(s, from);
+    match found {
+        Number::Legal(kind, end) => Number::Legal(kind, end - from),
+        Number::Malformed => Number::Malformed,
+    }
+}
