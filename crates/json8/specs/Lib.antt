@@ -2,3 +2,4 @@ pub mod Nodes
 pub mod Leaves
 pub mod Values
 pub mod Read
+pub mod Told

@@ -3,12 +3,14 @@
 use Prim.Native.Nat.{ℕ, zero, suc, pred, _+_}
 use mathlib.Core.List.{List, [], _∷_, _++_}
 use lib.Dec.{eqb}
-use lib.ListN.{length, getD, drop}
+use lib.ListN.{length, drop}
 use Rattle.prelude.specs.Pick.{pick}
 use Rattle.prelude.specs.Refusals.{cutOff, misplaced, tooDeep}
 use Rattle.tokens.specs.declared.starts.Start.{Start}
 use Rattle.tokens.specs.declared.starts.Start.the-variants.{Ended, String as StringStart, Word as WordStart, Number as NumberStart, List as ListStart, Dict, Nothing}
 use Rattle.tokens.specs.Starts.{startOf}
+use Rattle.json8.specs.declared.nodes.Sort.{Sort}
+use Rattle.json8.specs.declared.nodes.Sort.the-variants.{Items, Pairs}
 use Rattle.json8.specs.Nodes.{Node, node, Read, got, refused, Reader, seq, limited}
 use Rattle.json8.specs.Leaves.{spaces, colon, comma, string, word, number, key}
 
@@ -26,27 +28,25 @@ unfoldable pub valueOf : Reader → Reader → Reader
 valueOf ls ds p n m s = valueBy ls ds (startOf s) p n m s
 
 -- lists and dicts differ in their kind, "7 list, 8 dict", in their bracket and in their members
-pub data Sort : Type 0 where
-  list dict : Sort
-
 abbrev pub kindOf : Sort → ℕ
-kindOf list = 7
-kindOf dict = 8
+kindOf Items = 7
+kindOf Pairs = 8
 
 abbrev pub closeOf : Sort → ℕ
-closeOf list = 0x5d
-closeOf dict = 0x7d
+closeOf Items = 0x5d
+closeOf Pairs = 0x7d
 
 -- RFC 8259, section 4: "member = string name-separator value"; "(key, value, key, value)"
 abbrev pub memberOf : Sort → Reader → Reader
-memberOf list value = value
-memberOf dict value = seq key (seq spaces (seq colon (seq spaces value)))
+memberOf Items value = value
+memberOf Pairs value = seq key (seq spaces (seq colon (seq spaces value)))
 
 -- in a bracket, up to where the next member may stand: the closing bracket (tag 0); a member and the closing bracket (1); a member and
 -- a comma (2), behind which the bracket may close, "a trailing comma after at least one member"
 unfoldable pub closeOr : ℕ → Reader → Reader
-closeOr close member p n m s =
-    pick (eqb (getD s 0 0) close) (got 1 0 [] []) (seq member (seq spaces (comma close)) p n m s)
+closeOr close member p n m [] = refused cutOff p
+closeOr close member p n m (x ∷ r) =
+    pick (eqb x close) (got 1 0 [] []) (seq member (seq spaces (comma close)) p n m (x ∷ r))
 
 abbrev pub round : ℕ → Reader → Reader
 round close member = seq spaces (closeOr close member)
@@ -80,7 +80,7 @@ bracketed b value p n m s = branch (kindOf b) p (members (closeOf b) (memberOf b
 -- a list or a dict where so many brackets more may be open: "a 33rd open bracket" is 15
 unfoldable pub opened : ℕ → Sort → Reader
 opened zero b = λ p n m s. refused tooDeep p
-opened (suc left) b = limited (bracketed b (valueOf (opened left list) (opened left dict)))
+opened (suc left) b = limited (bracketed b (valueOf (opened left Items) (opened left Pairs)))
 
 abbrev pub value : ℕ → Reader
-value left = valueOf (opened left list) (opened left dict)
+value left = valueOf (opened left Items) (opened left Pairs)

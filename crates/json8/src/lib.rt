@@ -1,2 +1,7 @@
 // JSON8, read to a node table.
 pub mod answers;
+mod leaves;
+mod nodes;
+mod quoted;
+pub mod read;
+mod values;

@@ -1,15 +1,16 @@
--- Runs of clipped stores: one after another, past the room, and over a whole front.
+-- Runs of clipped stores: one after another, past the room, over a whole front, and into a part of a buffer.
 -- Assumes nothing.
 use mathlib.Core.Path.{_≡_, refl, sym, ap, _∙_}
-use mathlib.Core.List.{List, [], _∷_, _++_}
+use mathlib.Core.List.{List, [], _∷_, _++_, append-nil}
 use Prim.Native.Nat.{ℕ, zero, suc, _+_, _-_, _≤_, _<_}
-use native.Mathlib.Nat.{zero-add}
+use native.Mathlib.Nat.{zero-add, suc-add}
 use native.Mathlib.Numerals.{add-one}
 use native.Mathlib.Omega.{arith}
 use borrow.Author.Tests.{leb-true, leb-false}
 use lib.Dec.{leb}
-use lib.ListN.{length, getD, take, drop, set, length-drop}
-use lib.Seq.{sets, sets-eq, take-suc, take-add, set-out, length-sets, getD-drop, length-take-le}
+use borrow.Rule.Slice.PartMut.{putMid, put-same}
+use lib.ListN.{length, getD, take, drop, set, length-drop, length-take, drop-of-length-le, take-append-drop}
+use lib.Seq.{sets, sets-eq, take-suc, take-add, set-out, length-sets, getD-drop, take-all, length-take-le}
 use Rattle.prelude.proofs.Cases.{split}
 
 pub sets-append : (xs ys t : List ℕ) (i j : ℕ) → i + length xs ≡ j → sets (sets t i xs) j ys ≡ sets t i (xs ++ ys)
@@ -51,3 +52,45 @@ sets-over vs l h = sets-eq vs l 0 (omega arith) ∙ rw zero-add
 pub empty-front : (xs l : List ℕ) → length xs ≡ 0 → xs ++ l ≡ l
 empty-front [] l e = refl
 empty-front (x ∷ xs) l e = let f : ⊥ = omega arith in absurd f
+
+-- stores into the part of a buffer from a place on, or into none where the place is past the end
+set-behind : (pre post : List ℕ) (i v : ℕ) → set (pre ++ post) (length pre + i) v ≡ pre ++ set post i v
+set-behind [] post i v = rw (zero-add i)
+set-behind (x ∷ pre) post i v = rw (suc-add (length pre) i) (ap (λ (l : List ℕ). x ∷ l) (set-behind pre post i v))
+
+sets-behind : (xs pre post : List ℕ) (i : ℕ) → pre ++ sets post i xs ≡ sets (pre ++ post) (length pre + i) xs
+sets-behind [] pre post i = refl
+sets-behind (v ∷ xs) pre post i =
+    sets-behind xs pre (set post i v) (suc i)
+    ∙ (λ j. sets (sym (set-behind pre post i v) j) ((let e : length pre + suc i ≡ suc (length pre + i) = omega arith in e) j) xs)
+
+part-inside : (out xs : List ℕ) (o : ℕ) → o ≤ length out
+    → putMid o (length out - o) out (sets (take (length out - o) (drop o out)) 0 xs) ≡ sets out o xs
+part-inside out xs o l =
+    let p : take (length out - o) (drop o out) ≡ drop o out = take-all (length out - o) (drop o out) (omega (arith, length-drop o out)) in
+    let q : drop (length out - o) (drop o out) ≡ [] = drop-of-length-le (drop o out) {i = length out - o} (omega (arith, length-drop o out)) in
+    let n : length (take o out) + 0 ≡ o = omega (arith, length-take-le o out l) in
+    (λ j. take o out ++ (sets (p j) 0 xs ++ q j))
+    ∙ ap (λ (x : List ℕ). take o out ++ x) (append-nil (sets (drop o out) 0 xs))
+    ∙ sets-behind xs (take o out) (drop o out) 0
+    ∙ (λ j. sets (take-append-drop o out j) (n j) xs)
+
+part-outside : (out xs : List ℕ) (o b : ℕ) → length out ≤ o → b ≡ length out
+    → putMid b (length out - b) out (sets (take (length out - b) (drop b out)) 0 xs) ≡ sets out o xs
+part-outside out xs o b l e =
+    let z : length (take (length out - b) (drop b out)) ≤ 0 = omega (arith, length-take (length out - b) (drop b out)) in
+    ap (putMid b (length out - b) out) (sets-out xs (take (length out - b) (drop b out)) 0 z)
+    ∙ put-same b (length out - b) out ∙ sym (sets-out xs out o l)
+
+pub sets-part : (out xs : List ℕ) (o b : ℕ) → (o ≤ length out → b ≡ o) → (length out ≤ o → b ≡ length out)
+    → putMid b (length out - b) out (sets (take (length out - b) (drop b out)) 0 xs) ≡ sets out o xs
+sets-part out xs o b f g =
+    split (leb o (length out))
+    (λ q. let l : o ≤ length out = leb-true _ _ q in rw (f l) (part-inside out xs o l))
+    (λ q. let l : length out < o = leb-false o (length out) q in part-outside out xs o b (omega arith) (g (omega arith)))
+
+pub least-inside : (b o m : ℕ) → (o ≤ m → b ≡ o) → (m ≤ o → b ≡ m) → b ≤ m
+least-inside b o m f g =
+    split (leb o m)
+    (λ q. let l : o ≤ m = leb-true _ _ q in omega (arith, f l))
+    (λ q. let l : m < o = leb-false o m q in omega (arith, g (omega arith)))

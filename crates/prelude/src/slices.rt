@@ -24,7 +24,8 @@ pub fn put(b: u8, o: usize, out: &mut [u8])
     }
 }
 
-fn least(a: usize, b: usize) -> usize
+// The lesser of two numbers.
+pub fn least(a: usize, b: usize) -> usize
     ensures { λ r. ⌜ (r ≤ a) × (r ≤ b) × (a ≤ b → r ≡ a) × (b ≤ a → r ≡ b) ⌝ }
 {
     if a < b { a } else { b }

@@ -3,3 +3,4 @@ pub mod Skipping
 pub mod Spelling
 pub mod Grammar
 pub mod First
+pub mod Progress

@@ -47,7 +47,7 @@ step-fault o i number [] l e = absurd (omega arith)
 step-fault o i number (x ∷ r) l e = rw e
 
 -- a character that stands has a length, and stands inside
-good-len : (s : List ℕ) (n : ℕ) → charAt s ≡ Good n → (0 < n) × (n ≤ length s)
+pub good-len : (s : List ℕ) (n : ℕ) → charAt s ≡ Good n → (0 < n) × (n ≤ length s)
 good-len s n e = go (charLen s) e (char-le s)
   where
     go : (k : ℕ) → charBy k s ≡ Good n → k ≤ length s → (0 < n) × (n ≤ length s)

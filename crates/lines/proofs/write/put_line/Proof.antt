@@ -5,7 +5,8 @@ use Rattle.lines.proofs.write.put_line.Statement.{statement}
 use Rattle.lines.proofs.write.put_line.Tie as tie
 use native.Mathlib.Omega.{arith}
 use denote.Ref.{now}
-use Rattle.lines.proofs.LineTexts.{no-room, sound-inside, valid-told, least-inside, line-over, line-inside, line-put}
+use Rattle.prelude.proofs.Stores.{least-inside}
+use Rattle.lines.proofs.LineTexts.{no-room, sound-inside, valid-told, line-over, line-inside, line-put}
 
 sub-if1 : tie.Need-sub-if1
 sub-if1 c = search needs

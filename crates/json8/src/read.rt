@@ -1,0 +1,80 @@
+// Reading a whole text.
+ghost use mathlib.Core.Path.{_≡_};
+ghost use Prim.Native.Nat.{_/_, _≤_};
+ghost use lib.ListN.{length};
+ghost use Rattle.utf8.specs.Class.{IsTable};
+ghost use Rattle.strings.specs.Read.{textMax};
+ghost use Rattle.json8.specs.Read.{readAll, readOf, parsedOf, tableAfter, storeAfter};
+ghost use Rattle.json8.specs.Told.{Told};
+use crate::answers::Parsed;
+use crate::leaves;
+use crate::nodes::Out;
+use crate::nodes::Step;
+use crate::values;
+use prelude::refusals;
+use utf8::classes;
+
+// The longest text that is read, and how deep brackets may stand in each other.
+pub const TEXT_MAX: usize = 32768;
+
+pub const DEPTH_MAX: usize = 32;
+
+// One pass over a text: it stores as far as there is room.
+fn pass(t: &[u8; 256], text: &[u8], table: &mut [u32], store: &mut [u8]) -> Out
+    requires { ⌜ IsTable (now t) × (length (now text) ≤ textMax) ⌝ }
+    ensures { λ r. ⌜ Told (readAll (now (text .entry))) 0 0 0 r (now (table .entry)) (now (table .exit)) (now (store .entry)) (now (store .exit)) ⌝ }
+{
+    match leaves::blank(t, text, 0) {
+        Step::Stop(number, q) => {
+            return Out::Refused(number, q);
+        }
+        Step::At(p, _) => {
+            match values::value_node(t, text, p, DEPTH_MAX, 0, 0, table, store) {
+                Out::Refused(number, q) => {
+                    return Out::Refused(number, q);
+                }
+                Out::Got(q, i, j, _) => {
+                    match leaves::blank(t, text, q) {
+                        Step::Stop(number, x) => {
+                            return Out::Refused(number, x);
+                        }
+                        Step::At(x, _) => {
+                            if x < text.len() {
+                                return Out::Refused(refusals::TRAILING, x);
+                            }
+                            return Out::Got(x, i, j, 0);
+                        }
+                    }
+                }
+            }
+        }
+    }
+}
+
+// Reads a JSON8 text: its nodes in front of the table and the bytes of its strings with escapes in front of the store, or a refusal
+// and both as they were. The first pass is lent no room, so it only judges.
+pub fn read(text: &[u8], table: &mut [u32], store: &mut [u8]) -> Parsed
+    ensures answer { λ r. ⌜ r ≡ parsedOf (readOf (length (now (table .entry)) / 4) (length (now (store .entry))) (now (text .entry))) ⌝ }
+    ensures nodes { λ r. ⌜ now (table .exit) ≡ tableAfter (readOf (length (now (table .entry)) / 4) (length (now (store .entry))) (now (text .entry))) (now (table .entry)) ⌝ }
+    ensures bytes { λ r. ⌜ now (store .exit) ≡ storeAfter (readOf (length (now (table .entry)) / 4) (length (now (store .entry))) (now (text .entry))) (now (store .entry)) ⌝ }
+{
+    if TEXT_MAX < text.len() {
+        return Parsed::Refused(refusals::TOO_LONG, 0);
+    }
+    let t = classes::table();
+    match pass(&t, text, &mut table[..0], &mut store[..0]) {
+        Out::Refused(number, q) => {
+            return Parsed::Refused(number, q);
+        }
+        Out::Got(_, i, j, _) => {
+            if table.len() / 4 < i {
+                return Parsed::Refused(refusals::NO_ROOM, 0);
+            }
+            if store.len() < j {
+                return Parsed::Refused(refusals::NO_ROOM, 0);
+            }
+            pass(&t, text, table, store);
+            return Parsed::Done(i, j);
+        }
+    }
+}
