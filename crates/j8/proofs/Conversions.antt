@@ -16,6 +16,11 @@ use Rattle.strings.specs.Read.{StringRead, accepted, refused, decodedOf}
 use Rattle.strings.specs.Write.{writtenIn}
 use Rattle.lines.specs.declared.write.WroteLines.{WroteLines}
 use Rattle.lines.specs.declared.write.WroteLines.the-variants as lines
+use Rattle.json8.specs.declared.show.Shown.{Shown}
+use Rattle.json8.specs.declared.show.Shown.the-variants.{InText, InStore, Nowhere}
+use Rattle.json8.specs.declared.answers.Parsed.{Parsed}
+use Rattle.json8.specs.declared.answers.Parsed.the-variants as parsed
+use Rattle.j8.specs.Tables.{nodesResult, shownResult}
 use Rattle.j8.specs.Results.{done, refusal, readResult, writeResult, linesResult}
 
 module _ (d : Decoded) where
@@ -56,3 +61,22 @@ module _ (w v : WroteLines) (p : w ≡ v) where
 
   pub lines-refused : (number : ℕ) → w ≡ lines.Refused number → refusal number 0 ≡ linesResult v
   lines-refused number q = ap linesResult (sym q ∙ p)
+
+module _ (v w : Shown) (p : v ≡ w) where
+  pub text-shown : (place size : ℕ) → v ≡ InText place size → record { number = 0; stored = 0; place = place; length = size } ≡ shownResult w
+  text-shown place size q = ap shownResult (sym q ∙ p)
+
+  pub store-shown : (place size : ℕ) → v ≡ InStore place size → record { number = 0; stored = 1; place = place; length = size } ≡ shownResult w
+  store-shown place size q = ap shownResult (sym q ∙ p)
+
+  pub none-shown : v ≡ Nowhere → record { number = 1; stored = 0; place = 0; length = 0 } ≡ shownResult w
+  none-shown q = ap shownResult (sym q ∙ p)
+
+module _ (v w : Parsed) (p : v ≡ w) where
+  pub nodes-done : (nodes stored : ℕ) → v ≡ parsed.Done nodes stored
+      → record { number = 0; place = 0; nodes = nodes; stored = stored } ≡ nodesResult w
+  nodes-done nodes stored q = ap nodesResult (sym q ∙ p)
+
+  pub nodes-refused : (number place : ℕ) → v ≡ parsed.Refused number place
+      → record { number = number; place = place; nodes = 0; stored = 0 } ≡ nodesResult w
+  nodes-refused number place q = ap nodesResult (sym q ∙ p)

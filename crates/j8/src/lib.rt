@@ -11,6 +11,7 @@ use strings::answers::Written;
 use strings::read;
 use strings::write;
 
+pub mod tables;
 pub mod uploads;
 
 // `j8_result` of the header.

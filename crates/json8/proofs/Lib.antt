@@ -5,3 +5,6 @@ pub mod Backslashes
 pub mod Single
 pub mod Choices
 pub mod Whole
+pub mod Nesting
+pub mod Showing
+pub mod Claims

@@ -3,3 +3,6 @@ pub mod Leaves
 pub mod Values
 pub mod Read
 pub mod Told
+pub mod Tables
+pub mod Show
+pub mod Claims

@@ -1,7 +1,8 @@
-// JSON8, read to a node table.
+// JSON8: a text read to a node table, and the strings of a table shown.
 pub mod answers;
 mod leaves;
 mod nodes;
 mod quoted;
 pub mod read;
+pub mod show;
 mod values;

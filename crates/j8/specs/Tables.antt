@@ -1,0 +1,21 @@
+-- JSON8's structs of include/j8.h.
+-- Assumes nothing.
+use Prim.Native.Nat.{ℕ}
+use Rattle.prelude.specs.Refusals.{unfit}
+use Rattle.json8.specs.declared.show.Shown.{Shown}
+use Rattle.json8.specs.declared.show.Shown.the-variants.{InText, InStore, Nowhere}
+use Rattle.json8.specs.declared.answers.Parsed.{Parsed}
+use Rattle.json8.specs.declared.answers.Parsed.the-variants.{Done, Refused}
+use Rattle.j8.specs.declared.tables.J8Nodes.{J8Nodes}
+use Rattle.j8.specs.declared.tables.J8Shown.{J8Shown}
+
+-- "number 0: place 0, nodes and stored bytes written; else nodes and stored 0"
+abbrev pub nodesResult : Parsed → J8Nodes
+nodesResult (Done nodes stored) = record { number = 0; place = 0; nodes = nodes; stored = stored }
+nodesResult (Refused number place) = record { number = number; place = place; nodes = 0; stored = 0 }
+
+-- "number 0: a part of the store if stored is 1, of the text if 0; number 1: stored, place and length 0"
+abbrev pub shownResult : Shown → J8Shown
+shownResult (InText place size) = record { number = 0; stored = 0; place = place; length = size }
+shownResult (InStore place size) = record { number = 0; stored = 1; place = place; length = size }
+shownResult Nowhere = record { number = unfit; stored = 0; place = 0; length = 0 }

@@ -1,0 +1,30 @@
+-- What is claimed of the definition of reading JSON8, beside the contracts: each claim is a type, and proofs/Claims.antt has a term of it.
+-- Assumes nothing.
+use Prim.Native.Nat.{ℕ, _≤_, _<_}
+use mathlib.Core.List.{List}
+use mathlib.Core.Path.{_≡_}
+use lib.ListN.{length}
+use Rattle.json8.specs.Nodes.{Node, got, refused, nodeMax}
+use Rattle.json8.specs.Values.{value}
+use Rattle.json8.specs.Read.{depthMax, readAll, readOf}
+use Rattle.json8.specs.Tables.{Tree}
+
+-- the table of an accepted text is one tree, 32 brackets deep at most: subtrees nest exactly, and the counts are true
+abbrev pub Tables-Nest : Type 0
+Tables-Nest = (s : List ℕ) (l tag : ℕ) (ns : List Node) (bs : List ℕ) → readAll s ≡ got l tag ns bs → Tree depthMax ns
+
+-- it has at most 1,024 nodes, and the store no more bytes than the text
+abbrev pub Tables-Fit : Type 0
+Tables-Fit =
+    (s : List ℕ) (l tag : ℕ) (ns : List Node) (bs : List ℕ) → readAll s ≡ got l tag ns bs
+    → (length ns ≤ nodeMax) × (length bs ≤ length s)
+
+-- a value takes at least one byte, and no more than there are
+abbrev pub Values-Progress : Type 0
+Values-Progress =
+    (left p n m : ℕ) (s : List ℕ) (l tag : ℕ) (ns : List Node) (bs : List ℕ) → n ≤ nodeMax → value left p n m s ≡ got l tag ns bs
+    → (0 < l) × (l ≤ length s)
+
+-- a refusal's place is in the text or at its end
+abbrev pub Refusals-Inside : Type 0
+Refusals-Inside = (nodes room : ℕ) (s : List ℕ) (number at : ℕ) → readOf nodes room s ≡ refused number at → at ≤ length s
