@@ -1,17 +1,17 @@
 /*
- * j8.h - J8 Notation strings and lines for printer backups.
+ * j8.h - J8 Notation strings, lines and JSON8 for printer backups.
  *
  * Link with libj8.a. C99.
  *
  * What holds for every call:
- *  - A part is a pointer and a length in bytes. A pointer may be NULL only if
- *    its length is 0.
+ *  - A part is a pointer and a length, in bytes, or in numbers where the part
+ *    is a node table. A pointer may be NULL only if its length is 0.
  *  - The parts handed to one call must not overlap.
  *  - Any bytes may be handed in; the call always ends with an answer.
- *  - A refused call leaves every byte of the lent result as it was. A call
- *    that is done writes its result from the start of the lent part, and
- *    never touches a byte past it. An upload appends instead, and keeps the
- *    records of the good lines before a bad one.
+ *  - A refused call leaves every byte and number of the lent parts as it was.
+ *    A call that is done writes its result from the start of the lent part,
+ *    and never touches anything past it. An upload appends instead, and keeps
+ *    the records of the good lines before a bad one.
  *  - Nothing is kept between calls: no global state, no allocation, no I/O.
  *    Every call is reentrant, and threads may call at the same time.
  */
@@ -29,14 +29,14 @@ extern "C" {
  * Refusal numbers. 0 is no refusal.
  *
  * Reading a string gives 2 to 12 only, writing one gives 12 only. An upload
- * gives 1, 2, 4 to 12, 17 and 18, writing lines gives 1 and 12. The other
- * numbers belong to JSON8 and stand here so that a number has one meaning
- * everywhere.
+ * gives 1, 2, 4 to 12, 17 and 18, writing lines gives 1 and 12. Reading JSON8
+ * gives 2 and 4 to 16, showing a string of it gives 1.
  *
  * Order: 1, then 2 on whole texts, then the leftmost fault in the text, then
  * 12. In an upload the faults and 12 are judged for each line by itself, when
  * its LF or the finish reads it; 2 and 17 come at their byte, before any fault
- * in the line held. Places are byte offsets from 0.
+ * in the line held. At one place of a JSON8 text 11 comes first, then 13, 14,
+ * 15 and 16, then the rest. Places are byte offsets from 0.
  */
 
 /* a lent buffer, table or state is unfit; place 0 */
@@ -78,7 +78,7 @@ extern "C" {
 #define J8_ENDED 18
 
 /*
- * Sizes, in bytes.
+ * Sizes, in bytes; of a node table, in numbers.
  */
 
 /* The longest text that is read; a longer one is J8_TOO_LONG. */
@@ -112,6 +112,25 @@ extern "C" {
    byte becomes six at most, and the quotes and the LF are fewer than six times
    the head. n must be at most SIZE_MAX / 6. */
 #define J8_LINES_WRITE_ROOM(n) ((size_t)6 * (size_t)(n))
+
+/* The most nodes of a JSON8 text, keys with them; one more is
+   J8_TOO_MANY_NODES. */
+#define J8_NODES_MAX 1024
+
+/* The most brackets of a JSON8 text that are open at once; one more is
+   J8_TOO_DEEP. */
+#define J8_DEPTH_MAX 32
+
+/* The numbers of a node in the table: kind, subtree, place and length. */
+#define J8_NODE_NUMBERS 4
+
+/* Numbers that always suffice for the node table of a JSON8 text: 4,096, four
+   for each of 1,024 nodes. */
+#define J8_TABLE_ROOM (J8_NODES_MAX * J8_NODE_NUMBERS)
+
+/* Room that always suffices for the store of a JSON8 text of n bytes: decoded
+   bytes are never more than the text's. J8_TEXT_MAX suffices for every text. */
+#define J8_STORE_ROOM(n) ((size_t)(n))
 
 /*
  * The answer of a call.
@@ -294,6 +313,138 @@ j8_fed j8_upload_finish(j8_upload upload,
  */
 j8_result j8_lines_write(const uint8_t *records, size_t records_len,
                          uint8_t *out, size_t out_len);
+
+/*
+ * JSON8.
+ *
+ * JSON with J8 strings, comments from # to the end of the line, a trailing
+ * comma after at least one member, and keys that may stand unquoted if they
+ * are letters, digits and _ and don't begin with a digit. Equal keys are all
+ * kept, in order.
+ *
+ * A text is read to a node table, four numbers a node, a parent before its
+ * children and these in their order, in a dict key, value, key, value:
+ *
+ *   kind     one of the nine below
+ *   subtree  nodes in its subtree, itself with them; so what comes behind a
+ *            node at number n is at n + subtree, and a leaf has 1
+ *   place    J8_NODE_STRING_STORED: a byte of the store. J8_NODE_STRING: the
+ *            first byte behind the opening mark, in the text. All others: the
+ *            token's first byte in the text, the bracket for a list or dict
+ *   length   a list's members or a dict's pairs, else bytes from place on
+ *
+ * Node 0 is the value itself. Nothing of the text is copied but the strings
+ * with a backslash in them, whose decoded bytes stand in the store one behind
+ * the other. So the table is of use only together with its text and store.
+ */
+
+/* null */
+#define J8_NODE_NULL 0
+/* false */
+#define J8_NODE_FALSE 1
+/* true */
+#define J8_NODE_TRUE 2
+/* a number with no . e E */
+#define J8_NODE_INTEGER 3
+/* any other number */
+#define J8_NODE_NUMBER 4
+/* a string without a backslash, or an unquoted key: its bytes in the text, marks
+   left off */
+#define J8_NODE_STRING 5
+/* a string with a backslash: its decoded bytes in the store */
+#define J8_NODE_STRING_STORED 6
+/* a list */
+#define J8_NODE_LIST 7
+/* a dict */
+#define J8_NODE_DICT 8
+
+/*
+ * What reading JSON8 answers.
+ *
+ * number 0: done; place is 0, nodes is how many nodes the table holds, at least
+ * one, and stored how many bytes the store holds.
+ * Otherwise number is the refusal and place its place; nodes and stored are 0.
+ */
+typedef struct {
+    uint32_t number;
+    size_t place;
+    size_t nodes;
+    size_t stored;
+} j8_nodes;
+
+/*
+ * What showing a string answers.
+ *
+ * number 0: its bytes are length bytes from place on, all of them inside: of
+ * the store if stored is 1, of the text if stored is 0.
+ * number 1: there is nothing to show; stored, place and length are 0.
+ */
+typedef struct {
+    uint32_t number;
+    uint32_t stored;
+    size_t place;
+    size_t length;
+} j8_shown;
+
+/*
+ * Reads a JSON8 text, at most J8_TEXT_MAX bytes, to a node table and a store.
+ *
+ * table is aligned for uint32_t, and table_len counts its numbers, not bytes
+ * or nodes. J8_TABLE_ROOM numbers and J8_STORE_ROOM(text_len) bytes always
+ * suffice. Numbers behind the last whole node that fits are never touched.
+ *
+ * A settings backup and its strings:
+ *
+ *     static uint32_t table[J8_TABLE_ROOM];
+ *     static uint8_t store[J8_STORE_ROOM(J8_TEXT_MAX)];
+ *     j8_nodes got;
+ *     j8_shown shown;
+ *     size_t node;
+ *
+ *     got = j8_json8_read(text, text_len, table, J8_TABLE_ROOM,
+ *                         store, sizeof store);
+ *     if (got.number != 0) {
+ *         complain(got.number, got.place);
+ *     }
+ *     for (node = 0; node < got.nodes; node++) {
+ *         shown = j8_json8_show(table, got.nodes * J8_NODE_NUMBERS,
+ *                               text, text_len, store, got.stored, node);
+ *         if (shown.number == 0) {
+ *             entry(node, (shown.stored ? store : text) + shown.place,
+ *                   shown.length);
+ *         }
+ *     }
+ *
+ * The children of a list or dict at node n begin at n + 1, each as many nodes
+ * behind the one before as that one's subtree has:
+ *
+ *     end = n + table[n * J8_NODE_NUMBERS + 1];
+ *     for (at = n + 1; at < end; at += table[at * J8_NODE_NUMBERS + 1]) {
+ *         child(at);
+ *     }
+ *
+ * Refusals: 2, then the leftmost of 4 to 11 and 13 to 16, then 12 if the table
+ * or the store is short. A refusal leaves both as they were.
+ */
+j8_nodes j8_json8_read(const uint8_t *text, size_t text_len,
+                       uint32_t *table, size_t table_len,
+                       uint8_t *store, size_t store_len);
+
+/*
+ * Shows the string at a node: says where its bytes stand, in the text or in the
+ * store, as its kind says. Nothing is copied or written.
+ *
+ * Any table may be handed in, also one that no reader made. Only the node's own
+ * kind, place and length are looked at.
+ *
+ * Refusals: 1 if the node is outside the table as lent (fewer than four numbers
+ * at four times its number), is no string, or has a range that isn't wholly
+ * inside its buffer. An empty string at the buffer's very end is inside.
+ */
+j8_shown j8_json8_show(const uint32_t *table, size_t table_len,
+                       const uint8_t *text, size_t text_len,
+                       const uint8_t *store, size_t store_len,
+                       size_t node);
 
 #ifdef __cplusplus
 }

@@ -1,4 +1,4 @@
-//! J8 Notation strings and lines for printer backups.
+//! J8 Notation strings, lines and JSON8 for printer backups.
 //!
 //! A J8 string is a text for any bytes: `"..."` for valid UTF-8, as in JSON,
 //! and `b'...'` for the rest. So a folder name with odd bytes comes back from
@@ -19,18 +19,27 @@
 //! assert_eq!((refusal.number, refusal.place), (j8::TRAILING, 7));
 //! assert_eq!(
 //!     refusal.to_string(),
-//!     "refusal 11 at byte 7: there are bytes after the closing quote"
+//!     "refusal 11 at byte 7: there are bytes after the closing quote or the value"
 //! );
 //! ```
 //!
 //! J8 Lines have one name a line: [`Upload`] reads them from an upload that
 //! arrives in pieces, [`write_lines`] writes them.
+//!
+//! JSON8 is JSON with J8 strings, comments, trailing commas and unquoted keys:
+//! [`read_json8`] reads a settings backup to a node table in lent buffers,
+//! [`Json8`] in memory of its own.
 
 use std::fmt;
 
+mod json8;
 mod lines;
 mod upload;
 
+pub use json8::{
+    read_json8, show_string, Children, Iter, Json8, Kind, Node, Nodes, Pairs, Strings, DEPTH_MAX,
+    NODES_MAX, NODE_NUMBERS, TABLE_ROOM,
+};
 pub use lines::{
     push_record, write_lines, write_lines_room, write_lines_to_vec, Record, Records, KIND_BYTES,
     KIND_TEXT, RECORD_HEAD,
@@ -41,7 +50,9 @@ pub use upload::{
 
 /// The C interface as it stands in `include/j8.h`.
 pub mod raw {
+    mod json8;
     mod lines;
+    pub use json8::*;
     pub use lines::*;
 
     /// The answer of a call: `number` 0 means done with a result of `length`
@@ -101,10 +112,19 @@ pub const SURROGATE: u32 = 8;
 pub const TOO_LARGE: u32 = 9;
 /// `\y` in `u''` or `''`.
 pub const BYTE_ESCAPE: u32 = 10;
-/// There are bytes after the closing quote.
+/// There are bytes after the closing quote, or after the JSON8 value other than
+/// whitespace and comments.
 pub const TRAILING: u32 = 11;
 /// All else is right, and the result is longer than the room.
 pub const NO_ROOM: u32 = 12;
+/// JSON8: this can't stand here.
+pub const MISPLACED: u32 = 13;
+/// JSON8: a malformed number.
+pub const NUMBER: u32 = 14;
+/// JSON8: a bracket is over [`DEPTH_MAX`] deep.
+pub const TOO_DEEP: u32 = 15;
+/// JSON8: a node is over [`NODES_MAX`].
+pub const TOO_MANY_NODES: u32 = 16;
 /// An upload is over [`UPLOAD_MAX`] bytes.
 pub const UPLOAD_LIMIT: u32 = 17;
 /// An upload already ended.
@@ -146,9 +166,13 @@ impl Refusal {
             SURROGATE => "\\u{h} is a surrogate, from d800 to dfff",
             TOO_LARGE => "\\u{h} is above 10ffff",
             BYTE_ESCAPE => "\\y stands in b'' only",
-            TRAILING => "there are bytes after the closing quote",
+            TRAILING => "there are bytes after the closing quote or the value",
             NO_ROOM => "the result is longer than the room",
-            _ => "a number that no string call gives",
+            MISPLACED => "this can't stand here",
+            NUMBER => "a malformed number",
+            TOO_DEEP => "a 33rd open bracket",
+            TOO_MANY_NODES => "a 1,025th node",
+            _ => "a number that no such call gives",
         }
     }
 }

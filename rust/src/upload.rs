@@ -1,6 +1,6 @@
 //! An upload of J8 Lines that arrives in pieces.
 
-use crate::{raw, Records, Refusal, ENDED, TOO_LONG, UNFIT, UPLOAD_LIMIT};
+use crate::{raw, Records, Refusal, ENDED, TOO_LONG, TRAILING, UNFIT, UPLOAD_LIMIT};
 use std::fmt;
 
 /// The line buffer of an upload, and the longest line that is read, its LF not
@@ -31,6 +31,7 @@ impl fmt::Display for UploadRefusal {
         let sentence = match number {
             UNFIT => "a lent buffer or the state is unfit",
             TOO_LONG => "the line is over 1,024 bytes",
+            TRAILING => "there are bytes after the closing quote",
             UPLOAD_LIMIT => "the upload is over 1,048,576 bytes",
             ENDED => "the upload already ended",
             _ => Refusal { number, place }.sentence(),
