@@ -3,14 +3,17 @@
 //! than 20,000 of each kind, J8_SEED for another seed.
 
 mod lines;
-#[path = "lines/random.rs"]
 mod random;
 
 use j8::raw::j8_upload;
 use j8_reference::lines::{definition, definition_answer, joined, Call, LINE_MAX, UPLOAD_MAX};
 use lines::{as_answer, as_state, pattern, record, Lent, LIBRARY, REFERENCE};
-use random::{cases, Random};
+use random::Random;
 use std::collections::BTreeMap;
+
+fn cases() -> u64 {
+    random::cases(20_000)
+}
 
 /// How often each thing was seen.
 type Seen = BTreeMap<u32, u64>;

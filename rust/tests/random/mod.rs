@@ -6,9 +6,9 @@ fn setting(name: &str) -> Option<u64> {
     Some(value.parse().unwrap_or_else(|_| panic!("{name}={value}")))
 }
 
-/// How many cases a test runs.
-pub fn cases() -> u64 {
-    setting("J8_CASES").unwrap_or(0).max(20_000)
+/// How many cases a test runs, never fewer than it says.
+pub fn cases(least: u64) -> u64 {
+    setting("J8_CASES").unwrap_or(0).max(least)
 }
 
 /// xorshift64*
