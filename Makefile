@@ -10,12 +10,12 @@ archive:
 	@rt staticlib j8 >target/archive.log 2>&1 || { cat target/archive.log; exit 1; }
 
 demo: archive
-	@for program in names backup; do \
+	@for program in names backup settings; do \
 	  gcc -std=c99 -O2 -Wall -Wextra -Iinclude examples/$$program.c target/staticlib/libj8.a -o target/$$program || exit 1; \
 	done
 	@bash examples/demo.sh
 
-# Needs serde_json from Debian's packages: bench/README.md.
+# Needs serde_json, and takes along the other peers, from Debian's packages: bench/README.md.
 bench: archive
 	cd bench && cargo run --offline --release
 
