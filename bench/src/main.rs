@@ -1,6 +1,7 @@
-//! Reading and writing J8 strings, beside serde_json and the reference, and the
-//! upload of J8 Lines. See the README for what is compared.
+//! Reading and writing J8 strings, beside serde_json and the reference, the
+//! upload of J8 Lines, and reading JSON8. See the README for what is compared.
 
+mod json8;
 mod upload;
 
 use std::hint::black_box;
@@ -166,10 +167,16 @@ fn main() {
         "Lent buffers are not cleared between calls; serde_json's Vec is emptied, not zeroed."
     );
 
+    // Only the tables named on the command line, or all.
+    let wanted: Vec<String> = std::env::args().skip(1).collect();
+    let wants = |job: &str| wanted.is_empty() || wanted.iter().any(|word| word == job);
     for (job, run) in [
         ("read", read as fn(&str, &[u8], &[u8], usize)),
         ("write", write),
     ] {
+        if !wants(job) {
+            continue;
+        }
         heading(job);
         for (kind, part) in KINDS {
             for size in SIZES {
@@ -179,5 +186,10 @@ fn main() {
             }
         }
     }
-    upload::run(rounds);
+    if wants("upload") {
+        upload::run(rounds);
+    }
+    if wants("json8") {
+        json8::run(rounds);
+    }
 }
