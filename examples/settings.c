@@ -31,13 +31,13 @@ static void print_string(j8_shown shown)
 
 static j8_shown show(size_t node)
 {
-    return j8_json8_show(table, got.nodes * J8_NODE_NUMBERS, text, length, store, got.stored, node);
+    return j8_json8_show(table, got.nodes * J8_NODE_ROOM, text, length, store, got.stored, node);
 }
 
 /* A node and all below it; so many steps lead to it. */
 static void print_node(size_t node, size_t depth)
 {
-    const uint32_t *row = table + node * J8_NODE_NUMBERS;
+    const uint32_t *row = table + node * J8_NODE_ROOM;
     size_t at, i, members = 0, end = node + row[1];
     j8_shown shown = show(node);
 
@@ -55,7 +55,7 @@ static void print_node(size_t node, size_t depth)
         putchar('\n');
     }
     /* A leaf's subtree ends with itself, so it has no children. */
-    for (at = node + 1; at < end; at += table[at * J8_NODE_NUMBERS + 1]) {
+    for (at = node + 1; at < end; at += table[at * J8_NODE_ROOM + 1]) {
         steps[depth].key = row[0] == J8_NODE_DICT;
         if (steps[depth].key) {
             steps[depth].at = at;

@@ -122,11 +122,11 @@ extern "C" {
 #define J8_DEPTH_MAX 32
 
 /* The numbers of a node in the table: kind, subtree, place and length. */
-#define J8_NODE_NUMBERS 4
+#define J8_NODE_ROOM 4
 
 /* Numbers that always suffice for the node table of a JSON8 text: 4,096, four
    for each of 1,024 nodes. */
-#define J8_TABLE_ROOM (J8_NODES_MAX * J8_NODE_NUMBERS)
+#define J8_TABLE_ROOM (J8_NODES_MAX * J8_NODE_ROOM)
 
 /* Room that always suffices for the store of a JSON8 text of n bytes: decoded
    bytes are never more than the text's. J8_TEXT_MAX suffices for every text. */
@@ -317,7 +317,7 @@ j8_result j8_lines_write(const uint8_t *records, size_t records_len,
 /*
  * JSON8.
  *
- * JSON with J8 strings, comments from # to the end of the line, a trailing
+ * JSON with J8 strings, comments from # to LF or the text's end, a trailing
  * comma after at least one member, and keys that may stand unquoted if they
  * are letters, digits and _ and don't begin with a digit. Equal keys are all
  * kept, in order.
@@ -346,8 +346,8 @@ j8_result j8_lines_write(const uint8_t *records, size_t records_len,
 #define J8_NODE_TRUE 2
 /* a number with no . e E */
 #define J8_NODE_INTEGER 3
-/* any other number */
-#define J8_NODE_NUMBER 4
+/* any other number, so one with . e or E */
+#define J8_NODE_DECIMAL 4
 /* a string without a backslash, or an unquoted key: its bytes in the text, marks
    left off */
 #define J8_NODE_STRING 5
@@ -407,7 +407,7 @@ typedef struct {
  *         complain(got.number, got.place);
  *     }
  *     for (node = 0; node < got.nodes; node++) {
- *         shown = j8_json8_show(table, got.nodes * J8_NODE_NUMBERS,
+ *         shown = j8_json8_show(table, got.nodes * J8_NODE_ROOM,
  *                               text, text_len, store, got.stored, node);
  *         if (shown.number == 0) {
  *             entry(node, (shown.stored ? store : text) + shown.place,
@@ -418,8 +418,8 @@ typedef struct {
  * The children of a list or dict at node n begin at n + 1, each as many nodes
  * behind the one before as that one's subtree has:
  *
- *     end = n + table[n * J8_NODE_NUMBERS + 1];
- *     for (at = n + 1; at < end; at += table[at * J8_NODE_NUMBERS + 1]) {
+ *     end = n + table[n * J8_NODE_ROOM + 1];
+ *     for (at = n + 1; at < end; at += table[at * J8_NODE_ROOM + 1]) {
  *         child(at);
  *     }
  *

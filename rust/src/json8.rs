@@ -9,9 +9,9 @@ pub const NODES_MAX: usize = 1_024;
 /// The most brackets that are open at once.
 pub const DEPTH_MAX: usize = 32;
 /// The numbers of a node in the table.
-pub const NODE_NUMBERS: usize = 4;
+pub const NODE_ROOM: usize = 4;
 /// Numbers that always suffice for a node table.
-pub const TABLE_ROOM: usize = NODES_MAX * NODE_NUMBERS;
+pub const TABLE_ROOM: usize = NODES_MAX * NODE_ROOM;
 
 /// What a node is.
 #[derive(Clone, Copy, Debug, PartialEq, Eq, Hash)]
@@ -23,7 +23,7 @@ pub enum Kind {
     /// A number with no `.`, `e` or `E`.
     Integer = 3,
     /// Any other number.
-    Number = 4,
+    Decimal = 4,
     /// A string without a backslash, or an unquoted key. Its bytes stand in the
     /// text.
     String = 5,
@@ -39,7 +39,7 @@ impl Kind {
         Kind::False,
         Kind::True,
         Kind::Integer,
-        Kind::Number,
+        Kind::Decimal,
         Kind::String,
         Kind::StoredString,
         Kind::List,
@@ -53,7 +53,7 @@ impl Kind {
 
     /// Of either kind.
     pub fn is_number(self) -> bool {
-        matches!(self, Kind::Integer | Kind::Number)
+        matches!(self, Kind::Integer | Kind::Decimal)
     }
 }
 
@@ -133,7 +133,7 @@ pub fn read_json8<'a>(
     let (nodes, stored) = read(text, table, store)?;
     Ok(Nodes {
         text,
-        table: &table[..nodes * NODE_NUMBERS],
+        table: &table[..nodes * NODE_ROOM],
         store: &store[..stored],
     })
 }
@@ -211,7 +211,7 @@ pub fn show_string<'a>(
 /// let nodes = j8::read_json8(br"[true, -1.50, {a: 'x', 'b\n': null}]", &mut table, &mut store)?;
 ///
 /// let kinds: Vec<j8::Kind> = nodes.children(0).map(|child| nodes.node(child).kind).collect();
-/// assert_eq!(kinds, [j8::Kind::True, j8::Kind::Number, j8::Kind::Dict]);
+/// assert_eq!(kinds, [j8::Kind::True, j8::Kind::Decimal, j8::Kind::Dict]);
 /// assert_eq!(nodes.number(2), Some("-1.50"));
 ///
 /// let pairs: Vec<_> = nodes
@@ -240,7 +240,7 @@ impl<'a> Nodes<'a> {
     /// How many nodes there are; at least one.
     #[allow(clippy::len_without_is_empty)]
     pub fn len(&self) -> usize {
-        self.table.len() / NODE_NUMBERS
+        self.table.len() / NODE_ROOM
     }
 
     /// The text that was read.
@@ -261,7 +261,7 @@ impl<'a> Nodes<'a> {
     /// A node, or nothing if there is none with this number.
     pub fn get(&self, node: usize) -> Option<Node> {
         self.table
-            .chunks_exact(NODE_NUMBERS)
+            .chunks_exact(NODE_ROOM)
             .nth(node)
             .and_then(Node::of)
     }
@@ -317,7 +317,7 @@ impl<'a> Nodes<'a> {
     /// All nodes with their numbers, parents first.
     pub fn iter(&self) -> Iter<'a> {
         Iter {
-            rows: self.table.chunks_exact(NODE_NUMBERS).enumerate(),
+            rows: self.table.chunks_exact(NODE_ROOM).enumerate(),
         }
     }
 
@@ -450,7 +450,7 @@ impl Json8 {
         let mut table = vec![0; TABLE_ROOM];
         let (nodes, stored) = read(&text, &mut table, &mut store)?;
         // It may be kept for long, so the spare room is given back.
-        table.truncate(nodes * NODE_NUMBERS);
+        table.truncate(nodes * NODE_ROOM);
         table.shrink_to_fit();
         store.truncate(stored);
         store.shrink_to_fit();

@@ -38,7 +38,7 @@ mod upload;
 
 pub use json8::{
     read_json8, show_string, Children, Iter, Json8, Kind, Node, Nodes, Pairs, Strings, DEPTH_MAX,
-    NODES_MAX, NODE_NUMBERS, TABLE_ROOM,
+    NODES_MAX, NODE_ROOM, TABLE_ROOM,
 };
 pub use lines::{
     push_record, write_lines, write_lines_room, write_lines_to_vec, Record, Records, KIND_BYTES,

@@ -264,7 +264,7 @@ fn tree(nodes: Nodes, node: usize) -> Tree {
         Kind::False => Tree::False,
         Kind::True => Tree::True,
         Kind::Integer => Tree::Integer(number()),
-        Kind::Number => Tree::Number(number()),
+        Kind::Decimal => Tree::Number(number()),
         Kind::String | Kind::StoredString => Tree::String(string(node)),
         Kind::List => Tree::List(nodes.children(node).map(|n| tree(nodes, n)).collect()),
         Kind::Dict => {

@@ -172,7 +172,7 @@ fn a_backup_is_walked() {
             Kind::StoredString,
             Kind::List,
             Kind::True,
-            Kind::Number,
+            Kind::Decimal,
             Kind::Integer,
             Kind::Dict,
             Kind::Null,

@@ -85,7 +85,7 @@ static const struct {
     { J8_NODE_STRING, 1, "tray", 4 },
     { J8_NODE_LIST, 4, "[", 3 },
     { J8_NODE_INTEGER, 1, "1", 1 },
-    { J8_NODE_NUMBER, 1, "-2.5e3", 6 },
+    { J8_NODE_DECIMAL, 1, "-2.5e3", 6 },
     { J8_NODE_DICT, 1, "{", 0 },
     { J8_NODE_STRING, 1, "folders", 7 },
     { J8_NODE_LIST, 4, "[", 3 },
@@ -100,7 +100,7 @@ static const struct {
     { J8_NODE_NULL, 1, "null", 4 },
 };
 #define NODES (sizeof nodes / sizeof nodes[0])
-#define NUMBERS (NODES * J8_NODE_NUMBERS)
+#define NUMBERS (NODES * J8_NODE_ROOM)
 #define STORED 9
 
 static int whole_backup(size_t numbers, size_t bytes, const char *what)
@@ -114,7 +114,7 @@ static int whole_backup(size_t numbers, size_t bytes, const char *what)
         return 0;
     }
     for (i = 0; i < NODES; i++) {
-        const uint32_t *node = table + i * J8_NODE_NUMBERS;
+        const uint32_t *node = table + i * J8_NODE_ROOM;
         int stored = nodes[i].kind == J8_NODE_STRING_STORED;
         const void *bytes_there = stored ? (const void *)(store + node[2])
                                          : (const void *)(backup + node[2]);
@@ -142,7 +142,7 @@ static int rooms(void)
         && whole_backup(NUMBERS, STORED, "backup, exact rooms")
         && whole_backup(NUMBERS + 3, STORED, "backup, numbers that are no whole node")
         && refused_with(reading(backup, BACKUP, NUMBERS - 1, STORED), J8_NO_ROOM, 0, "a number short")
-        && refused_with(reading(backup, BACKUP, NUMBERS - J8_NODE_NUMBERS, STORED), J8_NO_ROOM, 0,
+        && refused_with(reading(backup, BACKUP, NUMBERS - J8_NODE_ROOM, STORED), J8_NO_ROOM, 0,
                         "a node short")
         && refused_with(reading(backup, BACKUP, NUMBERS, STORED - 1), J8_NO_ROOM, 0, "a byte short")
         && refused_with(reading(backup, BACKUP, 0, 0), J8_NO_ROOM, 0, "no room")
@@ -153,13 +153,13 @@ static int rooms(void)
 /* Children by their subtrees: as many as the length says, key and value in turn. */
 static int walk(size_t node, size_t depth, size_t *visited)
 {
-    const uint32_t *row = table + node * J8_NODE_NUMBERS;
+    const uint32_t *row = table + node * J8_NODE_ROOM;
     size_t end = node + row[1], at = node + 1, members = 0;
 
     ++*visited;
     if (row[0] == J8_NODE_LIST || row[0] == J8_NODE_DICT) {
         while (at < end) {
-            uint32_t kind = table[at * J8_NODE_NUMBERS];
+            uint32_t kind = table[at * J8_NODE_ROOM];
 
             if (row[0] == J8_NODE_DICT && members % 2 == 0
                 && !check(kind == J8_NODE_STRING || kind == J8_NODE_STRING_STORED, "a key")) {
@@ -168,7 +168,7 @@ static int walk(size_t node, size_t depth, size_t *visited)
             if (!walk(at, depth + 1, visited)) {
                 return 0;
             }
-            at += table[at * J8_NODE_NUMBERS + 1];
+            at += table[at * J8_NODE_ROOM + 1];
             members++;
         }
         if (!check(members == (row[0] == J8_NODE_DICT ? 2 : 1) * (size_t)row[3], "members")) {
@@ -211,7 +211,7 @@ static int shown(void)
         }
         if (!check(got.number == 0, "a string")
             || !check(got.stored == (kind == J8_NODE_STRING_STORED), "which buffer")
-            || !check(got.place == table[i * J8_NODE_NUMBERS + 2], "place")
+            || !check(got.place == table[i * J8_NODE_ROOM + 2], "place")
             || !check(got.length == strlen(nodes[i].begins), "length")
             || !check(memcmp((got.stored ? store : text) + got.place, nodes[i].begins,
                              got.length) == 0, "bytes")) {
@@ -232,14 +232,14 @@ static int shown(void)
 static int shows(uint32_t kind, uint32_t place, uint32_t length, uint32_t number, const char *what)
 {
     static const uint8_t text[] = { 't', 'e', 'x', 't' }, stored[] = { 's', 't' };
-    uint32_t node[J8_NODE_NUMBERS];
+    uint32_t node[J8_NODE_ROOM];
     j8_shown got;
 
     node[0] = kind;
     node[1] = 99;
     node[2] = place;
     node[3] = length;
-    got = j8_json8_show(node, J8_NODE_NUMBERS, text, sizeof text, stored, sizeof stored, 0);
+    got = j8_json8_show(node, J8_NODE_ROOM, text, sizeof text, stored, sizeof stored, 0);
     if (number != 0) {
         return nothing_shown(got, what);
     }
@@ -312,7 +312,7 @@ static int limits(void)
     /* 32 brackets, and 33. */
     memset(long_text, '[', 33);
     memset(long_text + 33, ']', 33);
-    got = reading(long_text + 1, 64, 32 * J8_NODE_NUMBERS, 0);
+    got = reading(long_text + 1, 64, 32 * J8_NODE_ROOM, 0);
     if (!check(got.number == 0 && got.nodes == 32 && walk(0, 1, &visited), "32 deep")
         || !check(visited == 32, "32 deep")
         || !refused_with(reading(long_text, 66, J8_TABLE_ROOM, 0), J8_TOO_DEEP, 32, "33 deep")) {
@@ -341,14 +341,14 @@ static int limits(void)
     memset(long_text, 'a', sizeof long_text);
     memcpy(long_text, "'\\n", 3);
     long_text[J8_TEXT_MAX - 1] = '\'';
-    got = reading(long_text, J8_TEXT_MAX, J8_NODE_NUMBERS, J8_TEXT_MAX - 3);
+    got = reading(long_text, J8_TEXT_MAX, J8_NODE_ROOM, J8_TEXT_MAX - 3);
     if (!check(got.number == 0 && got.stored == J8_TEXT_MAX - 3, "longest text")
         || !check(store[0] == '\n' && memcmp(store + 1, long_text + 3, J8_TEXT_MAX - 4) == 0,
                   "longest text")
-        || !check(untouched(J8_NODE_NUMBERS, J8_TEXT_MAX - 3), "longest text")) {
+        || !check(untouched(J8_NODE_ROOM, J8_TEXT_MAX - 3), "longest text")) {
         return 0;
     }
-    return refused_with(reading(long_text, J8_TEXT_MAX, J8_NODE_NUMBERS, J8_TEXT_MAX - 4), J8_NO_ROOM,
+    return refused_with(reading(long_text, J8_TEXT_MAX, J8_NODE_ROOM, J8_TEXT_MAX - 4), J8_NO_ROOM,
                         0, "longest text, a byte short")
         && refused_with(reading(long_text, J8_TEXT_MAX + 1, J8_TABLE_ROOM, J8_TEXT_MAX), J8_TOO_LONG,
                         0, "a byte more");
@@ -357,7 +357,7 @@ static int limits(void)
 static int nothing_lent(void)
 {
     j8_shown got;
-    uint32_t node[J8_NODE_NUMBERS] = { J8_NODE_STRING, 1, 0, 0 };
+    uint32_t node[J8_NODE_ROOM] = { J8_NODE_STRING, 1, 0, 0 };
     j8_nodes none = j8_json8_read(NULL, 0, NULL, 0, NULL, 0);
 
     if (!check(none.number == J8_CUT_OFF && none.place == 0, "no text")
@@ -365,7 +365,7 @@ static int nothing_lent(void)
         || !nothing_shown(j8_json8_show(NULL, 0, NULL, 0, NULL, 0, 0), "no table")) {
         return 0;
     }
-    got = j8_json8_show(node, J8_NODE_NUMBERS, NULL, 0, NULL, 0, 0);
+    got = j8_json8_show(node, J8_NODE_ROOM, NULL, 0, NULL, 0, 0);
     return check(got.number == 0 && got.stored == 0 && got.place == 0 && got.length == 0,
                  "an empty string of no text");
 }
