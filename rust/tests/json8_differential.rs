@@ -1,6 +1,7 @@
 //! JSON8: the library against the reference, and against what the generator
 //! knows, on generated and damaged texts, with a fixed seed. J8_CASES asks for
-//! more cases than each test has, J8_SEED for another seed.
+//! more texts than 200,000, and as much more of the rest; J8_SEED for another
+//! seed.
 
 mod json8;
 #[path = "json8/made.rs"]
@@ -11,8 +12,12 @@ use j8::raw::j8_nodes;
 use j8::{Json8, Kind, Nodes};
 use json8::{done, refused, Lent, LIBRARY, NOT_SHOWN, REFERENCE};
 use made::{damage, make, probe, Made, Shape, Tree};
-use random::{cases, Random};
+use random::Random;
 use std::collections::BTreeMap;
+
+fn cases() -> u64 {
+    random::cases(200_000)
+}
 
 /// How often each thing was seen.
 type Seen = BTreeMap<u32, u64>;
@@ -147,7 +152,7 @@ fn texts() {
     let mut at_limit: BTreeMap<&str, u64> = BTreeMap::new();
     let mut other = text(&mut random);
     let (mut right, mut damaged) = (0, 0);
-    for case in 0..cases(200_000) {
+    for case in 0..cases() {
         let made = text(&mut random);
         let is_right = random.once_in(3);
         let bytes = match random.below(40) {
@@ -230,7 +235,7 @@ fn texts() {
 fn at_the_limits() {
     let mut random = Random::new();
     let (mut nodes, mut brackets, mut both) = (Seen::new(), Seen::new(), Seen::new());
-    for case in 0..cases(6_000) {
+    for case in 0..cases() / 30 {
         let (open, count, seen) = match case % 3 {
             0 => (1 + random.below(20), 1_024, &mut nodes),
             1 => (32, random.below(60), &mut brackets),
@@ -290,7 +295,7 @@ fn tree(nodes: Nodes, node: usize) -> Tree {
 fn plain_json() {
     let mut random = Random::new();
     let (mut most_nodes, mut deepest, mut longest) = (0, 0, 0);
-    for case in 0..cases(30_000) {
+    for case in 0..cases() / 6 {
         let shape = shape(&mut random, true, 0);
         let mut made = make(&mut random, shape);
         if random.once_in(100) {
@@ -338,7 +343,7 @@ fn tables_made_by_hand() {
     let mut random = Random::new();
     let mut seen: BTreeMap<(u32, u32, bool), u64> = BTreeMap::new();
     let mut wrapped = 0;
-    for case in 0..cases(200_000) {
+    for case in 0..cases() {
         let text: Vec<u8> = (0..random.below(12)).map(|_| random.byte()).collect();
         let store: Vec<u8> = (0..random.below(12)).map(|_| random.byte()).collect();
         // A last node that is cut short, too.
@@ -401,7 +406,7 @@ fn tables_made_by_hand() {
 fn read_tables_damaged() {
     let mut random = Random::new();
     let (mut shown, mut hidden) = (0u64, 0u64);
-    for case in 0..cases(600) {
+    for case in 0..cases() / 300 {
         let shape = Shape {
             plain: false,
             nodes: 12,

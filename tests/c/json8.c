@@ -1,4 +1,4 @@
-/* Reads a settings backup through j8.h and shows its strings, as a C program of the firmware would. */
+/* Reads JSON8 through j8.h and shows its strings, as a C program of the firmware would. */
 
 #include <stdint.h>
 #include <stdio.h>
@@ -141,7 +141,8 @@ static int rooms(void)
     return whole_backup(J8_TABLE_ROOM, J8_STORE_ROOM(BACKUP), "backup, rooms that always suffice")
         && whole_backup(NUMBERS, STORED, "backup, exact rooms")
         && whole_backup(NUMBERS + 3, STORED, "backup, numbers that are no whole node")
-        && refused_with(reading(backup, BACKUP, NUMBERS - 1, STORED), J8_NO_ROOM, 0, "a number short")
+        && refused_with(reading(backup, BACKUP, NUMBERS - 1, STORED), J8_NO_ROOM, 0,
+                        "a number short")
         && refused_with(reading(backup, BACKUP, NUMBERS - J8_NODE_ROOM, STORED), J8_NO_ROOM, 0,
                         "a node short")
         && refused_with(reading(backup, BACKUP, NUMBERS, STORED - 1), J8_NO_ROOM, 0, "a byte short")
@@ -271,7 +272,9 @@ static int made_by_hand(void)
 
 static int refuses(const char *text, uint32_t number, size_t place)
 {
-    return refused_with(reading(text, strlen(text), J8_TABLE_ROOM, J8_TEXT_MAX), number, place, text);
+    j8_nodes got = reading(text, strlen(text), J8_TABLE_ROOM, J8_TEXT_MAX);
+
+    return refused_with(got, number, place, text);
 }
 
 static int refusals(void)
@@ -286,7 +289,10 @@ static int refusals(void)
         && refuses("['\\yff']", J8_BYTE_ESCAPE, 2)
         && refuses("{} x", J8_TRAILING, 3)
         && refuses("[,]", J8_MISPLACED, 1)
+        && refuses("[1,,]", J8_MISPLACED, 3)
         && refuses("[1 01]", J8_MISPLACED, 3)
+        && refuses("\f1", J8_MISPLACED, 0)
+        && refuses("# \r1", J8_CUT_OFF, 4)
         && refuses("[01]", J8_NUMBER, 1);
 }
 
@@ -333,7 +339,11 @@ static int limits(void)
         || !refused_with(reading(long_text, wide(J8_NODES_MAX, "'\\q"), J8_TABLE_ROOM, 0),
                          J8_TOO_MANY_NODES, 2047, "a string as node 1,025")
         || !refused_with(reading(long_text, wide(J8_NODES_MAX, "[]]"), J8_TABLE_ROOM, 0),
-                         J8_TOO_MANY_NODES, 2047, "a bracket as node 1,025")) {
+                         J8_TOO_MANY_NODES, 2047, "a bracket as node 1,025")
+        || !refused_with(reading(long_text, wide(J8_NODES_MAX, "nul"), J8_TABLE_ROOM, 0),
+                         J8_MISPLACED, 2047, "no word as node 1,025")
+        || !refused_with(reading(long_text, wide(J8_NODES_MAX, "01"), J8_TABLE_ROOM, 0),
+                         J8_NUMBER, 2047, "no number as node 1,025")) {
         return 0;
     }
 
@@ -348,10 +358,12 @@ static int limits(void)
         || !check(untouched(J8_NODE_ROOM, J8_TEXT_MAX - 3), "longest text")) {
         return 0;
     }
-    return refused_with(reading(long_text, J8_TEXT_MAX, J8_NODE_ROOM, J8_TEXT_MAX - 4), J8_NO_ROOM,
-                        0, "longest text, a byte short")
-        && refused_with(reading(long_text, J8_TEXT_MAX + 1, J8_TABLE_ROOM, J8_TEXT_MAX), J8_TOO_LONG,
-                        0, "a byte more");
+    got = reading(long_text, J8_TEXT_MAX, J8_NODE_ROOM, J8_TEXT_MAX - 4);
+    if (!refused_with(got, J8_NO_ROOM, 0, "longest text, a byte short")) {
+        return 0;
+    }
+    got = reading(long_text, J8_TEXT_MAX + 1, J8_TABLE_ROOM, J8_TEXT_MAX);
+    return refused_with(got, J8_TOO_LONG, 0, "a byte more");
 }
 
 static int nothing_lent(void)
