@@ -1,19 +1,19 @@
 -- What is shown, case by case of where a string stands.
 -- Assumes nothing.
 use Prim.Native.Nat.{ℕ, _+_, _-_, _*_, _/_, _≤_, _<_}
-use mathlib.Core.Bool.{Bool, true, false}
+use mathlib.Core.Bool.{false}
 use mathlib.Core.List.{List, []}
 use mathlib.Core.Path.{_≡_, refl, sym, ap, _∙_}
 use native.Mathlib.Omega.{arith}
-use borrow.Author.Tests.{leb-true, ltb-false, lt-leb}
-use lib.Dec.{ltb, leb, eqb}
+use borrow.Author.Tests.{leb-true, leb-false, le-leb, lt-leb}
+use lib.Dec.{leb, eqb}
 use lib.ListN.{length, getD, take, drop}
 use Rattle.prelude.specs.Pick.{pick}
-use Rattle.prelude.proofs.Cases.{split, never}
+use Rattle.prelude.proofs.Cases.{split}
 use Rattle.prelude.proofs.Picks.{pick-case}
 use Rattle.json8.specs.declared.show.Shown.{Shown}
 use Rattle.json8.specs.declared.show.Shown.the-variants.{InText, InStore, Nowhere}
-use Rattle.json8.specs.Show.{within, shownBy, shownAt, shownBytes, unshown}
+use Rattle.json8.specs.Show.{shownBy, shownAt, shownBytes, unshown}
 
 -- a string's range lies in its buffer
 abbrev Ranged : ℕ → ℕ → Shown → Type 0
@@ -21,19 +21,22 @@ Ranged text store (InText place size) = place + size ≤ text
 Ranged text store (InStore place size) = place + size ≤ store
 Ranged text store Nowhere = Unit
 
-within-fits : (place size room : ℕ) → within place size room ≡ true → place + size ≤ room
-unfolding within pick
-within-fits place size room e =
-    split (ltb room place) (λ a. let z : _≡_ {A = Bool} false true = rw a at e in never (cc))
-    (λ a. let b : size ≤ room - place = leb-true size (room - place) (rw a at e) in omega (arith, ltb-false room place a))
+pub outside : (place size room : ℕ) → room < place → false ≡ leb (place + size) room
+outside place size room h = sym (lt-leb (place + size) room (omega arith))
+
+pub inside-after : (place size room : ℕ) → place ≤ room → leb size (room - place) ≡ leb (place + size) room
+inside-after place size room h =
+    split (leb size (room - place))
+    (λ e. let l : size ≤ room - place = leb-true _ _ e in e ∙ sym (le-leb (place + size) room (omega arith)))
+    (λ e. let l : room - place < size = leb-false size (room - place) e in e ∙ sym (lt-leb (place + size) room (omega arith)))
 
 by-ranged : (kind place size text store : ℕ) → Ranged text store (shownBy kind place size text store)
 unfolding shownBy
 by-ranged kind place size text store =
-    pick-case (Ranged text store) (eqb kind 5) (pick (within place size text) (InText place size) Nowhere) _
-    (λ e. pick-case (Ranged text store) (within place size text) (InText place size) Nowhere (λ f. within-fits place size text f) (λ f. tt))
-    (λ e. pick-case (Ranged text store) (eqb kind 6) (pick (within place size store) (InStore place size) Nowhere) Nowhere
-    (λ f. pick-case (Ranged text store) (within place size store) (InStore place size) Nowhere (λ g. within-fits place size store g) (λ g. tt))
+    pick-case (Ranged text store) (eqb kind 5) (pick (leb (place + size) text) (InText place size) Nowhere) _
+    (λ e. pick-case (Ranged text store) (leb (place + size) text) (InText place size) Nowhere (λ f. leb-true _ _ f) (λ f. tt))
+    (λ e. pick-case (Ranged text store) (eqb kind 6) (pick (leb (place + size) store) (InStore place size) Nowhere) Nowhere
+    (λ f. pick-case (Ranged text store) (leb (place + size) store) (InStore place size) Nowhere (λ g. leb-true _ _ g) (λ g. tt))
     (λ f. tt))
 
 at-ranged : (table : List ℕ) (text store i : ℕ) → Ranged text store (shownAt table text store i)

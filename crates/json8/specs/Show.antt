@@ -1,23 +1,19 @@
 -- Showing a string, for any table, text and store.
 -- Assumes nothing.
-use Prim.Native.Nat.{ℕ, _+_, _-_, _*_, _/_}
-use mathlib.Core.Bool.{Bool, true, false}
+use Prim.Native.Nat.{ℕ, _+_, _*_, _/_}
 use mathlib.Core.List.{List, []}
-use lib.Dec.{ltb, leb, eqb}
+use lib.Dec.{leb, eqb}
 use lib.ListN.{length, getD, take, drop}
 use Rattle.prelude.specs.Pick.{pick}
 use Rattle.json8.specs.declared.show.Shown.{Shown}
 use Rattle.json8.specs.declared.show.Shown.the-variants.{InText, InStore, Nowhere}
 
--- "a range outside its buffer": so many bytes from a place on, in a buffer of so many
-unfoldable pub within : ℕ → ℕ → ℕ → Bool
-within place size room = pick (ltb room place) false (leb size (room - place))
-
--- a string of kind 5 or 6, by its range: "a part of the text or of the store, as its kind says"
+-- a string of kind 5 or 6, in buffers of so many bytes: "a part of the text or of the store, as its kind says", unless it has "a range
+-- outside its buffer"
 unfoldable pub shownBy : ℕ → ℕ → ℕ → ℕ → ℕ → Shown
 shownBy kind place size text store =
-    pick (eqb kind 5) (pick (within place size text) (InText place size) Nowhere)
-    (pick (eqb kind 6) (pick (within place size store) (InStore place size) Nowhere) Nowhere)
+    pick (eqb kind 5) (pick (leb (place + size) text) (InText place size) Nowhere)
+    (pick (eqb kind 6) (pick (leb (place + size) store) (InStore place size) Nowhere) Nowhere)
 
 -- "a node outside the table", which has "four 32-bit numbers a node": kind, count, place, length
 unfoldable pub shownAt : List ℕ → ℕ → ℕ → ℕ → Shown

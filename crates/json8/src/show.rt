@@ -1,7 +1,9 @@
 // Showing a string of a table, whatever its numbers are.
 ghost use mathlib.Core.Path.{_≡_};
+ghost use Prim.Native.Nat.{_+_};
+ghost use lib.Dec.{leb};
 ghost use lib.ListN.{length};
-ghost use Rattle.json8.specs.Show.{within, shownBy, shownAt, shownBytes, unshown};
+ghost use Rattle.json8.specs.Show.{shownBy, shownAt, shownBytes, unshown};
 
 // Where a string's bytes stand: a place and a length in the text or in the store, or nowhere.
 pub enum Shown {
@@ -10,9 +12,9 @@ pub enum Shown {
     Nowhere,
 }
 
-// Whether so many bytes from a place on lie in a buffer of so many.
+// Whether so many bytes from a place on lie in a buffer of so many. No sum is made, so none can run over.
 fn is_within(place: usize, size: usize, room: usize) -> bool
-    ensures { λ r. ⌜ r ≡ within place size room ⌝ }
+    ensures { λ r. ⌜ r ≡ leb (place + size) room ⌝ }
 {
     if room < place {
         return false;

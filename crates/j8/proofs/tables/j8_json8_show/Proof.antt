@@ -1,38 +1,30 @@
+-- Each case of where a string stands becomes the struct (Conversions).
+-- Assumes nothing.
 use borrow.Author.Needs.{needs}
 use Rattle.j8.proofs.tables.j8_json8_show.Statement.{statement}
 use Rattle.j8.proofs.tables.j8_json8_show.Tie as tie
-use Rattle.j8.proofs.tables.j8_json8_show.Reads as reads
-use Rattle.j8.proofs.tables.j8_json8_show.Lts as lts
-use Rattle.json8.proofs.show.shown_at.Reads as shown-at-reads
 use Rattle.j8.proofs.Conversions.{text-shown, store-shown, none-shown}
 
--- src/tables.rt:22:9
 shown-at-requires : tie.Need-shown-at-requires
 shown-at-requires c κs = search needs
 
--- src/tables.rt:24:23
 enum-known-shown : tie.Need-enum-known-shown
 enum-known-shown c = search needs
 
--- src/tables.rt:30:24
 enum-known-shown-2 : tie.Need-enum-known-shown-2
 enum-known-shown-2 c = search needs
 
--- src/tables.rt:36:27
 enum-told : tie.Need-enum-told
 enum-told c = search needs
 
--- src/tables.rt:18:1
 returns : tie.Need-returns
 returns c =
     search text-shown
 
--- src/tables.rt:18:1
 returns-2 : tie.Need-returns-2
 returns-2 c =
     search store-shown
 
--- src/tables.rt:18:1
 returns-3 : tie.Need-returns-3
 returns-3 c =
     search none-shown
