@@ -1,27 +1,26 @@
 -- A backslash in a string's token: a run of literal characters has none, so a token that is one run between its marks has none, and one
 -- that goes on behind the run has one there, as only an escape can follow.
 -- Assumes nothing.
-use mathlib.Core.Path.{_≡_, refl, sym, ap, _∙_, subst}
-use mathlib.Core.Bool.{Bool, true, false, _&&_}
+use mathlib.Core.Path.{_≡_, refl, sym, ap, _∙_}
+use mathlib.Core.Bool.{true, false, _&&_}
 use mathlib.Core.List.{List, [], _∷_, _++_, append-nil}
-use Prim.Native.Nat.{ℕ, zero, suc, pred, _+_, _-_, _≤_, _<_}
+use Prim.Native.Nat.{ℕ, zero, suc, _+_, _≤_, _<_}
 use native.Mathlib.Omega.{arith}
-use native.Mathlib.Nat.{zero-add}
-use borrow.Author.Tests.{eqb-true, eqb-false, eq-eqb, ne-eqb, leb-true}
+use borrow.Author.Tests.{eqb-true, eq-eqb, ne-eqb, leb-true}
 use lib.Dec.{ltb, leb, eqb, lit≤}
-use lib.ListN.{length, getD, take, drop, length-drop, length-take}
+use lib.ListN.{length, getD, take, drop, length-drop}
 use lib.Seq.{take-add, drop-drop, drop-cons, getD-drop}
 use Rattle.prelude.specs.Pick.{pick}
 use Rattle.prelude.proofs.Cases.{split, and-left, and-right, never}
 use Rattle.prelude.proofs.Picks.{pick-case}
 use Rattle.prelude.proofs.Rest.{getD-inside}
 use Rattle.utf8.specs.Class.{classOf}
-use Rattle.utf8.specs.Utf8.{between, lowOf, highOf, charLen, charBy, charAt}
+use Rattle.utf8.specs.Utf8.{between, lowOf, highOf, charLen}
 use Rattle.utf8.proofs.Characters.{tails, low-bound, char-tails}
 use Rattle.units.specs.declared.styles.Style.{Style}
 use Rattle.units.specs.declared.styles.Style.the-variants.{Json, Unicode, Bytes}
-use Rattle.units.specs.Styles.{quote, StringUnit, close, took, fault}
-use Rattle.units.specs.Units.{literal, unitAt, literalLen, literalRun}
+use Rattle.units.specs.Styles.{quote, fault}
+use Rattle.units.specs.Units.{unitAt, literalLen, literalRun}
 use Rattle.units.proofs.LiteralLaws.{literal-char, by-run, run-ends, quote-ascii}
 use Rattle.strings.specs.Read.{StringRead, accepted, refused, more, readUnits, Opening, opens, unopened, opening, readFrom, readToken}
 use Rattle.strings.proofs.Runs.{run-law}

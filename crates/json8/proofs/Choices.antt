@@ -1,7 +1,7 @@
 -- Which reader a place has, by what begins there: each way of the code's choice is that of the definition.
 -- Assumes nothing.
-use mathlib.Core.Path.{_≡_, refl, sym, ap, _∙_, subst}
-use mathlib.Core.List.{List, [], _∷_}
+use mathlib.Core.Path.{_≡_, sym, ap, _∙_, subst}
+use mathlib.Core.List.{List}
 use Prim.Native.Nat.{ℕ, _+_, _-_, _≤_, _<_}
 use native.Mathlib.Omega.{arith}
 use lib.ListN.{length, take, drop, length-drop}
@@ -16,14 +16,13 @@ use Rattle.tokens.specs.Words.{wordOf}
 use Rattle.tokens.specs.Starts.{startOf}
 use Rattle.tokens.proofs.First.{rest}
 use Rattle.tokens.proofs.Progress.{Begun, start-begun}
-use Rattle.json8.specs.declared.nodes.Sort.{Sort}
 use Rattle.json8.specs.declared.nodes.Sort.the-variants.{Items, Pairs}
 use Rattle.json8.specs.declared.nodes.Out.{Out}
-use Rattle.json8.specs.declared.nodes.Out.the-variants.{Got, Refused}
-use Rattle.json8.specs.Nodes.{Read, got, refused, Reader, limited, nodeMax}
+use Rattle.json8.specs.declared.nodes.Out.the-variants.{Refused}
+use Rattle.json8.specs.Nodes.{Read, refused, limited, nodeMax}
 use Rattle.json8.specs.Leaves.{stringRead, string, plain, word, number, keyBy, key}
 use Rattle.json8.specs.Values.{valueBy, valueOf, opened, value}
-use Rattle.json8.specs.Told.{Place, Told}
+use Rattle.json8.specs.Told.{Told}
 use Rattle.json8.proofs.Joined.{told-stop}
 use Rattle.json8.proofs.Single.{limited-full, limited-free}
 

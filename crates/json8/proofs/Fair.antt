@@ -1,16 +1,14 @@
 -- Progress, sizes and places: each reader takes what it says and stays inside the text, and readers joined do too; the members' loop by
 -- strong induction on the text, lists and dicts by the brackets left.
 -- Assumes nothing.
-use mathlib.Core.Path.{_≡_, refl, sym, ap, _∙_}
+use mathlib.Core.Path.{_≡_, refl}
 use mathlib.Core.Bool.{Bool, true, false}
-use mathlib.Core.List.{List, [], _∷_, _++_}
-use Prim.Native.Nat.{ℕ, zero, suc, pred, _+_, _-_, _≤_, _<_, zero-le}
+use mathlib.Core.List.{List, [], _∷_}
+use Prim.Native.Nat.{ℕ, zero, suc, _+_, _≤_, _<_, zero-le}
 use native.Mathlib.Omega.{arith}
 use borrow.Author.Tests.{ltb-true}
 use lib.Dec.{ltb, eqb, lit≤}
 use lib.ListN.{length, take, drop, length-append, length-drop}
-use Rattle.prelude.specs.Pick.{pick}
-use Rattle.prelude.proofs.Cases.{split}
 use Rattle.prelude.proofs.Picks.{pick-case}
 use Rattle.prelude.proofs.Suffix.{by-suffix}
 use Rattle.strings.specs.Read.{opening, StringRead, accepted, refused as unread, readToken}
@@ -34,7 +32,7 @@ use Rattle.tokens.proofs.Runs.{run-le}
 use Rattle.tokens.proofs.Progress.{Passed, blanks-passed, Begun, start-begun, Sized, number-sized}
 use Rattle.json8.specs.declared.nodes.Sort.{Sort}
 use Rattle.json8.specs.declared.nodes.Sort.the-variants.{Items, Pairs}
-use Rattle.json8.specs.Nodes.{Node, node, Read, got, refused, Reader, more, chain, seq, nodeMax, limited}
+use Rattle.json8.specs.Nodes.{Node, Read, got, refused, Reader, more, chain, seq, nodeMax, limited}
 use Rattle.json8.specs.Leaves.{passed, spaces, marked, colon, comma, markLen, slashed, stringNode, stringRead, string, plain, wordRead, word, numberRead, number, keyBy, key}
 use Rattle.json8.specs.Values.{valueBy, valueOf, kindOf, closeOf, memberOf, closeOr, round, again, follow, members, branch, bracketed, opened, value}
 use Rattle.json8.specs.Read.{finish, readAll, depthMax}

@@ -3,7 +3,7 @@
 -- Assumes nothing.
 use mathlib.Core.Path.{_≡_, refl, sym, ap, subst, _∙_}
 use mathlib.Core.List.{List, [], _∷_, _++_, append-assoc}
-use Prim.Native.Nat.{ℕ, zero, suc, _+_, _-_, _*_, _≤_, _<_}
+use Prim.Native.Nat.{ℕ, suc, _+_, _*_, _≤_, _<_}
 use native.Mathlib.Omega.{arith}
 use lib.ListN.{length, set, drop, length-append, length-drop}
 use lib.Seq.{sets, set-comm, drop-drop}
@@ -14,7 +14,6 @@ use Rattle.json8.specs.declared.nodes.Step.{Step}
 use Rattle.json8.specs.declared.nodes.Step.the-variants.{At, Stop}
 use Rattle.json8.specs.Nodes.{Node, Read, got, refused, Reader, more, chain, seq, flat}
 use Rattle.json8.specs.Leaves.{spaces, colon, comma}
-use Rattle.json8.specs.Read.{finish}
 use Rattle.json8.specs.Told.{Place, Took, Told, ToldBy, Went, Stepped, SteppedBy}
 use Rattle.json8.proofs.Fair.{Fair, FairBy}
 

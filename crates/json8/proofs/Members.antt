@@ -1,14 +1,12 @@
 -- The members of a bracket in a loop: what is read from the loop's head on, behind the members passed, is what is read from the bracket on;
 -- at the end the bracket's node goes in front of its members'.
 -- Assumes nothing.
-use mathlib.Core.Path.{_≡_, refl, sym, ap, subst, _∙_}
-use mathlib.Core.Bool.{Bool, true, false}
+use mathlib.Core.Path.{_≡_, refl, sym, ap, _∙_}
 use mathlib.Core.List.{List, [], _∷_, _++_, append-assoc}
 use Prim.Native.Nat.{ℕ, zero, suc, _+_, _-_, _*_, _≤_, _<_}
 use native.Mathlib.Omega.{arith}
 use native.Mathlib.Nat.{add-zero, zero-add}
 use borrow.Author.Tests.{lt-ltb, le-ltb, eq-eqb, ne-eqb}
-use lib.Dec.{ltb, eqb}
 use lib.ListN.{length, getD, drop, length-append, length-drop, drop-of-length-le}
 use lib.Seq.{sets, drop-drop, drop-cons, length-sets}
 use Rattle.prelude.specs.Pick.{pick}
@@ -20,8 +18,8 @@ use Rattle.json8.specs.declared.nodes.Out.{Out}
 use Rattle.json8.specs.declared.nodes.Out.the-variants.{Got, Refused}
 use Rattle.json8.specs.Nodes.{Node, node, Read, got, refused, Reader, seq, flat, limited, nodeMax}
 use Rattle.json8.specs.Leaves.{spaces, colon, comma, key}
-use Rattle.json8.specs.Values.{kindOf, closeOf, memberOf, closeOr, round, again, follow, members, branch, bracketed, opened, value}
-use Rattle.json8.specs.Told.{Place, Took, Told, ToldBy, Went, labelled}
+use Rattle.json8.specs.Values.{kindOf, closeOf, memberOf, closeOr, round, again, members, branch, bracketed, opened, value}
+use Rattle.json8.specs.Told.{Place, Took, Told, Went, labelled}
 use Rattle.json8.proofs.Fair.{Fair, FairBy, seq-fair, spaces-fair, colon-fair, key-fair, round-fair, member-fair, value-fair, members-skip}
 use Rattle.json8.proofs.Joined.{took, stopped, told-got, told-stop, flat-append, flat-length, sets-before, seq-assoc, seq-stop, seq-told, step-told, spaces-blind}
 

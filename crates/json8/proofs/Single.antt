@@ -1,15 +1,13 @@
 -- One token's node: what the code's leaves answer is what the definition's leaf reads, way by way.
 -- Assumes nothing.
 use mathlib.Core.Path.{_≡_, refl, sym, ap, _∙_, subst}
-use mathlib.Core.Bool.{Bool, true, false}
-use mathlib.Core.List.{List, [], _∷_, _++_}
-use Prim.Native.Nat.{ℕ, zero, suc, _+_, _-_, _*_, _≤_, _<_}
+use mathlib.Core.List.{List, [], _∷_}
+use Prim.Native.Nat.{ℕ, _+_, _-_, _*_, _≤_, _<_}
 use native.Mathlib.Omega.{arith}
 use native.Mathlib.Nat.{add-zero}
 use borrow.Author.Tests.{lt-ltb, le-ltb}
-use lib.Dec.{ltb}
 use lib.ListN.{length, getD, take, drop, length-drop}
-use lib.Seq.{sets, take-all}
+use lib.Seq.{sets}
 use Rattle.prelude.specs.Pick.{pick}
 use Rattle.prelude.proofs.Cases.{never}
 use Rattle.prelude.proofs.Stores.{sets-part}
@@ -19,10 +17,7 @@ use Rattle.units.specs.Styles.{quote}
 use Rattle.units.specs.Units.{literalRun}
 use Rattle.strings.specs.declared.answers.Token.{Token}
 use Rattle.strings.specs.declared.answers.Token.the-variants.{Ended as TokenEnded, Failed}
-use Rattle.strings.specs.declared.read.Mark.{Mark as Opener}
-use Rattle.strings.specs.declared.read.Mark.the-variants.{Opens, Unopened}
-use Rattle.strings.specs.Turns.{openingOf}
-use Rattle.strings.specs.Read.{StringRead, accepted, refused as unread, readToken, readFrom, Opening, opens, unopened, opening, tokenOf, Stored}
+use Rattle.strings.specs.Read.{StringRead, accepted, refused as unread, readToken, opens, opening, tokenOf, Stored}
 use Rattle.strings.proofs.Places.{Inside, token-inside, Marked, opening-fits}
 use Rattle.strings.proofs.Lengths.{Less, token-length}
 use Rattle.tokens.specs.declared.blanks.Blank.{Blank}
@@ -33,24 +28,22 @@ use Rattle.tokens.specs.declared.numbers.Number.{Number}
 use Rattle.tokens.specs.declared.numbers.Number.the-variants.{Legal, Malformed}
 use Rattle.tokens.specs.declared.starts.Mark.{Mark}
 use Rattle.tokens.specs.declared.starts.Mark.the-variants.{Close, Separator, Fault}
-use Rattle.tokens.specs.declared.starts.Start.{Start}
 use Rattle.tokens.specs.Blanks.{blanks}
 use Rattle.tokens.specs.Words.{isWord, wordOf, wordValue}
 use Rattle.tokens.specs.Numbers.{numberAt}
-use Rattle.tokens.specs.Starts.{startOf, colonAt, commaAt}
+use Rattle.tokens.specs.Starts.{colonAt, commaAt}
 use Rattle.tokens.proofs.Runs.{run-le, run-take}
 use Rattle.tokens.proofs.First.{rest}
-use Rattle.tokens.proofs.Progress.{Passed, blanks-passed, Sized, number-sized, Begun, start-begun}
+use Rattle.tokens.proofs.Progress.{Passed, blanks-passed, Sized, number-sized}
 use Rattle.json8.specs.declared.nodes.Out.{Out}
 use Rattle.json8.specs.declared.nodes.Out.the-variants.{Got, Refused}
 use Rattle.json8.specs.declared.nodes.Step.{Step}
 use Rattle.json8.specs.declared.nodes.Step.the-variants.{At, Stop}
-use Rattle.json8.specs.Nodes.{Node, node, Read, got, refused, Reader, flat, limited, nodeMax}
-use Rattle.json8.specs.Leaves.{passed, spaces, marked, colon, comma, markLen, slashed, stringNode, stringRead, string, plain, wordRead, word, numberRead, number, keyBy, key}
-use Rattle.json8.specs.Values.{valueBy, valueOf, opened, value}
-use Rattle.json8.specs.Told.{Place, Took, Told, ToldBy, Went, Stepped, StoredAt, Slashed}
+use Rattle.json8.specs.Nodes.{node, Read, got, refused, Reader, flat, limited, nodeMax}
+use Rattle.json8.specs.Leaves.{passed, spaces, marked, colon, comma, stringNode, string, plain, wordRead, word, number}
+use Rattle.json8.specs.Told.{Told, Stepped, StoredAt, Slashed}
 use Rattle.json8.proofs.Joined.{told-got, told-stop, stepped-at, stepped-stop}
-use Rattle.json8.proofs.Backslashes.{quote-inside, whole-run, run-unslashed}
+use Rattle.json8.proofs.Backslashes.{whole-run, run-unslashed}
 
 -- blanks
 module _ (text : List ℕ) (at i : ℕ) (r : Blank) (e : r ≡ blanks (drop at text)) where

@@ -1,8 +1,8 @@
 -- A whole text in two passes: the first, over parts without room, tells what is read; the second stores it, and what is read has room.
 -- Assumes nothing.
-use mathlib.Core.Path.{_≡_, refl, sym, ap, _∙_, subst}
-use mathlib.Core.List.{List, [], _∷_, _++_}
-use Prim.Native.Nat.{ℕ, zero, suc, _+_, _*_, _/_, _≤_, _<_}
+use mathlib.Core.Path.{_≡_, refl, sym, ap, _∙_}
+use mathlib.Core.List.{List, [], _++_}
+use Prim.Native.Nat.{ℕ, _/_, _≤_, _<_}
 use native.Mathlib.Omega.{arith}
 use borrow.Author.Tests.{lt-ltb, le-ltb}
 use lib.ListN.{length, drop, drop-of-length-le}
@@ -18,7 +18,7 @@ use Rattle.json8.specs.declared.nodes.Out.the-variants.{Got, Refused}
 use Rattle.json8.specs.Nodes.{Node, Read, got, refused, Reader, seq, flat}
 use Rattle.json8.specs.Leaves.{spaces}
 use Rattle.json8.specs.Values.{value}
-use Rattle.json8.specs.Read.{finish, readAll, depthMax, fitted, readOf, parsedOf, tableAfter, storeAfter}
+use Rattle.json8.specs.Read.{finish, readAll, depthMax, readOf, parsedOf, tableAfter, storeAfter}
 use Rattle.json8.specs.Told.{Place, Took, Told, ToldBy}
 use Rattle.json8.proofs.Joined.{took, stopped, flat-length}
 

@@ -2,7 +2,7 @@
 -- "At one place 3 comes first, then 11, 13, 14, 15, 16, then the rest": a bad word or number goes before the count of nodes, and
 -- that before any fault in a string.
 -- Assumes nothing.
-use Prim.Native.Nat.{ℕ, suc, _+_, _-_}
+use Prim.Native.Nat.{ℕ, _+_, _-_}
 use mathlib.Core.Bool.{Bool, true, false}
 use mathlib.Core.List.{List, [], _∷_}
 use lib.Dec.{eqb}

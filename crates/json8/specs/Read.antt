@@ -1,14 +1,13 @@
 -- Reading a whole JSON8 text to a node table.
 -- Assumes nothing.
 use Prim.Native.Nat.{ℕ}
-use mathlib.Core.Bool.{true}
 use mathlib.Core.List.{List, [], _∷_, _++_}
 use lib.Dec.{ltb}
 use lib.ListN.{length, drop}
 use Rattle.prelude.specs.Pick.{pick}
 use Rattle.prelude.specs.Refusals.{tooLong, trailing, noRoom}
 use Rattle.strings.specs.Read.{textMax}
-use Rattle.json8.specs.Nodes.{Node, Read, got, refused, Reader, seq, flat}
+use Rattle.json8.specs.Nodes.{Read, got, refused, Reader, seq, flat}
 use Rattle.json8.specs.Leaves.{spaces}
 use Rattle.json8.specs.Values.{value}
 use Rattle.json8.specs.declared.answers.Parsed.{Parsed}

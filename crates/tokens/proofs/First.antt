@@ -1,12 +1,11 @@
 -- What begins at a place: each test of the code decides one pick of the definition, at the byte that stands first.
 -- Assumes nothing.
-use mathlib.Core.Path.{_≡_, refl, sym, ap, _∙_}
-use mathlib.Core.Bool.{Bool, true, false}
-use mathlib.Core.List.{List, [], _∷_}
-use Prim.Native.Nat.{ℕ, zero, suc, _+_, _-_, _≤_, _<_}
+use mathlib.Core.Path.{_≡_, sym, ap, _∙_}
+use mathlib.Core.Bool.{true, false}
+use mathlib.Core.List.{List, _∷_}
+use Prim.Native.Nat.{ℕ, suc, _-_, _≤_, _<_}
 use native.Mathlib.Omega.{arith}
 use borrow.Author.Tests.{eq-eqb, ne-eqb}
-use lib.Dec.{eqb}
 use lib.ListN.{length, getD, take, drop, length-drop, drop-of-length-le}
 use lib.Seq.{drop-cons, take-all}
 use Rattle.prelude.specs.Pick.{pick}
@@ -15,9 +14,7 @@ use Rattle.strings.specs.declared.read.Mark.the-variants.{Opens, Unopened}
 use Rattle.strings.specs.Read.{opens, unopened, opening}
 use Rattle.strings.specs.Turns.{openingOf}
 use Rattle.units.specs.declared.styles.Style.{Style}
-use Rattle.tokens.specs.declared.starts.Start.{Start}
 use Rattle.tokens.specs.declared.starts.Start.the-variants.{Ended, String, Word, Number, List as ListStart, Dict, Nothing}
-use Rattle.tokens.specs.declared.starts.Mark.{Mark}
 use Rattle.tokens.specs.declared.starts.Mark.the-variants.{Close, Separator, Fault}
 use Rattle.tokens.specs.Words.{isLetter, isDigit}
 use Rattle.tokens.specs.Starts.{opened, startOf, colonAt, commaAt}

@@ -1,15 +1,15 @@
 -- A token takes a byte, and tokens and blanks end inside the text: by induction on the text, and by the byte that a token begins with.
 -- Assumes nothing.
-use mathlib.Core.Path.{_≡_, refl, sym, ap, _∙_}
+use mathlib.Core.Path.{_≡_, refl}
 use mathlib.Core.Bool.{Bool, true, false}
 use mathlib.Core.List.{List, [], _∷_}
-use Prim.Native.Nat.{ℕ, zero, suc, pred, _+_, _-_, _≤_, _<_}
+use Prim.Native.Nat.{ℕ, zero, suc, pred, _+_, _≤_, _<_}
 use native.Mathlib.Omega.{arith}
 use borrow.Author.Tests.{eqb-true}
 use lib.Dec.{eqb}
 use lib.ListN.{length, drop, length-drop}
 use Rattle.prelude.specs.Pick.{pick}
-use Rattle.prelude.proofs.Cases.{split, never}
+use Rattle.prelude.proofs.Cases.{split}
 use Rattle.prelude.proofs.Suffix.{by-suffix}
 use Rattle.utf8.specs.declared.chars.Char.{Char}
 use Rattle.utf8.specs.declared.chars.Char.the-variants.{Good, Bad}

@@ -4,23 +4,20 @@
 use mathlib.Core.Path.{_≡_, refl, sym, ap, _∙_}
 use mathlib.Core.Bool.{Bool, true, false}
 use mathlib.Core.List.{List, [], _∷_}
-use Prim.Native.Nat.{ℕ, zero, suc, pred, _+_, _-_, _≤_, _<_}
+use Prim.Native.Nat.{ℕ, zero, suc, _+_, _-_, _≤_, _<_}
 use native.Mathlib.Omega.{arith}
-use borrow.Author.Tests.{eq-eqb, ne-eqb}
-use lib.Dec.{eqb}
+use borrow.Author.Tests.{ne-eqb}
 use lib.ListN.{length, getD, drop, length-drop, drop-of-length-le}
 use lib.Seq.{drop-cons, drop-drop}
 use Rattle.prelude.specs.Pick.{pick}
 use Rattle.prelude.proofs.Cases.{never}
-use Rattle.utf8.specs.declared.chars.Char.{Char}
 use Rattle.utf8.specs.declared.chars.Char.the-variants.{Good, Bad}
 use Rattle.utf8.specs.Class.{classOf}
 use Rattle.utf8.specs.Utf8.{charLen, charBy, charAt}
 use Rattle.utf8.proofs.CharSteps.{is-one}
 use Rattle.utf8.proofs.Characters.{char-le}
-use Rattle.tokens.specs.declared.blanks.Blank.{Blank}
 use Rattle.tokens.specs.declared.blanks.Blank.the-variants.{Clear, Ill}
-use Rattle.tokens.specs.Blanks.{isSpace, Passing, pass, token, fault, inComment, passing, onward, blanksFrom, blanks}
+use Rattle.tokens.specs.Blanks.{isSpace, pass, token, fault, passing, onward, blanksFrom, blanks}
 
 pub blanks-skip : (o : Bool) (i k : ℕ) (s : List ℕ) → blanksFrom o i k s ≡ blanksFrom o i 0 (drop k s)
 unfolding blanksFrom

@@ -3,7 +3,7 @@
 -- the number's kind, "3 number with no `.`, `e`, `E`, 4 other number", or 0 where the rest doesn't match.
 -- Assumes nothing.
 use Prim.Native.Nat.{ℕ, zero, suc, _+_}
-use mathlib.Core.Bool.{Bool, true, false}
+use mathlib.Core.Bool.{Bool, true}
 use mathlib.Core.List.{List, [], _∷_}
 use lib.Dec.{eqb}
 use lib.ListN.{length}
