@@ -1,8 +1,8 @@
 // A case is a call on a text, with the first bytes of a buffer as its room. It is a line: the text, the room, the answer, and the whole
 // buffer afterwards, which was filled with aa before.
-use crate::show;
-use crate::slices;
 use lines::write::WroteLines;
+use report::show;
+use report::slices;
 use strings::answers::Decoded;
 use strings::answers::Token;
 use strings::answers::Written;
@@ -25,19 +25,10 @@ fn print_length(n: usize) {
     show::print_named(b"length ", n);
 }
 
-fn print_refusal(number: u32) {
-    show::print_named(b"refused ", number as usize);
-}
-
-fn print_refusal_at(number: u32, place: usize) {
-    print_refusal(number);
-    show::print_named(b" at ", place);
-}
-
 pub fn print_decoded(answer: Decoded) {
     match answer {
         Decoded::Done(n) => print_length(n),
-        Decoded::Refused(number, place) => print_refusal_at(number, place),
+        Decoded::Refused(number, place) => show::print_refusal_at(number, place),
     }
 }
 
@@ -47,21 +38,21 @@ fn print_token(answer: Token) {
             show::print_named(b"end ", end);
             show::print_named(b", length ", n);
         }
-        Token::Failed(number, place) => print_refusal_at(number, place),
+        Token::Failed(number, place) => show::print_refusal_at(number, place),
     }
 }
 
 fn print_written(answer: Written) {
     match answer {
         Written::Wrote(n) => print_length(n),
-        Written::Full(number) => print_refusal(number),
+        Written::Full(number) => show::print_refusal(number),
     }
 }
 
 fn print_lines(answer: WroteLines) {
     match answer {
         WroteLines::Wrote(n) => print_length(n),
-        WroteLines::Refused(number) => print_refusal(number),
+        WroteLines::Refused(number) => show::print_refusal(number),
     }
 }
 

@@ -1,8 +1,6 @@
 // The edges that document 01 wants run in a program. What the program writes is held to the file `stdout`.
 mod cases;
 mod records;
-mod show;
-mod slices;
 mod texts;
 mod uploads;
 

@@ -2,7 +2,7 @@
 use crate::cases;
 use crate::cases::Call;
 use crate::cases::Room;
-use crate::show;
+use report::show;
 
 // Cut short, or of another kind: with no room either, and behind a record that is right.
 fn unfit() {

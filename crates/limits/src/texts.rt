@@ -2,7 +2,7 @@
 use crate::cases;
 use crate::cases::Call;
 use crate::cases::Room;
-use crate::show;
+use report::show;
 use strings::answers::Decoded;
 
 fn code_points() {

@@ -3,8 +3,8 @@
 // buffer, which was filled with aa before.
 ghost use mathlib.Core.Path.{_≡_};
 ghost use lib.ListN.{length};
-use crate::show;
-use crate::slices;
+use report::show;
+use report::slices;
 use upload::uploads::Answer;
 use upload::uploads::Fed;
 use upload::uploads::Upload;
@@ -70,6 +70,11 @@ fn feed_many(state: Upload, many: Many, line: &mut [u8], out: &mut [u8]) -> Fed 
     s.feed(&block[..left], line, out)
 }
 
+// The byte of a slice that has only this one, else 0.
+fn only(s: &[u8]) -> u8 {
+    if s.len() == 1 { s[0] } else { 0 }
+}
+
 // The many bytes that a call feeds: `*` those that are given, `#` a line of 1,024 letters, and any other call none.
 fn many_of(sign: u8, many: Many) -> Many {
     if sign == b'*' {
@@ -97,7 +102,7 @@ fn print_call(sign: u8, piece: &[u8], many: Many) {
 
 // A call as it stands in a list: `$` is a finish, `*` and `#` feed many bytes, and anything else is a piece.
 fn call(state: Upload, piece: &[u8], given: Many, line: &mut [u8], out: &mut [u8]) -> Fed {
-    let sign = slices::only(piece);
+    let sign = only(piece);
     let many = many_of(sign, given);
     print_call(sign, piece, many);
     if sign == b'$' {

@@ -1,7 +1,7 @@
 -- The place stays between the first one and the end, and a step moves it on.
 -- Assumes nothing.
-use Rattle.limits.proofs.slices.find.Statement.{statement}
-use Rattle.limits.proofs.slices.find.Tie as tie
+use Rattle.report.proofs.slices.find.Statement.{statement}
+use Rattle.report.proofs.slices.find.Tie as tie
 use Prim.Native.Nat.{_-_, _≤_}
 use native.Mathlib.Omega.{arith}
 use lib.ListN.{length}

@@ -1,7 +1,7 @@
 -- The loop counts up to the length; nothing else is asked.
 -- Assumes nothing.
-use Rattle.limits.proofs.show.print_all.Statement.{statement}
-use Rattle.limits.proofs.show.print_all.Tie as tie
+use Rattle.report.proofs.show.print_all.Statement.{statement}
+use Rattle.report.proofs.show.print_all.Tie as tie
 use Prim.Native.Nat.{_-_, _≤_}
 use native.Mathlib.Omega.{arith}
 use lib.ListN.{length}

@@ -1,4 +1,4 @@
-// What the cases print.
+// Numbers, texts and buffers, printed.
 use crate::slices;
 use libc::STDOUT_FILENO;
 
@@ -13,6 +13,15 @@ pub fn print_number(n: usize) {
 pub fn print_named(name: &[u8], n: usize) {
     print(name);
     print_number(n);
+}
+
+pub fn print_refusal(number: u32) {
+    print_named(b"refused ", number as usize);
+}
+
+pub fn print_refusal_at(number: u32, place: usize) {
+    print_refusal(number);
+    print_named(b" at ", place);
 }
 
 pub fn blank() {

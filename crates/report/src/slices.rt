@@ -21,8 +21,3 @@ pub fn find(s: &[u8], from: usize, b: u8, same: bool) -> usize
     }
     i
 }
-
-// The byte of a slice that has only this one, else 0.
-pub fn only(s: &[u8]) -> u8 {
-    if s.len() == 1 { s[0] } else { 0 }
-}

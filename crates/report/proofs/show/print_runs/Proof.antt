@@ -1,7 +1,7 @@
 -- A run has at least the byte that it begins with, and ends inside the slice.
 -- Assumes nothing.
-use Rattle.limits.proofs.show.print_runs.Statement.{statement}
-use Rattle.limits.proofs.show.print_runs.Tie as tie
+use Rattle.report.proofs.show.print_runs.Statement.{statement}
+use Rattle.report.proofs.show.print_runs.Tie as tie
 use Prim.Native.Nat.{_-_, _≤_}
 use native.Mathlib.Omega.{arith}
 use lib.ListN.{length}

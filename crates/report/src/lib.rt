@@ -1,0 +1,3 @@
+// What the programs that run cases print.
+pub mod show;
+pub mod slices;
