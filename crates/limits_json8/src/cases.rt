@@ -1,5 +1,5 @@
-// A case is a text, read into the first numbers of a table and the first bytes of a store. It is a line: the text, the rooms, the answer,
-// and the whole table and store afterwards, which were filled with aa before.
+// A case is a text, read into the first numbers of a table and the first bytes of a store. It is a line: the text as a pattern, the rooms,
+// the answer, and the whole table and store afterwards, which were filled with aa before.
 use crate::tables;
 use crate::texts;
 use json8::answers::Parsed;
@@ -21,8 +21,8 @@ fn print_answer(answer: Parsed) {
     }
 }
 
-fn print_head(pattern: &[u8], times: usize, rooms: Rooms) {
-    texts::print_pattern(pattern, times);
+fn print_head(pattern: &[u8], rooms: Rooms) {
+    show::print_text(pattern);
     show::print_named(b"  in ", rooms.numbers);
     show::print_named(b" and ", rooms.bytes);
     show::print(b": ");
@@ -31,7 +31,7 @@ fn print_head(pattern: &[u8], times: usize, rooms: Rooms) {
 fn print_buffers(table: &[u32], store: &[u8]) {
     show::blank();
     tables::print_table(table);
-    show::print(b" ");
+    show::blank();
     show::print_runs(store);
     show::end_line();
 }
@@ -47,28 +47,21 @@ fn answer(text: &[u8], rooms: Rooms, table: &mut [u32], store: &mut [u8]) {
     print_answer(answer);
 }
 
-fn case_in(
-    pattern: &[u8],
-    times: usize,
-    rooms: Rooms,
-    text: &mut [u8],
-    table: &mut [u32],
-    store: &mut [u8],
-) {
-    let size = texts::build(pattern, times, text);
+fn case_in(pattern: &[u8], rooms: Rooms, text: &mut [u8], table: &mut [u32], store: &mut [u8]) {
+    let size = texts::build(pattern, text);
     if text.len() < size {
         return;
     }
-    print_head(pattern, times, rooms);
+    print_head(pattern, rooms);
     answer(&text[..size], rooms, table, store);
     print_buffers(table, store);
 }
 
-fn case(pattern: &[u8], rooms: Rooms) {
+fn short_case(pattern: &[u8], rooms: Rooms) {
     let mut text = [0u8; 64];
     let mut table = [tables::FILL; 40];
     let mut store = [0xaau8; 16];
-    case_in(pattern, 1, rooms, &mut text, &mut table, &mut store);
+    case_in(pattern, rooms, &mut text, &mut table, &mut store);
 }
 
 fn long_text() -> [u8; 32769] {
@@ -83,44 +76,66 @@ fn long_store() -> [u8; 32768] {
     [0xaau8; 32768]
 }
 
-fn long_case(pattern: &[u8], times: usize, rooms: Rooms) {
+fn long_case(pattern: &[u8], rooms: Rooms) {
     let mut text = long_text();
     let mut table = long_table();
     let mut store = long_store();
-    case_in(pattern, times, rooms, &mut text, &mut table, &mut store);
+    case_in(pattern, rooms, &mut text, &mut table, &mut store);
 }
 
-fn case_of(pattern: &[u8], times: usize, rooms: Rooms) {
-    if times == 0 {
-        return case(pattern, rooms);
+fn case(pattern: &[u8], rooms: Rooms, long: bool) {
+    if long {
+        long_case(pattern, rooms);
+    } else {
+        short_case(pattern, rooms);
     }
-    long_case(pattern, times, rooms);
 }
 
-// The cases of a list of patterns; behind each stands `|`.
-fn each_of(patterns: &[u8], times: usize, rooms: Rooms) {
+fn whole(long: bool) -> Rooms {
+    if long {
+        return Rooms {
+            numbers: 4100,
+            bytes: 32768,
+        };
+    }
+    Rooms {
+        numbers: 40,
+        bytes: 16,
+    }
+}
+
+// A pattern, or one behind its rooms: `<12 0>` is 12 numbers and no bytes. Else the whole buffers are lent.
+fn case_of(pattern: &[u8], long: bool) {
+    let end = slices::find(pattern, 0, b'>', true);
+    if end == pattern.len() {
+        return case(pattern, whole(long), long);
+    }
+    let blank = slices::find(pattern, 0, b' ', true);
+    if end < blank {
+        return;
+    }
+    let rooms = Rooms {
+        numbers: texts::decimal(&pattern[..blank]),
+        bytes: texts::decimal(&pattern[blank..end]),
+    };
+    case(&pattern[end + 1..], rooms, long);
+}
+
+fn each_of(patterns: &[u8], long: bool) {
     let mut at = 0;
     while at < patterns.len() {
         let end = slices::find(patterns, at, b'|', true);
-        case_of(&patterns[at..end], times, rooms);
+        case_of(&patterns[at..end], long);
         at = end + 1;
     }
 }
 
-// Short texts, in so much room.
-pub fn each_in(texts: &[u8], numbers: usize, bytes: usize) {
-    each_of(texts, 0, Rooms { numbers, bytes });
+// The cases of a list of patterns; behind each stands `|`.
+pub fn each(patterns: &[u8]) {
+    each_of(patterns, false);
 }
 
-pub fn each(texts: &[u8]) {
-    each_in(texts, 40, 16);
-}
-
-// Long texts, in so much room.
-pub fn each_long_in(patterns: &[u8], times: usize, numbers: usize, bytes: usize) {
-    each_of(patterns, times, Rooms { numbers, bytes });
-}
-
-pub fn each_long(patterns: &[u8], times: usize) {
-    each_long_in(patterns, times, 4100, 32768);
+// The same, with buffers for the longest texts and the most nodes.
+pub fn each_long(patterns: &[u8]) {
+    each_of(patterns, true);
 }

@@ -1,14 +1,30 @@
-// Texts from patterns: what stands in parentheses is put there many times.
+// Texts from patterns: where a pattern has `(1022*0,)`, its text has `0,` 1,022 times.
 use prelude::slices;
-use report::show;
+use report::slices::find;
 
-// The byte that ends a part of a pattern.
-fn end_of(many: bool) -> u8 {
-    if many { b')' } else { b'(' }
+// A number with a digit put behind its own; other bytes are passed over.
+fn with_digit(n: usize, b: u8) -> usize {
+    if b < b'0' {
+        return n;
+    }
+    if b > b'9' {
+        return n;
+    }
+    if n > 9999 {
+        return n;
+    }
+    10 * n + (b - b'0') as usize
 }
 
-fn times_of(many: bool, times: usize) -> usize {
-    if many { times } else { 1 }
+// The number that the digits of a slice make.
+pub fn decimal(s: &[u8]) -> usize {
+    let mut n = 0;
+    let mut i = 0;
+    while i < s.len() {
+        n = with_digit(n, s[i]);
+        i += 1;
+    }
+    n
 }
 
 // Puts a part behind a text's first bytes, if there is room, and answers how many they are then.
@@ -33,34 +49,33 @@ fn append_many(part: &[u8], times: usize, size: usize, text: &mut [u8]) -> usize
     end
 }
 
+// A part of a pattern: as it is, or in parentheses.
+fn append_part(part: &[u8], many: bool, size: usize, text: &mut [u8]) -> usize {
+    if !many {
+        return append(part, size, text);
+    }
+    let star = find(part, 0, b'*', true);
+    if star == part.len() {
+        return size;
+    }
+    append_many(&part[star + 1..], decimal(&part[..star]), size, text)
+}
+
+// The byte that ends a part of a pattern.
+fn end_of(many: bool) -> u8 {
+    if many { b')' } else { b'(' }
+}
+
 // Puts a pattern's text into a buffer, and answers how many bytes it has.
-pub fn build(pattern: &[u8], times: usize, text: &mut [u8]) -> usize {
+pub fn build(pattern: &[u8], text: &mut [u8]) -> usize {
     let mut many = false;
     let mut size = 0;
     let mut at = 0;
     while at < pattern.len() {
-        let end = report::slices::find(pattern, at, end_of(many), true);
-        size = append_many(&pattern[at..end], times_of(many, times), size, text);
+        let end = find(pattern, at, end_of(many), true);
+        size = append_part(&pattern[at..end], many, size, text);
         many = !many;
         at = end + 1;
     }
     size
-}
-
-fn print_times(times: usize) {
-    show::print_named(b"*", times);
-    show::print(b")");
-}
-
-// A pattern, with how many times at the end of each part in parentheses.
-pub fn print_pattern(pattern: &[u8], times: usize) {
-    let mut at = 0;
-    while at < pattern.len() {
-        let end = report::slices::find(pattern, at, b')', true);
-        show::print_text(&pattern[at..end]);
-        if end < pattern.len() {
-            print_times(times);
-        }
-        at = end + 1;
-    }
 }

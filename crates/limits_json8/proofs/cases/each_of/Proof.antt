@@ -7,11 +7,11 @@ use native.Mathlib.Omega.{arith}
 use lib.ListN.{length}
 
 abbrev Inv-loop : tie.InvT-loop
-Inv-loop patterns times rooms at₀ at =
+Inv-loop patterns long at₀ at =
     at ≤ length patterns + 1
 
 abbrev μ-loop : tie.MeasureT-loop
-μ-loop patterns times rooms at₀ at =
+μ-loop patterns long at₀ at =
     length patterns - at
 
 loop-holds : tie.Need-loop-holds Inv-loop μ-loop

@@ -8,11 +8,11 @@ use native.Mathlib.Omega.{arith}
 use lib.ListN.{length}
 
 abbrev Inv-loop : tie.InvT-loop
-Inv-loop pattern times text₀ many₀ size₀ at₀ text many size at =
+Inv-loop pattern text₀ many₀ size₀ at₀ text many size at =
     (at ≤ length pattern + 1) × (length text ≡ length text₀)
 
 abbrev μ-loop : tie.MeasureT-loop
-μ-loop pattern times text₀ many₀ size₀ at₀ text many size at =
+μ-loop pattern text₀ many₀ size₀ at₀ text many size at =
     length pattern - at
 
 loop-holds : tie.Need-loop-holds Inv-loop μ-loop
@@ -27,37 +27,33 @@ find-requires : tie.Need-find-requires Inv-loop μ-loop
 find-requires c κs =
     omega arith
 
-sub-append-many : tie.Need-sub-append-many Inv-loop μ-loop
-sub-append-many c =
+sub-append-part : tie.Need-sub-append-part Inv-loop μ-loop
+sub-append-part c =
     c .find .ensures .0
 
-part-append-many-start : tie.Need-part-append-many-start Inv-loop μ-loop
-part-append-many-start c =
+part-append-part-start : tie.Need-part-append-part-start Inv-loop μ-loop
+part-append-part-start c =
     c .find .ensures .0
 
-part-append-many-end : tie.Need-part-append-many-end Inv-loop μ-loop
-part-append-many-end c =
+part-append-part-end : tie.Need-part-append-part-end Inv-loop μ-loop
+part-append-part-end c =
     c .find .ensures .1
 
-times-of-requires : tie.Need-times-of-requires Inv-loop μ-loop
-times-of-requires c κs =
-    tt
-
-append-many-requires : tie.Need-append-many-requires Inv-loop μ-loop
-append-many-requires c κs =
+append-part-requires : tie.Need-append-part-requires Inv-loop μ-loop
+append-part-requires c κs =
     tt
 
 add-at : tie.Need-add-at Inv-loop μ-loop
 add-at c =
-    omega (arith, c .before .before .before .before .before .before .find .ensures .1)
+    omega (arith, c .before .before .before .before .before .find .ensures .1)
 
 loop-less : tie.Need-loop-less Inv-loop μ-loop
 loop-less c =
-    omega (arith, c .before .before .before .before .before .before .find .ensures .0, c .before .before .before .before .before .before .find .ensures .1)
+    omega (arith, c .before .before .before .before .before .find .ensures .0, c .before .before .before .before .before .find .ensures .1)
 
 loop-again : tie.Need-loop-again Inv-loop μ-loop
 loop-again c =
-    (omega (arith, c .before .before .before .before .before .before .find .ensures .1), c .before .before .append-many .kept .1 .1 .1 .0 ∙ c .before .before .before .before .before .before .before .before .before .loop .inv .1)
+    (omega (arith, c .before .before .before .before .before .find .ensures .1), c .before .before .append-part .kept .1 .1 .1 .0 ∙ c .before .before .before .before .before .before .before .before .loop .inv .1)
 
 same-length : tie.Need-same-length Inv-loop μ-loop
 same-length c =
@@ -76,11 +72,10 @@ build-spec =
     loop-holds
     end-of-requires
     find-requires
-    sub-append-many
-    part-append-many-start
-    part-append-many-end
-    times-of-requires
-    append-many-requires
+    sub-append-part
+    part-append-part-start
+    part-append-part-end
+    append-part-requires
     add-at
     loop-less
     loop-again
