@@ -168,8 +168,8 @@ without-next e r t f g = (let z : e ≡ e + 0 = omega arith in z) ∙ ap (λ (x 
 
 -- the same for each way that the code takes, where q is the quote that it was told and no test found anything
 module _ (st : Style) (s : List ℕ) (from : ℕ) (q : ℕ) (eq : q ≡ quote st) where
-  pub over-block : (at : ℕ) → Running st s from at → at + 64 ≤ length s → AllAlone q s at 64 → Running st s from (at + 64)
-  over-block at k h a = alone-run st s from 64 at k h (rw eq at a)
+  pub over-block : (n at : ℕ) → Running st s from at → at + n ≤ length s → AllAlone q s at n → Running st s from (at + n)
+  over-block n at k h a = alone-run st s from n at k h (rw eq at a)
 
   pub over-pairs : (at e : ℕ) (t : Bool) → Running st s from at → at + 33 ≤ length s → t ≡ tail (getD s at 0) → t ≡ false → AllPaired q s at 32
       → e ≡ at + 32 + taken (tail (getD s (at + 32) 0)) → Running st s from e

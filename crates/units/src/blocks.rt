@@ -32,14 +32,14 @@ fn odd_pair(q: u8, b: u8, c: u8) -> bool
                 | ((b == q) | ((b == 0xc0) | ((b == 0xc1) | (continues(c) != (b >= 0xc0)))))))
 }
 
-// Whether one of 64 bytes is odd.
-fn any_odd(q: u8, s: &[u8], at: usize) -> bool
-    requires { ⌜ at + 64 ≤ length (now s) ⌝ }
-    ensures { λ r. ⌜ (r ≡ false → AllAlone q (now (s .entry)) at 64) ⌝ }
+// Whether one of n bytes is odd.
+fn any_odd(q: u8, s: &[u8], at: usize, n: usize) -> bool
+    requires { ⌜ at + n ≤ length (now s) ⌝ }
+    ensures { λ r. ⌜ (r ≡ false → AllAlone q (now (s .entry)) at n) ⌝ }
 {
     let mut found = false;
     let mut k: usize = 0;
-    while k < 64 {
+    while k < n {
         found = found | odd(q, s[at + k]);
         k += 1;
     }
@@ -71,19 +71,27 @@ fn behind(s: &[u8], e: usize) -> usize
     e
 }
 
-// Blocks of ASCII.
-fn alone_blocks(s: &[u8], from: usize, style: Style) -> usize
-    requires { ⌜ from ≤ length (now s) ⌝ }
+// Blocks of n bytes of ASCII. A caller's n is a constant, so that a block is still compared at once.
+fn alone_blocks(s: &[u8], from: usize, style: Style, n: usize) -> usize
+    requires { ⌜ (from ≤ length (now s)) × (0 < n) ⌝ }
     ensures { λ r. ⌜ Running style (now (s .entry)) from r ⌝ }
 {
     let mut at = from;
-    while 64 <= s.len() - at {
-        if any_odd(styles::quote_of(style), s, at) {
+    while n <= s.len() - at {
+        if any_odd(styles::quote_of(style), s, at, n) {
             return at;
         }
-        at += 64;
+        at += n;
     }
     at
+}
+
+// A place behind blocks of sixteen, for runs inside a longer text, which are likely to end soon.
+pub fn sixteens(s: &[u8], from: usize, style: Style) -> usize
+    requires { ⌜ from ≤ length (now s) ⌝ }
+    ensures { λ r. ⌜ Running style (now (s .entry)) from r ⌝ }
+{
+    alone_blocks(s, from, style, 16)
 }
 
 // Blocks of ASCII and characters of two bytes.
@@ -151,7 +159,7 @@ pub fn strides(s: &[u8], from: usize, style: Style) -> usize
     if s.len() - from < 33 {
         return from;
     }
-    let a = alone_blocks(s, from, style);
+    let a = alone_blocks(s, from, style, 64);
     let b = pair_blocks(s, a, style);
     let c = last_pairs(s, b, style);
     last_byte(s, c, style)

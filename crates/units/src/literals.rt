@@ -126,26 +126,30 @@ fn chars_before(t: &[u8; 256], s: &[u8], from: usize, style: Style, end: usize) 
     at
 }
 
-// Several literal characters at a time: by blocks, or by eights where less than a block is left.
-fn several(t: &[u8; 256], s: &[u8], from: usize, style: Style) -> usize
+// Several literal characters at a time: by blocks of sixteen, or by the longer ones, or by eights where less than a block is left.
+fn several(t: &[u8; 256], s: &[u8], from: usize, style: Style, width: usize) -> usize
     requires { ⌜ IsTable (now t) × (from ≤ length (now s)) ⌝ }
     ensures { λ r. ⌜ Running style (now (s .entry)) from r ⌝ }
 {
+    if width == 16 {
+        return blocks::sixteens(s, from, style);
+    }
     if s.len() - from < 33 {
         return classes::eights(t, s, from);
     }
     blocks::strides(s, from, style)
 }
 
-// The place behind the literal characters from a place on. What ends the blocks is passed one by one, and then they are tried again.
-pub fn literal_run(t: &[u8; 256], s: &[u8], from: usize, style: Style) -> usize
-    requires { ⌜ IsTable (now t) × (from ≤ length (now s)) ⌝ }
+// The place behind the literal characters from a place on. What ends the blocks is passed one by one, as many bytes as the width says, and
+// then they are tried again.
+fn run_by(t: &[u8; 256], s: &[u8], from: usize, style: Style, width: usize) -> usize
+    requires { ⌜ IsTable (now t) × (from ≤ length (now s)) × (0 < width) ⌝ }
     ensures { λ r. ⌜ r ≡ from + literalRun style 0 (drop from (now (s .entry))) ⌝ }
 {
     let mut at = from;
     while at < s.len() {
-        let mid = several(t, s, at, style);
-        let end = soon(s, mid, 64);
+        let mid = several(t, s, at, style, width);
+        let end = soon(s, mid, width);
         let most = common_before(t, s, mid, end);
         let next = chars_before(t, s, most, style, end);
         if next < end {
@@ -154,6 +158,22 @@ pub fn literal_run(t: &[u8; 256], s: &[u8], from: usize, style: Style) -> usize
         at = next;
     }
     at
+}
+
+// The literal characters of a text, most of which is likely to be one run.
+pub fn literal_run(t: &[u8; 256], s: &[u8], from: usize, style: Style) -> usize
+    requires { ⌜ IsTable (now t) × (from ≤ length (now s)) ⌝ }
+    ensures { λ r. ⌜ r ≡ from + literalRun style 0 (drop from (now (s .entry))) ⌝ }
+{
+    run_by(t, s, from, style, 64)
+}
+
+// The same inside a longer text, where a run is likely to end before a long block does.
+pub fn inner_run(t: &[u8; 256], s: &[u8], from: usize, style: Style) -> usize
+    requires { ⌜ IsTable (now t) × (from ≤ length (now s)) ⌝ }
+    ensures { λ r. ⌜ r ≡ from + literalRun style 0 (drop from (now (s .entry))) ⌝ }
+{
+    run_by(t, s, from, style, 16)
 }
 
 // The same where few are likely, as behind an escape: blocks come only behind the first sixteen bytes.

@@ -10,16 +10,16 @@ use Rattle.units.proofs.LiteralRuns.{here}
 use Rattle.units.proofs.BlockLaws.{over-block}
 
 abbrev Inv-loop : tie.InvT-loop
-Inv-loop s from style at₀ at =
+Inv-loop s from style n at₀ at =
     Running style s from at
 
 abbrev μ-loop : tie.MeasureT-loop
-μ-loop s from style at₀ at =
+μ-loop s from style n at₀ at =
     length s - at
 
 loop-holds : tie.Need-loop-holds Inv-loop μ-loop
 loop-holds c =
-    here _ _ _ (c .before .pre)
+    here _ _ _ (c .before .pre .0)
 
 sub-loop : tie.Need-sub-loop Inv-loop μ-loop
 sub-loop c =
@@ -47,7 +47,7 @@ loop-less c =
 
 loop-again : tie.Need-loop-again Inv-loop μ-loop
 loop-again c =
-    over-block _ _ _ _ (c .before .before .quote-of .ensures) _ (c .before .before .before .before .loop .inv) (omega arith) (c .before .any-odd .ensures (c .if1 .left))
+    over-block _ _ _ _ (c .before .before .quote-of .ensures) _ _ (c .before .before .before .before .loop .inv) (omega arith) (c .before .any-odd .ensures (c .if1 .left))
 
 returns-2 : tie.Need-returns-2 Inv-loop μ-loop
 returns-2 c =
