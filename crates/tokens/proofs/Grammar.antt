@@ -17,7 +17,7 @@ use Rattle.prelude.proofs.Rest.{getD-inside}
 use Rattle.tokens.specs.declared.numbers.Number.{Number}
 use Rattle.tokens.specs.declared.numbers.Number.the-variants.{Legal, Malformed}
 use Rattle.tokens.specs.Words.{isDigit, runOf}
-use Rattle.tokens.specs.Numbers.{isE, isSign, isNumber, numberOf, legal, ends, inExp, expDigits, behindE, behindFrac, inFrac, behindPoint, behindInt, inInt, int, numberKind, numberFrom, numberAt}
+use Rattle.tokens.specs.Numbers.{isE, isSign, isNumber, numberOf, legal, ends, inExp, expDigits, behindE, behindFrac, inFrac, behindPoint, behindInt, inInt, int, numberKind, numberFrom, Leads, numberAt}
 use Rattle.tokens.proofs.Runs.{run-more, run-none, run-le}
 
 pub digit-number : (x : ℕ) → isDigit x ≡ true → isNumber x ≡ true
@@ -210,6 +210,31 @@ module _ (s : List ℕ) (at x : ℕ) (v : Number) (ex : x ≡ getD (drop at s) 0
   pub no-minus : (x ≡ 0x2d → ⊥) → v ≡ numberFrom int at (drop at s) → v ≡ numberFrom numberKind at (drop at s)
   unfolding numberKind int pick
   no-minus d e = stays s at x ex numberKind int v e refl (λ w. rw (ne-eqb x 0x2d d))
+
+-- the places that lead on
+module _ (s : List ℕ) (at x : ℕ) (ex : x ≡ getD (drop at s) 0 0) where
+  pub minus-leads : x ≡ 0x2d → Leads numberKind int s at (at + 1)
+  minus-leads d = record { inside = minus-inside s at x Malformed ex d; same = minus-on s at x _ ex d refl }
+
+  pub plain-leads : at ≤ length s → (x ≡ 0x2d → ⊥) → Leads numberKind int s at at
+  plain-leads h d = record { inside = h; same = no-minus s at x _ ex d refl }
+
+  pub sign-leads : isSign x ≡ true → Leads behindE expDigits s at (at + 1)
+  sign-leads d = record { inside = next-inside s at x ex (sign-number x d); same = e-sign s at x _ ex d refl }
+
+  pub unsigned-leads : at ≤ length s → isSign x ≡ false → Leads behindE expDigits s at at
+  unsigned-leads h d = record { inside = h; same = e-plain s at x _ ex d refl }
+
+  pub zero-leads : x ≡ 0x30 → Leads int behindInt s at (at + 1)
+  zero-leads d = record { inside = zero-inside s at x Malformed ex d; same = zero-int s at x _ ex d refl }
+
+  pub digits-lead : (x ≡ 0x30 → ⊥) → isDigit x ≡ true → (e : ℕ) → e ≡ at + 1 + length (runOf isDigit (drop (at + 1) s)) → Leads int behindInt s at e
+  digits-lead p d e ee =
+      let h : at + 1 ≤ length s = next-inside s at x ex (digit-number x d) in
+      record { inside = digits-inside s (at + 1) e ee h; same = digit-int s at x _ ex p d (int-over s (at + 1) e _ ee refl) }
+
+  pub no-digit : isDigit x ≡ false → Malformed ≡ numberFrom int at (drop at s)
+  no-digit d = no-int s at x Malformed ex (λ z. never (let q : true ≡ false = sym (ap isDigit z) ∙ d in cc)) d
 
 -- the token's length, from its place
 pub legal-at : (s : List ℕ) (from kind end : ℕ) (v : Number) → v ≡ numberFrom numberKind from (drop from s) → v ≡ Legal kind end

@@ -2,11 +2,12 @@
 -- The grammar is that of RFC 8259, section 6, a line of it quoted at each definition; each is given the rest of the token and answers
 -- the number's kind, "3 number with no `.`, `e`, `E`, 4 other number", or 0 where the rest doesn't match.
 -- Assumes nothing.
-use Prim.Native.Nat.{ℕ, zero, suc, _+_}
+use Prim.Native.Nat.{ℕ, zero, suc, _+_, _≤_}
 use mathlib.Core.Bool.{Bool, true}
 use mathlib.Core.List.{List, [], _∷_}
+use mathlib.Core.Path.{_≡_}
 use lib.Dec.{eqb}
-use lib.ListN.{length}
+use lib.ListN.{length, drop}
 use Rattle.prelude.specs.Pick.{pick}
 use Rattle.tokens.specs.declared.numbers.Number.{Number}
 use Rattle.tokens.specs.declared.numbers.Number.the-variants.{Legal, Malformed}
@@ -85,6 +86,11 @@ ends kind (x ∷ r) = 0
 -- what a part of the grammar answers of the token's rest, behind n bytes
 unfoldable pub numberFrom : (List ℕ → ℕ) → ℕ → List ℕ → Number
 numberFrom part n s = legal (part (numberOf s)) (n + length (numberOf s))
+
+-- For the code: behind the place r, the next part of the grammar answers what an earlier part does at a place.
+pub record Leads (part next : List ℕ → ℕ) (s : List ℕ) (at r : ℕ) : Type 0 where
+  pub inside : r ≤ length s
+  pub same : numberFrom next r (drop r s) ≡ numberFrom part at (drop at s)
 
 -- the kind and the length of the number token that a text begins with
 unfoldable pub numberAt : List ℕ → Number

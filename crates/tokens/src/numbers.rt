@@ -1,10 +1,12 @@
 // Number tokens by the grammar of RFC 8259, a function for each of its places. The longest run needn't be known: a text that matches
-// up to a byte that the run hasn't is the run.
+// up to a byte that the run hasn't is the run. Where two ways meet again, the first part answers a place, so that each function has few
+// callers and is compiled into them.
+ghost use mathlib.Core.Bool.{true};
 ghost use mathlib.Core.Path.{_≡_};
 ghost use Prim.Native.Nat.{_+_, _≤_, _<_};
-ghost use lib.ListN.{length, drop};
+ghost use lib.ListN.{length, getD, drop};
 ghost use Rattle.tokens.specs.Words.{isDigit, runOf};
-ghost use Rattle.tokens.specs.Numbers.{isE, isSign, isNumber, inExp, expDigits, behindE, behindFrac, inFrac, behindPoint, behindInt, inInt, int, numberKind, ends, numberFrom, numberAt};
+ghost use Rattle.tokens.specs.Numbers.{isE, isSign, isNumber, inExp, expDigits, behindE, behindFrac, inFrac, behindPoint, behindInt, int, numberKind, ends, numberFrom, Leads, numberAt};
 use crate::words;
 use prelude::slices;
 
@@ -90,14 +92,22 @@ fn exp_digits(s: &[u8], at: usize) -> Number
     Number::Malformed
 }
 
+// Behind a sign, if one stands here.
+fn past_sign(s: &[u8], at: usize) -> usize
+    requires { ⌜ at ≤ length (now s) ⌝ }
+    ensures { λ r. ⌜ Leads behindE expDigits (now (s .entry)) at r ⌝ }
+{
+    if is_sign(slices::byte_at(s, at, 0)) {
+        return at + 1;
+    }
+    at
+}
+
 fn behind_e(s: &[u8], at: usize) -> Number
     requires { ⌜ at ≤ length (now s) ⌝ }
     ensures { λ r. ⌜ r ≡ numberFrom behindE at (drop at (now (s .entry))) ⌝ }
 {
-    if is_sign(slices::byte_at(s, at, 0)) {
-        return exp_digits(s, at + 1);
-    }
-    exp_digits(s, at)
+    exp_digits(s, past_sign(s, at))
 }
 
 fn behind_frac(s: &[u8], at: usize) -> Number
@@ -141,11 +151,15 @@ fn behind_int(s: &[u8], at: usize) -> Number
     finish(s, at, 3)
 }
 
-fn in_int(s: &[u8], at: usize) -> Number
-    requires { ⌜ at ≤ length (now s) ⌝ }
-    ensures { λ r. ⌜ r ≡ numberFrom inInt at (drop at (now (s .entry))) ⌝ }
+// Behind the whole part, which begins with the digit x.
+fn past_int(s: &[u8], at: usize, x: u8) -> usize
+    requires { ⌜ (x ≡ getD (drop at (now s)) 0 0) × (isDigit x ≡ true) ⌝ }
+    ensures { λ r. ⌜ Leads int behindInt (now (s .entry)) at r ⌝ }
 {
-    behind_int(s, digits(s, at))
+    if x == 0x30 {
+        return at + 1;
+    }
+    digits(s, at + 1)
 }
 
 fn unsigned(s: &[u8], at: usize) -> Number
@@ -153,23 +167,28 @@ fn unsigned(s: &[u8], at: usize) -> Number
     ensures { λ r. ⌜ r ≡ numberFrom int at (drop at (now (s .entry))) ⌝ }
 {
     let x = slices::byte_at(s, at, 0);
-    if x == 0x30 {
-        return behind_int(s, at + 1);
+    if !words::is_digit(x) {
+        return Number::Malformed;
     }
-    if words::is_digit(x) {
-        return in_int(s, at + 1);
+    behind_int(s, past_int(s, at, x))
+}
+
+// Behind a minus, if one stands here.
+fn past_minus(s: &[u8], at: usize) -> usize
+    requires { ⌜ at ≤ length (now s) ⌝ }
+    ensures { λ r. ⌜ Leads numberKind int (now (s .entry)) at r ⌝ }
+{
+    if slices::byte_at(s, at, 0) == 0x2d {
+        return at + 1;
     }
-    Number::Malformed
+    at
 }
 
 fn signed(s: &[u8], at: usize) -> Number
     requires { ⌜ at ≤ length (now s) ⌝ }
     ensures { λ r. ⌜ r ≡ numberFrom numberKind at (drop at (now (s .entry))) ⌝ }
 {
-    if slices::byte_at(s, at, 0) == 0x2d {
-        return unsigned(s, at + 1);
-    }
-    unsigned(s, at)
+    unsigned(s, past_minus(s, at))
 }
 
 // The number token at a place.
