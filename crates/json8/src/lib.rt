@@ -1,7 +1,7 @@
 // JSON8: a text read to a node table, and the strings of a table shown.
 pub mod answers;
 mod leaves;
-mod nodes;
+pub mod nodes;
 mod quoted;
 pub mod read;
 pub mod show;

@@ -13,7 +13,7 @@ pub enum Shown {
 }
 
 // Whether so many bytes from a place on lie in a buffer of so many. No sum is made, so none can run over.
-fn is_within(place: usize, size: usize, room: usize) -> bool
+pub fn is_within(place: usize, size: usize, room: usize) -> bool
     ensures { λ r. ⌜ r ≡ leb (place + size) room ⌝ }
 {
     if room < place {

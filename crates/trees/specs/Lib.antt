@@ -1,0 +1,4 @@
+pub mod Trees
+pub mod Tables
+pub mod Sound
+pub mod Claims
