@@ -20,7 +20,7 @@ use Rattle.units.specs.Styles.{quote}
 use Rattle.units.specs.Units.{literalLen, literalRun}
 use Rattle.units.specs.Written.{escapeByte}
 use Rattle.units.specs.Blocks.{Running}
-use Rattle.units.proofs.LiteralLaws.{run-fits, run-ends, run-valid}
+use Rattle.units.proofs.LiteralLaws.{run-fits, run-ends, run-valid, all-literal}
 use Rattle.units.proofs.EscapeStores.{escape-written}
 use Rattle.units.proofs.WrittenUnits.{limit}
 use Rattle.strings.specs.declared.answers.Written.{Written}
@@ -201,6 +201,11 @@ quoted-positive st s = omega (arith, length-append (mark st) (closed st s), leng
 pub stored-mark : (st to : Style) (out new : List ℕ) → st ≡ to → new ≡ sets out 0 (mark to) → (length (mark to) ≡ length (mark st)) × (new ≡ sets out 0 (mark st))
 stored-mark st to out new e w = rw e (refl, w)
 
+-- valid data takes the `""` form
+valid-text : (s : List ℕ) → validUtf8 s ≡ true → writeString s ≡ quoted Json s
+unfolding writeString pick
+valid-text s e = rw e
+
 -- data that is one run of literal characters
 pub literal-text : (s : List ℕ) → literalRun Json 0 s ≡ length s → quoted Json s ≡ 34 ∷ (s ++ (34 ∷ []))
 unfolding quoted writeUnits
@@ -213,22 +218,28 @@ module _ (s out : List ℕ) (e : literalRun Json 0 s ≡ length s) where
   text-length : length (quoted Json s) ≡ length s + 2
   text-length = ap length (literal-text s e) ∙ (let l : length (s ++ (34 ∷ [])) ≡ length s + 1 = length-append s (34 ∷ []) in omega arith)
 
+  -- what the stores of a quote, the data and a quote leave
+  literal-stored : {o1 o2 o3 : List ℕ} → o1 ≡ set out 0 34 → o2 ≡ sets o1 1 (take (length s) s) → o3 ≡ set o2 (length s + 1) 34 → o3 ≡ sets out 0 (quoted Json s)
+  literal-stored {o1} {o2} {o3} p q r =
+      r ∙ ap (λ (x : List ℕ). set x (length s + 1) 34) (q ∙ (λ i. sets (p i) 1 (take-length s i)))
+      ∙ sets-append s (34 ∷ []) (set out 0 34) 1 (length s + 1) (omega arith) ∙ ap (sets out 0) (sym (literal-text s e))
+
   pub literal-full : length out < length s + 2 → Wrote-It (quoted Json s) out (Full 12) out
   literal-full h = full (quoted Json s) out (omega (arith, text-length))
 
   pub literal-wrote : {o1 o2 o3 : List ℕ} → length s + 2 ≤ length out → o1 ≡ set out 0 34 → o2 ≡ sets o1 1 (take (length s) s) → o3 ≡ set o2 (length s + 1) 34
       → Wrote-It (quoted Json s) out (Wrote (length s + 2)) o3
-  literal-wrote {o1} {o2} {o3} h p q r =
-      let w : o3 ≡ sets out 0 (34 ∷ (s ++ (34 ∷ []))) =
-      r ∙ ap (λ (x : List ℕ). set x (length s + 1) 34) (q ∙ (λ i. sets (p i) 1 (take-length s i)))
-      ∙ sets-append s (34 ∷ []) (set out 0 34) 1 (length s + 1) (omega arith) in
-      wrote (quoted Json s) out (length s + 2) o3 (omega (arith, text-length)) (sym text-length) (w ∙ ap (sets out 0) (sym (literal-text s e)))
+  literal-wrote {o1} {o2} {o3} h p q r = wrote (quoted Json s) out (length s + 2) o3 (omega (arith, text-length)) (sym text-length) (literal-stored p q r)
+
+  -- the same as one pass, in a room
+  pub literal-over : {room : ℕ} {new : List ℕ} → room < length s + 2 → Passed (writeString s) room 0 out new
+  literal-over h = rw (valid-text s (all-literal Json s e)) (stopped (omega (arith, text-length)))
+
+  pub literal-part : {room : ℕ} {o1 o2 o3 : List ℕ} → length s + 2 ≤ room → o1 ≡ set out 0 34 → o2 ≡ sets o1 1 (take (length s) s) → o3 ≡ set o2 (length s + 1) 34
+      → Passed (writeString s) room (length s + 2) out o3
+  literal-part h p q r = rw (valid-text s (all-literal Json s e)) (finished (omega (arith, text-length)) text-length (literal-stored p q r))
 
 -- the form that the data takes
-valid-text : (s : List ℕ) → validUtf8 s ≡ true → writeString s ≡ quoted Json s
-unfolding writeString pick
-valid-text s e = rw e
-
 other-text : (s : List ℕ) → validUtf8 s ≡ false → writeString s ≡ quoted Bytes s
 unfolding writeString pick
 other-text s e = rw e

@@ -93,6 +93,34 @@ pub fn write_part(t: &[u8; 256], valid: bool, s: &[u8], room: usize, out: &mut [
     pass(t, Style::Bytes, s, room, out)
 }
 
+// The text of data that is one run of literal characters: its length, or 0 where it passes the room.
+fn literal_part(s: &[u8], room: usize, out: &mut [u8]) -> usize
+    requires { ⌜ literalRun Json 0 (now s) ≡ length (now s) ⌝ }
+    ensures { λ r. ⌜ Passed (writeString (now (s .entry))) room r (now (out .entry)) (now (out .exit)) ⌝ }
+{
+    let n = s.len();
+    if room < n + 2 {
+        return 0;
+    }
+    slices::put(34, 0, out);
+    slices::copy_run(s, 0, n, 1, out);
+    slices::put(34, n + 1, out);
+    n + 2
+}
+
+// The same for any data: one run to the end needs no other look, and is valid so far where it ends before.
+pub fn write_run(t: &[u8; 256], s: &[u8], room: usize, out: &mut [u8]) -> usize
+    requires { ⌜ IsTable (now t) ⌝ }
+    ensures { λ r. ⌜ Passed (writeString (now (s .entry))) room r (now (out .entry)) (now (out .exit)) ⌝ }
+{
+    let e = literals::inner_run(t, s, 0, Style::Json);
+    if e == s.len() {
+        return literal_part(s, room, out);
+    }
+    let valid = chars::valid_in(t, &s[e..]);
+    write_part(t, valid, s, room, out)
+}
+
 // Whether every text of n bytes of data in a style fits a room.
 fn roomy(style: Style, n: usize, room: usize) -> bool
     ensures { λ r. ⌜ (r ≡ true → (s : List ℕ) → length s ≡ n → length (quoted style s) ≤ room) ⌝ }

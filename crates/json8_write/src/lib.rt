@@ -1,0 +1,6 @@
+// JSON8: a node table judged, and written in the one form that reads back as the same tree.
+pub mod answers;
+mod nodes;
+mod texts;
+mod values;
+pub mod write;
