@@ -1,8 +1,18 @@
 -- The claims of specs/Claims.antt, each from the law that has it.
 -- Assumes nothing.
 use Rattle.trees.specs.Tables.{nodesIn}
-use Rattle.trees.specs.Claims.{Fit-Tables-Are-Sound}
+use Rattle.trees.specs.Claims.{Written-Table-Reads-Back, Written-Tree-Reads-Back, Fit-Tables-Are-Sound, Render-Is-Injective}
 use Rattle.trees.proofs.Fitting.{tree-sound}
+use Rattle.trees.proofs.WholeTexts.{written-read, front-read, render-one}
 
 pub fit-tables-are-sound : Fit-Tables-Are-Sound
 fit-tables-are-sound table text store t a b e = tree-sound text store a b (nodesIn table) t e
+
+pub written-table-reads-back : Written-Table-Reads-Back
+written-table-reads-back table text store t a b e = written-read t (fit-tables-are-sound table text store t a b e)
+
+pub written-tree-reads-back : Written-Tree-Reads-Back
+written-tree-reads-back = front-read
+
+pub render-is-injective : Render-Is-Injective
+render-is-injective = render-one
