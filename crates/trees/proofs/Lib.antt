@@ -1,8 +1,10 @@
 pub mod Choosing
 pub mod Fitting
 pub mod NumberTexts
+pub mod DenotedBytes
 pub mod Meanings
 pub mod Leaves
 pub mod WrittenTrees
+pub mod ReadTrees
 pub mod WholeTexts
 pub mod Claims

@@ -6,21 +6,27 @@ use mathlib.Core.List.{List, [], _∷_, _++_, append-nil}
 use mathlib.Core.Path.{_≡_, refl, sym, ap, _∙_}
 use native.Mathlib.Omega.{arith}
 use lib.ListN.{length, drop, length-append}
-use borrow.Author.Tests.{le-ltb, le-leb}
+use lib.Dec.{ltb}
+use borrow.Author.Tests.{le-ltb, ltb-false, le-leb}
 use Rattle.prelude.specs.Pick.{pick}
+use Rattle.prelude.proofs.Cases.{split, never}
+use Rattle.strings.specs.Claims.{IsBytes}
 use Rattle.strings.specs.Read.{textMax}
 use Rattle.tokens.specs.Blanks.{blanksFrom}
-use Rattle.json8.specs.Nodes.{Node, got, seq, flat, nodeMax}
+use Rattle.json8.specs.declared.answers.Parsed.the-variants.{Done}
+use Rattle.json8.specs.Nodes.{Node, Read, got, refused, seq, flat, nodeMax}
 use Rattle.json8.specs.Leaves.{spaces}
 use Rattle.json8.specs.Values.{value}
-use Rattle.json8.specs.Read.{depthMax, finish, readAll, readOf}
+use Rattle.json8.specs.Read.{depthMax, finish, readAll, fitted, readOf, parsedOf}
 use Rattle.json8.proofs.Claims.{tables-fit}
 use Rattle.trees.specs.Trees.{Tree, render}
 use Rattle.trees.specs.Tables.{just, nodesIn, treeOf}
 use Rattle.trees.specs.Sound.{Sound, sizeOf}
-use Rattle.trees.specs.Claims.{textTree, ReadAs, Stops, FrontRead}
+use Rattle.trees.specs.Claims.{treeIn, textTree, ReadAs, Stops, FrontRead}
+use Rattle.trees.proofs.Fitting.{tree-sound}
 use Rattle.trees.proofs.Meanings.{Stands, Meant}
 use Rattle.trees.proofs.WrittenTrees.{heads-firm, tree-heads, seq-firm, behind, seq-both, tree-back}
+use Rattle.trees.proofs.ReadTrees.{Holds, Trees, all-meant}
 
 flat-back : (ns : List Node) (r : List ℕ) → nodesIn (flat ns ++ r) ≡ ns ++ nodesIn r
 unfolding nodesIn flat
@@ -115,3 +121,29 @@ same-tree t u a b e x y l =
 
 pub render-one : (t u : Tree) → Sound t → Sound u → render t ≡ render u → t ≡ u
 render-one t u a b e = same-tree t u (render t ++ []) (render u ++ []) (ap (λ (z : List ℕ). z ++ []) e) (front-read t [] a tt) (front-read u [] b tt) (ap length e)
+
+-- an accepted text
+module _ (s : List ℕ) where
+  fit-read : (table store : List ℕ) (n m : ℕ) (r : Read) → length s ≤ textMax → readAll s ≡ r → Holds s (Trees s depthMax) 0 r
+      → parsedOf (fitted (length table / 4) (length store) r) ≡ Done n m → (t : Tree) × (textTree s ≡ just t) × ReadAs t s table store
+  unfolding pick
+  fit-read table store n m (refused code at) h e f g = never (cc)
+  fit-read table store n m (got l tag ns bs) h e (z, y, (t, v)) g =
+      let k : Known s t = record { len = l; tag = tag; nodes = ns; bytes = bs; read = e; meant = v } in
+      split (ltb (length table / 4) (length ns)) (λ a. never (let o = rw a at g in cc))
+      (λ a. split (ltb (length store) (length bs)) (λ b. never (let o = rw (a, b) at g in cc))
+      (λ b. (t, known-tree s t k, known-read s t k table store h (ltb-false _ _ a) (ltb-false _ _ b))))
+
+  pub read-fit : (table store : List ℕ) (n m : ℕ) → parsedOf (readOf (length table / 4) (length store) s) ≡ Done n m
+      → (t : Tree) × (textTree s ≡ just t) × ReadAs t s table store
+  unfolding readOf pick
+  read-fit table store n m g =
+      split (ltb textMax (length s)) (λ a. never (let o = rw a at g in cc))
+      (λ a. fit-read table store n m (readAll s) (ltb-false _ _ a) refl (all-meant s) (rw a at g))
+
+  pub text-sound : (t : Tree) → IsBytes s → textTree s ≡ just t → Sound t
+  text-sound t b e = go (readAll s) (all-meant s) e
+    where
+      go : (r : Read) → Holds s (Trees s depthMax) 0 r → treeIn s r ≡ just t → Sound t
+      go (got l tag ns bs) f e = tree-sound s bs b (f .1 b) ns t e
+      go (refused code at) f e = never (cc)
