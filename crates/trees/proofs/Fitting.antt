@@ -1,7 +1,7 @@
 -- A table that has a meaning: its tree is sound, and has as many nodes as its root says; a leaf by its kind, members one after another, and
 -- lists and dicts by the brackets left.
 -- Assumes nothing.
-use Prim.Native.Nat.{ℕ, zero, suc, _+_, _-_, _≤_}
+use Prim.Native.Nat.{ℕ, zero, suc, _+_, _-_}
 use mathlib.Core.Bool.{true, false}
 use mathlib.Core.List.{List, [], _∷_}
 use mathlib.Core.Path.{_≡_, refl, sym, _∙_}
@@ -22,7 +22,7 @@ use Rattle.json8.specs.Nodes.{Node, nodeMax}
 use Rattle.json8.specs.Read.{depthMax}
 use Rattle.json8.specs.Show.{shownBy}
 use Rattle.trees.specs.Trees.{Label, Tree, null, bool, number, string, branch, Members, none, one}
-use Rattle.trees.specs.Tables.{Maybe, just, unfit, countAt, bytesOf, stringOf, legalFor, numberOf, scalarOf, leafOf, labelSize, labelAt, memberSize, TreeReader, membersAt, treeFrom, grouped, treeAt, treeOf}
+use Rattle.trees.specs.Tables.{Maybe, just, countAt, bytesOf, stringOf, numberOf, scalarOf, leafOf, labelSize, labelAt, memberSize, TreeReader, membersAt, treeFrom, grouped, treeAt, treeOf}
 use Rattle.trees.specs.Sound.{SoundLabel, SoundTo, SoundMembers, sizeOf, sizesOf, Sound}
 use Rattle.trees.proofs.Choosing.{bind-just, need-just}
 

@@ -3,9 +3,9 @@
 -- Assumes nothing.
 use Prim.Native.Nat.{ℕ, zero, suc, _+_, _-_, _≤_, _<_}
 use native.Mathlib.Nat.{zero-add}
-use mathlib.Core.Bool.{Bool, true, false}
-use mathlib.Core.List.{List, [], _∷_, _++_}
-use mathlib.Core.Path.{_≡_, refl, sym, ap, _∙_}
+use mathlib.Core.Bool.{true, false}
+use mathlib.Core.List.{List, [], _∷_}
+use mathlib.Core.Path.{_≡_, refl, sym, _∙_}
 use native.Mathlib.Omega.{arith}
 use lib.Dec.{eqb, lit<, lit≤}
 use lib.ListN.{length, getD, take, drop, length-drop}
@@ -18,20 +18,18 @@ use Rattle.units.specs.Styles.{quote}
 use Rattle.units.specs.Units.{literalRun}
 use Rattle.strings.specs.Claims.{IsBytes}
 use Rattle.strings.specs.Read.{accepted, readToken, Opening, opens, unopened, opening}
-use Rattle.tokens.specs.declared.words.Word.the-variants.{Value}
-use Rattle.tokens.specs.declared.numbers.Number.the-variants.{Legal, Malformed}
-use Rattle.tokens.specs.Words.{isWord, wordOf, wordValue}
+use Rattle.tokens.specs.Words.{isWord, wordOf}
 use Rattle.tokens.specs.Numbers.{isNumber, numberKind, numberOf, legal, numberFrom, numberAt}
 use Rattle.tokens.proofs.Runs.{run-le, run-take}
-use Rattle.json8.specs.Nodes.{Node, node, Read, got, refused, limited}
-use Rattle.json8.specs.Leaves.{slashed, markLen, stringNode, string, plain, numberRead, wordRead, word, number}
+use Rattle.json8.specs.Nodes.{Node, node, got, limited}
+use Rattle.json8.specs.Leaves.{slashed, stringNode, string, plain, numberRead, number}
 use Rattle.json8.specs.Show.{shownBy}
 use Rattle.json8.proofs.Backslashes.{quote-inside, whole-run, run-unslashed, slash-behind}
 use Rattle.trees.specs.Trees.{Tree, null, bool, number as numberTree}
 use Rattle.trees.specs.Tables.{just, stringOf, numberOf as numberIn, scalarOf}
 use Rattle.trees.specs.Sound.{sizeOf}
 use Rattle.trees.proofs.NumberTexts.{number-legal}
-use Rattle.trees.proofs.Meanings.{Stands, stands-in, Meant, Spelt, leaf-meant}
+use Rattle.trees.proofs.Meanings.{stands-in, Meant, Spelt, leaf-meant}
 
 number-some : (w : List ℕ) → (numberKind w ≡ 0 → ⊥) → 0 < length w
 unfolding numberKind

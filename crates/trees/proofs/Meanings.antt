@@ -1,22 +1,21 @@
 -- What nodes mean, with any nodes behind them and any bytes around theirs in the store: a leaf by its kind, members one after another, and
 -- a bracket around them.
 -- Assumes nothing.
-use Prim.Native.Nat.{ℕ, zero, suc, _+_, _-_, _≤_, _<_}
+use Prim.Native.Nat.{ℕ, suc, _+_, _-_, _≤_, _<_}
 use native.Mathlib.Nat.{zero-add}
 use mathlib.Core.List.{List, [], _∷_, _++_, append-assoc}
 use mathlib.Core.Path.{_≡_, refl, sym, ap, _∙_}
 use native.Mathlib.Omega.{arith}
-use lib.ListN.{length, take, drop, length-append, length-drop}
-use lib.Seq.{drop-drop, drop-append-seam, take-append-seam}
+use lib.ListN.{length, drop, length-append, length-drop}
+use lib.Seq.{drop-drop, drop-append-seam}
 use borrow.Author.Tests.{eq-eqb, ne-eqb, le-leb, lt-ltb}
 use Rattle.prelude.specs.Pick.{pick}
 use Rattle.json8.specs.declared.nodes.Sort.{Sort}
 use Rattle.json8.specs.declared.nodes.Sort.the-variants.{Items, Pairs}
 use Rattle.json8.specs.Nodes.{Node, node}
 use Rattle.json8.specs.Values.{kindOf}
-use Rattle.json8.specs.Show.{shownBy}
 use Rattle.trees.specs.Trees.{Label, Tree, string, branch, Members, none, one}
-use Rattle.trees.specs.Tables.{Maybe, just, countAt, stringOf, scalarOf, labelSize, labelAt, memberSize, TreeReader, membersAt, treeFrom, grouped, treeAt}
+use Rattle.trees.specs.Tables.{just, countAt, stringOf, scalarOf, labelSize, labelAt, memberSize, membersAt, treeFrom, grouped, treeAt}
 use Rattle.trees.specs.Sound.{sizeOf, sizesOf}
 
 -- bytes that stand in a buffer at a place

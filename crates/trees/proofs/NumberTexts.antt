@@ -2,25 +2,25 @@
 -- grammar, and the first byte by one test of all below 0x3a.
 -- Assumes nothing.
 use Prim.Native.Nat.{ℕ, _≤_, _<_}
-use mathlib.Core.Bool.{Bool, true, false, _&&_}
+use mathlib.Core.Bool.{Bool, true, false}
 use mathlib.Core.List.{List, [], _∷_, _++_}
 use mathlib.Core.Path.{_≡_, refl, ap, _∙_}
 use native.Mathlib.Omega.{arith}
 use lib.Dec.{leb, eqb, lit≤}
 use borrow.Author.Tests.{eqb-true, leb-true}
 use Rattle.prelude.specs.Pick.{pick}
-use Rattle.prelude.proofs.Cases.{split, and-left, and-right, never}
+use Rattle.prelude.proofs.Cases.{split, and-right, never}
 use Rattle.prelude.proofs.Picks.{pick-case}
 use Rattle.prelude.proofs.Tables.{at-below}
 use Rattle.strings.specs.Read.{opening}
-use Rattle.tokens.specs.declared.starts.Start.{Start}
-use Rattle.tokens.specs.declared.starts.Start.the-variants.{Ended, String, Word, Number, List as ListStart, Dict, Nothing}
+use Rattle.tokens.specs.declared.starts.Start.the-variants.{Number}
 use Rattle.tokens.specs.Blanks.{isSpace}
 use Rattle.tokens.specs.Words.{isLetter, isDigit, runOf}
 use Rattle.tokens.specs.Numbers.{isE, isSign, isNumber, inExp, expDigits, behindE, behindFrac, inFrac, behindPoint, behindInt, inInt, int, numberKind}
-use Rattle.tokens.specs.Starts.{startOf}
+use Rattle.tokens.specs.Starts.{opened, startOf}
 use Rattle.tokens.proofs.Runs.{run-more}
 use Rattle.tokens.proofs.Grammar.{digit-number, sign-number, e-number}
+use Rattle.trees.proofs.Firsts.{solid, begins, unpicked}
 
 -- each byte passes a test
 abbrev pub All : (ℕ → Bool) → List ℕ → Type 0
@@ -117,44 +117,27 @@ number-led x r =
     (pick-case (λ k. (k ≡ 0 → ⊥) → isDigit x ≡ true) (eqb x 0x30) _ _ (λ d h. rw (eqb-true x 0x30 d))
     (λ d. pick-case (λ k. (k ≡ 0 → ⊥) → isDigit x ≡ true) (isDigit x) _ _ (λ g h. g) (λ g h. absurd (h refl)))))
 
--- a byte that begins no blank; and closes no bracket either
-unfoldable pub solid : ℕ → Bool
-solid x = pick (isSpace x) false (pick (eqb x 0x23) false true)
-
-unfoldable pub begins : ℕ → Bool
-begins x = pick (eqb x 0x5d) false (pick (eqb x 0x7d) false (solid x))
-
-abbrev isStart : Start → Bool
-isStart Number = true
-isStart Ended = false
-isStart String = false
-isStart Word = false
-isStart ListStart = false
-isStart Dict = false
-isStart Nothing = false
-
-start-is : (q : Start) → isStart q ≡ true → q ≡ Number
-start-is Number e = refl
-start-is Ended e = never (cc)
-start-is String e = never (cc)
-start-is Word e = never (cc)
-start-is ListStart e = never (cc)
-start-is Dict e = never (cc)
-start-is Nothing e = never (cc)
-
--- what leads a number, whatever follows it
+-- what leads a number, whatever follows it, begins nothing else
 only : List ℕ → ℕ → Bool
-only r x = pick (leads x) (begins x && isStart (startOf (x ∷ r))) true
+only r x = pick (leads x) (pick (opened (opening (x ∷ r))) false (pick (isLetter x) false (begins x))) true
 
 led-below : (x : ℕ) → leads x ≡ true → x < 0x3a
 unfolding pick
 led-below x e =
     split (eqb x 0x2d) (λ d. omega (arith, eqb-true x 0x2d d)) (λ d. omega (arith, leb-true x 0x39 (and-right (leb 0x30 x) _ (rw d at e))))
 
-led-only : (r : List ℕ) (x : ℕ) → leads x ≡ true → begins x && isStart (startOf (x ∷ r)) ≡ true
-unfolding only begins solid isSpace isLetter startOf opening pick
+led-only : (r : List ℕ) (x : ℕ) → leads x ≡ true → pick (opened (opening (x ∷ r))) false (pick (isLetter x) false (begins x)) ≡ true
+unfolding only begins solid isSpace isLetter opening pick
 led-only r x e = rw e at (at-below (only r) 0x3a refl x (led-below x e))
+
+led-start : (x : ℕ) (r : List ℕ) → leads x ≡ true → opened (opening (x ∷ r)) ≡ false → isLetter x ≡ false → startOf (x ∷ r) ≡ Number
+unfolding startOf pick
+led-start x r e a b =
+    rw (a, b) (split (isDigit x) (λ d. rw d) (λ d. rw d (split (eqb x 0x2d) (λ c. rw c) (λ c. never (let z = rw (c, d) at e in cc)))))
 
 pub number-begins : (x : ℕ) (w : List ℕ) → (numberKind (x ∷ w) ≡ 0 → ⊥) → (r : List ℕ) → (begins x ≡ true) × (startOf (x ∷ r) ≡ Number)
 number-begins x w h r =
-    let e = led-only r x (number-led x w h) in (and-left (begins x) _ e, start-is (startOf (x ∷ r)) (and-right (begins x) _ e))
+    let e = number-led x w h in
+    let (a, o) = unpicked (opened (opening (x ∷ r))) _ (led-only r x e) in
+    let (b, c) = unpicked (isLetter x) _ o in
+    (c, led-start x r e a b)

@@ -1,7 +1,7 @@
 -- Whole texts: what is read of one fits the table and the store, so that they mean the tree that the nodes mean, whatever they held before;
 -- a tree's own text is read so, and a tree read from a value's text is the only one that has it.
 -- Assumes nothing.
-use Prim.Native.Nat.{ℕ, zero, suc, _+_, _/_, _≤_}
+use Prim.Native.Nat.{ℕ, _+_, _/_, _≤_}
 use mathlib.Core.List.{List, [], _∷_, _++_, append-nil}
 use mathlib.Core.Path.{_≡_, refl, sym, ap, _∙_}
 use native.Mathlib.Omega.{arith}
@@ -24,8 +24,10 @@ use Rattle.trees.specs.Tables.{just, nodesIn, treeOf}
 use Rattle.trees.specs.Sound.{Sound, sizeOf}
 use Rattle.trees.specs.Claims.{treeIn, textTree, ReadAs, Stops, FrontRead}
 use Rattle.trees.proofs.Fitting.{tree-sound}
-use Rattle.trees.proofs.Meanings.{Stands, Meant}
-use Rattle.trees.proofs.WrittenTrees.{heads-firm, tree-heads, seq-firm, behind, seq-both, tree-back}
+use Rattle.trees.proofs.Meanings.{Meant}
+use Rattle.trees.proofs.Firsts.{heads-firm, seq-firm}
+use Rattle.trees.proofs.WrittenTokens.{behind, seq-both}
+use Rattle.trees.proofs.WrittenTrees.{tree-heads, tree-back}
 use Rattle.trees.proofs.ReadTrees.{Holds, Trees, all-meant}
 
 flat-back : (ns : List Node) (r : List ℕ) → nodesIn (flat ns ++ r) ≡ ns ++ nodesIn r
@@ -110,8 +112,8 @@ front-read t r s h =
     }
 
 -- one text, one reading, one tree
-same-tree : (t u : Tree) (a b : List ℕ) → a ≡ b → FrontRead t a → FrontRead u b → length (render t) ≡ length (render u) → t ≡ u
-same-tree t u a b e x y l =
+same-tree : (t u : Tree) (a b : List ℕ) → a ≡ b → FrontRead t a → FrontRead u b → t ≡ u
+same-tree t u a b e x y =
     let r : got (length (render t)) 0 (x .nodes) (x .bytes) ≡ got (length (render u)) 0 (y .nodes) (y .bytes) =
     sym (x .read) ∙ ap (value depthMax 0 0 0) e ∙ y .read in
     let n : x .nodes ≡ y .nodes = cc in
@@ -120,7 +122,7 @@ same-tree t u a b e x y l =
     cc
 
 pub render-one : (t u : Tree) → Sound t → Sound u → render t ≡ render u → t ≡ u
-render-one t u a b e = same-tree t u (render t ++ []) (render u ++ []) (ap (λ (z : List ℕ). z ++ []) e) (front-read t [] a tt) (front-read u [] b tt) (ap length e)
+render-one t u a b e = same-tree t u (render t ++ []) (render u ++ []) (ap (λ (z : List ℕ). z ++ []) e) (front-read t [] a tt) (front-read u [] b tt)
 
 -- an accepted text
 module _ (s : List ℕ) where
