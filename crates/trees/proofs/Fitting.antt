@@ -30,6 +30,9 @@ use Rattle.trees.proofs.Choosing.{bind-just, need-just}
 abbrev Good : ℕ → ℕ → Maybe Tree → Type 0
 Good d c x = (t : Tree) → x ≡ just t → SoundTo d t × (sizeOf t ≡ c)
 
+just-good : (d : ℕ) (u : Tree) → SoundTo d u → sizeOf u ≡ 1 → Good d 1 (just u)
+just-good d u s z t e = let j : u ≡ t = cc in rw (← j) (s, z)
+
 module _ (text store : List ℕ) (bt : IsBytes text) (bs : IsBytes store) where
   shown-bytes : (q : Shown) (w : List ℕ) → bytesOf text store q ≡ just w → IsBytes w
   shown-bytes (InText place size) w e = let z : take size (drop place text) ≡ w = cc in rw z at (bytes-take size (drop place text) (bytes-drop place text bt))
@@ -44,25 +47,23 @@ module _ (text store : List ℕ) (bt : IsBytes text) (bs : IsBytes store) where
   unfolding numberOf SoundTo sizeOf
   number-good d v h t e =
       let w : List ℕ = take (v .size) (drop (v .place) text) in
-      let (k, q) = need-just (eqb (numberKind w) (v .kind)) _ t (need-just (leb (v .place + v .size) (length text)) _ t e .1) in
-      let z : number w ≡ t = cc in
-      rw (← z) ((λ o. h (sym (eqb-true (numberKind w) (v .kind) k) ∙ o)), refl)
+      let (k, q) = need-just _ _ t (need-just _ _ t e .1) in
+      just-good d (number w) (λ o. h (sym (eqb-true (numberKind w) (v .kind) k) ∙ o)) refl t q
 
   scalar-good : (d : ℕ) (v : Node) → Good d 1 (scalarOf text store v)
   unfolding scalarOf SoundTo sizeOf
   scalar-good d v =
-      pick-case (Good d 1) (eqb (v .kind) 0) (just null) _ (λ a t e. let z : null ≡ t = cc in rw (← z) (tt, refl))
-      (λ a. pick-case (Good d 1) (eqb (v .kind) 1) (just (bool false)) _ (λ b t e. let z : bool false ≡ t = cc in rw (← z) (tt, refl))
-      (λ b. pick-case (Good d 1) (eqb (v .kind) 2) (just (bool true)) _ (λ c t e. let z : bool true ≡ t = cc in rw (← z) (tt, refl))
-      (λ c. pick-case (Good d 1) (eqb (v .kind) 3) (numberOf text v) _ (λ f. number-good d v (eqb-false (v .kind) 0 a))
-      (λ f. pick-case (Good d 1) (eqb (v .kind) 4) (numberOf text v) _ (λ g. number-good d v (eqb-false (v .kind) 0 a))
+      pick-case (Good d 1) (eqb (v .kind) 0) _ _ (λ a. just-good d null tt refl)
+      (λ a. pick-case (Good d 1) (eqb (v .kind) 1) _ _ (λ b. just-good d (bool false) tt refl)
+      (λ b. pick-case (Good d 1) (eqb (v .kind) 2) _ _ (λ c. just-good d (bool true) tt refl)
+      (λ c. pick-case (Good d 1) (eqb (v .kind) 3) _ _ (λ f. number-good d v (eqb-false (v .kind) 0 a))
+      (λ f. pick-case (Good d 1) (eqb (v .kind) 4) _ _ (λ g. number-good d v (eqb-false (v .kind) 0 a))
       (λ g t e. let w = bind-just (stringOf text store v) (λ (w : List ℕ). just (string w)) t e in
-      let z : string (w .value) ≡ t = cc (w .rest) in
-      rw (← z) (string-bytes v (w .value) (w .was), refl))))))
+      just-good d (string (w .value)) (string-bytes v (w .value) (w .was)) refl t (w .rest))))))
 
   leaf-good : (d : ℕ) (v : Node) → Good d (v .count) (leafOf text store v)
   leaf-good d v t e =
-      let (c, q) = need-just (eqb (v .count) 1) _ t e in
+      let (c, q) = need-just _ _ t e in
       let (s, z) = scalar-good d v t q in
       (s, z ∙ sym (eqb-true (v .count) 1 c))
 
@@ -70,7 +71,7 @@ module _ (text store : List ℕ) (bt : IsBytes text) (bs : IsBytes store) where
   unfolding labelAt
   label-sound Items ns k e = tt
   label-sound Pairs [] k e = never (cc)
-  label-sound Pairs (v ∷ ns) k e = string-bytes v k (need-just (eqb (v .count) 1) _ k e .1)
+  label-sound Pairs (v ∷ ns) k e = string-bytes v k (need-just _ _ k e .1)
 
   -- generic in the reader of one member
   module _ (d : ℕ) (b : Sort) (rd : TreeReader) (f : (ns : List Node) → Good d (countAt ns) (rd ns)) where
@@ -78,12 +79,12 @@ module _ (text store : List ℕ) (bt : IsBytes text) (bs : IsBytes store) where
         → SoundMembers d ms × (sizesOf ms ≡ w)
     unfolding membersAt SoundMembers sizesOf
     members-good zero w r ms e =
-        let (z, q) = need-just (eqb w 0) (just none) ms e in
+        let (z, q) = need-just _ _ ms e in
         let j : none ≡ ms = cc in
         rw (← j) (tt, sym (eqb-true w 0 z))
     members-good (suc c) w r ms e =
         let z : ℕ = memberSize b r in
-        let (h, q) = need-just (leb z w) _ ms e in
+        let (h, q) = need-just _ _ ms e in
         let x = bind-just (labelAt b text store r) _ ms q in
         let y = bind-just (rd (drop (labelSize b) r)) _ ms (x .rest) in
         let o = bind-just (membersAt b (labelAt b text store) rd c (w - z) (drop z r)) _ ms (y .rest) in
@@ -97,14 +98,14 @@ module _ (text store : List ℕ) (bt : IsBytes text) (bs : IsBytes store) where
   unfolding treeFrom
   from-good d gr g [] = λ t e. never (cc)
   from-good d gr g (v ∷ r) =
-      pick-case (Good d (v .count)) (eqb (v .kind) 7) (gr Items v r) _ (λ h. g Items v r)
-      (λ h. pick-case (Good d (v .count)) (eqb (v .kind) 8) (gr Pairs v r) _ (λ i. g Pairs v r) (λ i. leaf-good d v))
+      pick-case (Good d (v .count)) (eqb (v .kind) 7) _ _ (λ h. g Items v r)
+      (λ h. pick-case (Good d (v .count)) (eqb (v .kind) 8) _ _ (λ i. g Pairs v r) (λ i. leaf-good d v))
 
   grouped-good : (d : ℕ) (b : Sort) (v : Node) (r : List Node) → Good d (v .count) (grouped d text store b v r)
   unfolding grouped SoundTo sizeOf
   grouped-good zero b v r t e = never (cc)
   grouped-good (suc d) b v r t e =
-      let (s, j) = need-just (ltb 0 (v .count)) _ t e in
+      let (s, j) = need-just _ _ t e in
       let w = bind-just (membersAt b (labelAt b text store) (treeAt d text store) (v .size) (v .count - 1) r) _ t j in
       let z : branch b (w .value) ≡ t = cc (w .rest) in
       let (a, c) = members-good d b (treeAt d text store) (from-good d (grouped d text store) (grouped-good d)) (v .size) (v .count - 1) r (w .value) (w .was) in
@@ -113,6 +114,6 @@ module _ (text store : List ℕ) (bt : IsBytes text) (bs : IsBytes store) where
   pub tree-sound : (r : List Node) (t : Tree) → treeOf r text store ≡ just t → Sound t
   unfolding treeOf
   tree-sound r t e =
-      let (h, q) = need-just (leb (countAt r) nodeMax) _ t e in
-      let (a, c) = from-good depthMax (grouped depthMax text store) (grouped-good depthMax) r t (need-just (leb (countAt r) (length r)) _ t q .1) in
+      let (h, q) = need-just _ _ t e in
+      let (a, c) = from-good depthMax (grouped depthMax text store) (grouped-good depthMax) r t (need-just _ _ t q .1) in
       record { legal = a; few = omega (arith, leb-true (countAt r) nodeMax h) }
