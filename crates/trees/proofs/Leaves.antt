@@ -38,7 +38,7 @@ number-some (x ∷ r) h = omega arith
 
 module _ (text : List ℕ) (m : ℕ) where
   -- strings
-  pub spelt-text : (p c : ℕ) → p + c ≤ length text → Spelt text m (node 5 1 p c) [] (take c (drop p text))
+  spelt-text : (p c : ℕ) → p + c ≤ length text → Spelt text m (node 5 1 p c) [] (take c (drop p text))
   unfolding stringOf shownBy pick
   spelt-text p c h = record { least = lit≤ tt; most = lit≤ tt; alone = refl; means = λ store a. rw (le-leb (p + c) (length text) h) }
 
@@ -107,7 +107,8 @@ module _ (text : List ℕ) (m : ℕ) where
     unfolding number numberAt numberFrom
     number-is h n = go (numberKind (numberOf (drop p text))) h
       where
-        go : (k : ℕ) → (k ≡ 0 → ⊥) → numberRead (legal k (0 + length (numberOf (drop p text)))) p n m (drop p text) ≡ limited (plain k (length (numberOf (drop p text)))) p n m (drop p text)
+        go : (k : ℕ) → (k ≡ 0 → ⊥) → numberRead (legal k (0 + length (numberOf (drop p text)))) p n m (drop p text)
+            ≡ limited (plain k (length (numberOf (drop p text)))) p n m (drop p text)
         go zero h = absurd (h refl)
         go (suc k) h = rw (zero-add (length (numberOf (drop p text))))
 

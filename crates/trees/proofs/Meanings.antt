@@ -84,7 +84,14 @@ module _ (text : List ℕ) where
       let i : (k : ℕ) → k < 5 → v .kind ≡ k → ⊥ = λ k h e. omega (arith, s .least) in
       leaf-meant d m v bs (string w) (s .most) (s .alone) refl
       (λ store a.
-      rw (ne-eqb (v .kind) 0 (i 0 (omega arith)), ne-eqb (v .kind) 1 (i 1 (omega arith)), ne-eqb (v .kind) 2 (i 2 (omega arith)), ne-eqb (v .kind) 3 (i 3 (omega arith)), ne-eqb (v .kind) 4 (i 4 (omega arith)), s .means store a))
+      rw (
+        ne-eqb (v .kind) 0 (i 0 (omega arith)),
+        ne-eqb (v .kind) 1 (i 1 (omega arith)),
+        ne-eqb (v .kind) 2 (i 2 (omega arith)),
+        ne-eqb (v .kind) 3 (i 3 (omega arith)),
+        ne-eqb (v .kind) 4 (i 4 (omega arith)),
+        s .means store a,
+      ))
 
   -- members
   pub item-meant : (d m : ℕ) (ns : List Node) (bs : List ℕ) (t : Tree) → Meant d m ns bs t → MemberMeant Items d m ns bs tt t
@@ -122,7 +129,16 @@ module _ (text : List ℕ) where
         means =
             λ store a after. let z : length (ns ++ os) - length ns ≡ length os = omega arith in
             let s : Stands store m bs = stands-left bs cs a in
-            rw (append-assoc ns os after, x .count (os ++ after), le-leb (length ns) (length (ns ++ os)) (omega arith), x .label store s (os ++ after), x .means store s (os ++ after), z, drop-append-seam ns (os ++ after), y .means store (stands-right bs cs a) after);
+            rw (
+              append-assoc ns os after,
+              x .count (os ++ after),
+              le-leb (length ns) (length (ns ++ os)) (omega arith),
+              x .label store s (os ++ after),
+              x .means store s (os ++ after),
+              z,
+              drop-append-seam ns (os ++ after),
+              y .means store (stands-right bs cs a) after,
+            );
       }
 
   grouped-at : (b : Sort) (d p c w : ℕ) (r : List Node) (store : List ℕ) (ms : Members b) → 0 < w

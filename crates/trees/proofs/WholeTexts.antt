@@ -61,7 +61,7 @@ module _ (s : List ℕ) (t : Tree) (k : Known s t) where
   pub known-tree : textTree s ≡ just t
   known-tree = rw (k .read) (tree-is s (k .nodes) (k .bytes) t (k .meant) (fits .0))
 
-  pub known-read : (table store : List ℕ) → length s ≤ textMax → length (k .nodes) ≤ length table / 4 → length (k .bytes) ≤ length store → ReadAs t s table store
+  known-read : (table store : List ℕ) → length s ≤ textMax → length (k .nodes) ≤ length table / 4 → length (k .bytes) ≤ length store → ReadAs t s table store
   unfolding readOf pick
   known-read table store h i j =
       let e : readOf (length table / 4) (length store) s ≡ got (k .len) (k .tag) (k .nodes) (k .bytes) =

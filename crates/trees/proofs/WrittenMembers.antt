@@ -82,7 +82,7 @@ loop-next close rd p n m (x ∷ r) l u ns bs e = rw e (ap (again (suc l) ns bs) 
 
 module _ (text : List ℕ) where
   -- a member
-  pub record MemberBack (b : Sort) (d : ℕ) (k : Label b) (t : Tree) (p n m : ℕ) : Type 0 where
+  record MemberBack (b : Sort) (d : ℕ) (k : Label b) (t : Tree) (p n m : ℕ) : Type 0 where
     pub nodes : List Node
     pub bytes : List ℕ
     pub read : memberOf b (value d) p n m (drop p text) ≡ got (length (renderLabel b k ++ render t)) 0 nodes bytes
