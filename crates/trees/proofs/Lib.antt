@@ -1,0 +1,13 @@
+pub mod Choosing
+pub mod Fitting
+pub mod Firsts
+pub mod NumberTexts
+pub mod DenotedBytes
+pub mod Meanings
+pub mod Leaves
+pub mod WrittenTokens
+pub mod WrittenMembers
+pub mod WrittenTrees
+pub mod ReadTrees
+pub mod WholeTexts
+pub mod Claims
