@@ -9,11 +9,14 @@ mod lent;
 mod written;
 
 use cases::{bytes, each_case};
+use j8::raw::j8_result;
 use j8::{raw, Json8, Refusal, Table, Value};
 use lent::Lent;
-use written::{done, library, reference, refused, Parts, Write};
+use written::{done, library, reference, refused, Parts};
 
 // --------------------------------------------------------- json8_write.txt
+
+type Write = fn(&Parts, &mut [u8]) -> j8_result;
 
 /// Writes to a patterned room, and compares the answer and the whole buffer.
 fn runs(write: Write, parts: &Parts, room: usize, expected: &Result<Vec<u8>, u32>, what: &str) {

@@ -11,8 +11,6 @@ pub struct Parts {
     pub store: Vec<u8>,
 }
 
-pub type Write = fn(&Parts, &mut [u8]) -> j8_result;
-
 pub fn library(parts: &Parts, out: &mut [u8]) -> j8_result {
     let Parts { table, text, store } = parts;
     // SAFETY: all parts come from slices that don't overlap.
