@@ -454,7 +454,7 @@ j8_nodes j8_json8_read(const uint8_t *text, size_t text_len,
  * text and store are those that the table speaks of: after j8_json8_read the
  * text that was read and the store that it filled. Nothing of the three is
  * written to, and out must not overlap them, so a text can't be written over
- * itself.
+ * itself. table is aligned for uint32_t, and table_len counts its numbers.
  *
  * A settings backup read, and written in its one form:
  *

@@ -255,8 +255,8 @@ fn every_number() {
         let mut judge = |parts: &Parts| {
             let what = format!("case {case}");
             match compare(parts, room, false, &what).0.number {
-                0 => fit += 1,
-                _ => unfit += 1,
+                1 => unfit += 1,
+                _ => fit += 1,
             }
         };
         for at in 0..right.table.len() {
