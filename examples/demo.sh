@@ -21,7 +21,7 @@ echo
 echo "samples/junk-after-quote.j8l: the line with junk behind its closing quote is refused, and the good line before it is kept:"
 target/backup samples/junk-after-quote.j8l 1460
 echo
-echo "samples/settings.json8, a settings backup with comments, trailing commas, unquoted keys and odd bytes; each string with its node and its path:"
+echo "samples/settings.json8, a settings backup with comments, trailing commas, unquoted keys and odd bytes; each string with its node and its path, then the text that is written of it:"
 target/settings samples/settings.json8
 echo
 echo "samples/leading-zero.json8: a number that JSON doesn't have is refused at its place:"

@@ -30,7 +30,8 @@ extern "C" {
  *
  * Reading a string gives 2 to 12 only, writing one gives 12 only. An upload
  * gives 1, 2, 4 to 12, 17 and 18, writing lines gives 1 and 12. Reading JSON8
- * gives 2 and 4 to 16, showing a string of it gives 1.
+ * gives 2 and 4 to 16, writing it gives 1 and 12, showing a string of it
+ * gives 1.
  *
  * Order: 1, then 2 on whole texts, then the leftmost fault in the text, then
  * 12. In an upload the faults and 12 are judged for each line by itself, when
@@ -131,6 +132,19 @@ extern "C" {
 /* Room that always suffices for the store of a JSON8 text of n bytes: decoded
    bytes are never more than the text's. J8_TEXT_MAX suffices for every text. */
 #define J8_STORE_ROOM(n) ((size_t)(n))
+
+/* Room that always suffices to write the table that a JSON8 text of n bytes was
+   read to: twice the text. What grows most just doubles: an unquoted key of one
+   letter and its colon (a: becomes "a":), a " between single quotes, a \u half
+   without its other half (\ud83e becomes \yed\ya0\ybe). */
+#define J8_JSON8_WRITE_ROOM(n) ((size_t)2 * (size_t)(n))
+
+/* Room that always suffices to write any fit table, made by hand too, of n nodes
+   whose strings and numbers have so many bytes in all: six for each node and
+   each byte. A byte counts as often as nodes have it in their range. Ranges may
+   overlap, so the lengths of text and store alone bound nothing; where none do,
+   bytes is at most text_len + store_len. The sum must be at most SIZE_MAX / 6. */
+#define J8_TABLE_WRITE_ROOM(n, bytes) ((size_t)6 * ((size_t)(n) + (size_t)(bytes)))
 
 /*
  * The answer of a call.
@@ -336,6 +350,9 @@ j8_result j8_lines_write(const uint8_t *records, size_t records_len,
  * Node 0 is the value itself. Nothing of the text is copied but the strings
  * with a backslash in them, whose decoded bytes stand in the store one behind
  * the other. So the table is of use only together with its text and store.
+ *
+ * A table is written to a text again in one form: no spaces, no comments, no
+ * trailing commas, every key quoted, numbers as they stand.
  */
 
 /* null */
@@ -429,6 +446,61 @@ typedef struct {
 j8_nodes j8_json8_read(const uint8_t *text, size_t text_len,
                        uint32_t *table, size_t table_len,
                        uint8_t *store, size_t store_len);
+
+/*
+ * Writes a node table as a JSON8 text, in its one form. No NUL is put after the
+ * text.
+ *
+ * text and store are those that the table speaks of: after j8_json8_read the
+ * text that was read and the store that it filled. Nothing of the three is
+ * written to, and out must not overlap them, so a text can't be written over
+ * itself. table is aligned for uint32_t, and table_len counts its numbers.
+ *
+ * A settings backup read, and written in its one form:
+ *
+ *     static uint8_t out[J8_JSON8_WRITE_ROOM(J8_TEXT_MAX)];
+ *     j8_result put;
+ *
+ *     put = j8_json8_write(table, got.nodes * J8_NODE_ROOM, text, text_len,
+ *                          store, got.stored, out, sizeof out);
+ *     if (put.number == 0) {
+ *         save(out, put.length);
+ *     }
+ *
+ * Any table may be handed in, also one that no reader made. Its nodes are as
+ * many as node 0's subtree says, and numbers behind them aren't looked at. It
+ * is fit if
+ *  - these nodes are 1 to J8_NODES_MAX and all inside the table as lent (four
+ *    numbers each);
+ *  - each kind is one of the nine;
+ *  - each subtree is the node and just the subtrees of its children, a leaf's
+ *    is 1, and a list's length is its members, a dict's its pairs;
+ *  - at most J8_DEPTH_MAX lists and dicts stand in each other;
+ *  - each key is a J8_NODE_STRING or J8_NODE_STRING_STORED;
+ *  - each string's range is wholly inside its buffer (an empty one at the very
+ *    end is inside), and so is each number's inside the text, which there is a
+ *    JSON number, without . e E for J8_NODE_INTEGER and with one of them for
+ *    J8_NODE_DECIMAL.
+ * The other places and lengths aren't looked at: both of null, false and true,
+ * the place of a list or dict. A string's range may hold any bytes, and ranges
+ * may overlap. What j8_json8_read filled is always fit.
+ *
+ * A written text of at most J8_TEXT_MAX bytes, read with room enough, gives the
+ * same tree: the same nodes, bytes of strings and texts of numbers, where
+ * J8_NODE_STRING and J8_NODE_STRING_STORED count as one kind; places differ. So
+ * written once more it is the same text. There is no cap on what is written: a
+ * longer text is no fault, but j8_json8_read won't take it.
+ *
+ * For the room there are J8_JSON8_WRITE_ROOM, for a table as it was read, and
+ * J8_TABLE_WRITE_ROOM, for any.
+ *
+ * Refusals, both at place 0: 1 if the table is unfit, then 12 if the text is
+ * longer than out_len. Either leaves out as it was.
+ */
+j8_result j8_json8_write(const uint32_t *table, size_t table_len,
+                         const uint8_t *text, size_t text_len,
+                         const uint8_t *store, size_t store_len,
+                         uint8_t *out, size_t out_len);
 
 /*
  * Shows the string at a node: says where its bytes stand, in the text or in the

@@ -7,11 +7,11 @@ use serde::de::IgnoredAny;
 use serde_json::Value;
 use std::hint::black_box;
 
-const SIZES: [usize; 3] = [1_024, 8_192, 32_768];
+pub const SIZES: [usize; 3] = [1_024, 8_192, 32_768];
 
 /// What a text is made of: its head, its tail, and an entry of each number.
-struct Kind {
-    name: &'static str,
+pub struct Kind {
+    pub name: &'static str,
     head: &'static str,
     tail: &'static str,
     entry: fn(usize) -> String,
@@ -19,7 +19,7 @@ struct Kind {
 
 /// Entries have 32 bytes a node or more, so that the longest text stays within
 /// 1,024 nodes.
-const KINDS: [Kind; 4] = [
+pub const KINDS: [Kind; 4] = [
     Kind {
         name: "settings",
         head: "{\n  \"model\": \"Office 2400\"",
@@ -74,7 +74,7 @@ const KINDS: [Kind; 4] = [
     },
 ];
 
-fn backup(kind: &Kind, size: usize) -> Vec<u8> {
+pub fn backup(kind: &Kind, size: usize) -> Vec<u8> {
     let mut text = kind.head.to_string();
     for number in 0.. {
         let entry = (kind.entry)(number);

@@ -1,7 +1,9 @@
 //! Reading and writing J8 strings, beside serde_json and the reference, the
-//! upload of J8 Lines, and reading JSON8. See the README for what is compared.
+//! upload of J8 Lines, and reading and writing JSON8. See the README for what is
+//! compared.
 
 mod json8;
+mod json8_write;
 mod upload;
 
 use std::hint::black_box;
@@ -191,5 +193,8 @@ fn main() {
     }
     if wants("json8") {
         json8::run(rounds);
+    }
+    if wants("json8_write") {
+        json8_write::run(rounds);
     }
 }

@@ -1,13 +1,17 @@
-// Other readers of JSON in C and C++, for the benchmark alone. Each has a
-// function that reads a text and answers whether it took it, and one that also
-// counts its nodes, keys with them.
+// Other readers and writers of JSON in C and C++, for the benchmark alone. A
+// reader has a function that reads a text and answers whether it took it, or how
+// many nodes it has, keys with them. A writer has functions that make a tree of
+// a text, write it as often as one likes, and free it.
 
 #include <cstddef>
 #include <cstdint>
+#include <cstdlib>
 
 #include <cjson/cJSON.h>
 #define RAPIDJSON_SSE2
 #include <rapidjson/document.h>
+#include <rapidjson/stringbuffer.h>
+#include <rapidjson/writer.h>
 #include <simdjson.h>
 #include <yajl/yajl_parse.h>
 
@@ -43,6 +47,23 @@ std::size_t rapid(const std::uint8_t *text, std::size_t length, bool count)
     return count ? nodes_of(document) : 1;
 }
 
+// The buffer keeps its memory from one text to the next.
+struct RapidTree {
+    rapidjson::Document document;
+    rapidjson::StringBuffer buffer;
+};
+
+template <unsigned flags> const char *rapid_write(void *tree)
+{
+    using rapidjson::UTF8;
+    auto &[document, buffer] = *static_cast<RapidTree *>(tree);
+
+    buffer.Clear();
+    rapidjson::Writer<rapidjson::StringBuffer, UTF8<>, UTF8<>, rapidjson::CrtAllocator, flags>
+        writer(buffer);
+    return document.Accept(writer) ? buffer.GetString() : nullptr;
+}
+
 // ----------------------------------------------------------------- simdjson
 
 std::size_t nodes_of(simdjson::dom::element value)
@@ -74,6 +95,12 @@ std::size_t nodes_of(const cJSON *value, bool key)
     }
     return nodes;
 }
+
+struct CTree {
+    cJSON *root;
+    char *text;
+    int room;
+};
 
 // --------------------------------------------------------------------- yajl
 
@@ -157,6 +184,55 @@ std::size_t peer_yajl(const std::uint8_t *text, std::size_t length, bool)
 
     yajl_free(parser);
     return taken ? nodes : 0;
+}
+
+void *writer_rapidjson_make(const std::uint8_t *text, std::size_t length)
+{
+    RapidTree *tree = new RapidTree;
+
+    tree->document.Parse(reinterpret_cast<const char *>(text), length);
+    return tree;
+}
+
+const char *writer_rapidjson(void *tree)
+{
+    return rapid_write<rapidjson::kWriteDefaultFlags>(tree);
+}
+
+const char *writer_rapidjson_utf8(void *tree)
+{
+    return rapid_write<rapidjson::kWriteValidateEncodingFlag>(tree);
+}
+
+void writer_rapidjson_free(void *tree)
+{
+    delete static_cast<RapidTree *>(tree);
+}
+
+void *writer_cjson_make(const std::uint8_t *text, std::size_t length)
+{
+    cJSON *root = cJSON_ParseWithLength(reinterpret_cast<const char *>(text), length);
+    // It asks for some bytes more than it writes.
+    int room = static_cast<int>(2 * length + 64);
+
+    return new CTree{root, static_cast<char *>(std::malloc(room)), room};
+}
+
+// It is a little faster than cJSON_PrintUnformatted, which allocates.
+const char *writer_cjson(void *tree)
+{
+    CTree *it = static_cast<CTree *>(tree);
+
+    return cJSON_PrintPreallocated(it->root, it->text, it->room, false) ? it->text : nullptr;
+}
+
+void writer_cjson_free(void *tree)
+{
+    CTree *it = static_cast<CTree *>(tree);
+
+    cJSON_Delete(it->root);
+    std::free(it->text);
+    delete it;
 }
 
 } // extern "C"

@@ -1,8 +1,14 @@
-//! JSON8: a text read to a node table, and its strings.
+//! JSON8: a text read to a node table, its strings, and the table written.
 
 use crate::{raw, Refusal, TEXT_MAX};
 use std::fmt;
 use std::iter::FusedIterator;
+
+mod value;
+mod write;
+
+pub use value::{Table, Value};
+pub use write::{write_json8, write_json8_room, write_json8_to_vec};
 
 /// The most nodes of a text, keys with them.
 pub const NODES_MAX: usize = 1_024;

@@ -28,7 +28,8 @@
 //!
 //! JSON8 is JSON with J8 strings, comments, trailing commas and unquoted keys:
 //! [`read_json8`] reads a settings backup to a node table in lent buffers,
-//! [`Json8`] in memory of its own.
+//! [`Json8`] in memory of its own. [`write_json8`] writes a table in its one
+//! form, also a [`Table`] made from a [`Value`].
 
 use std::fmt;
 
@@ -37,8 +38,9 @@ mod lines;
 mod upload;
 
 pub use json8::{
-    read_json8, show_string, Children, Iter, Json8, Kind, Node, Nodes, Pairs, Strings, DEPTH_MAX,
-    NODES_MAX, NODE_ROOM, TABLE_ROOM,
+    read_json8, show_string, write_json8, write_json8_room, write_json8_to_vec, Children, Iter,
+    Json8, Kind, Node, Nodes, Pairs, Strings, Table, Value, DEPTH_MAX, NODES_MAX, NODE_ROOM,
+    TABLE_ROOM,
 };
 pub use lines::{
     push_record, write_lines, write_lines_room, write_lines_to_vec, Record, Records, KIND_BYTES,
@@ -92,7 +94,7 @@ pub mod raw {
     }
 }
 
-/// A lent buffer, state or record is unfit.
+/// A lent buffer, state, record or node table is unfit.
 pub const UNFIT: u32 = 1;
 /// The text is over [`TEXT_MAX`] bytes, or an upload's line over 1,024.
 pub const TOO_LONG: u32 = 2;
@@ -156,7 +158,7 @@ pub struct Refusal {
 impl Refusal {
     fn sentence(&self) -> &'static str {
         match self.number {
-            UNFIT => "a record is cut short, or its kind doesn't fit its payload",
+            UNFIT => "a record or the node table is unfit",
             TOO_LONG => "the text is over 32,768 bytes",
             NO_OPENING => "the text doesn't begin with \" ' u' b'",
             CUT_OFF => "the text ends where more is needed",

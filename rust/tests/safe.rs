@@ -69,9 +69,9 @@ fn vectors_of_their_own() {
 
 #[test]
 fn every_refusal_has_a_sentence() {
-    let sentences: std::collections::BTreeSet<String> = (2..=16)
+    let sentences: std::collections::BTreeSet<String> = (1..=16)
         .map(|number| Refusal { number, place: 0 }.to_string())
         .collect();
-    assert_eq!(sentences.len(), 15);
+    assert_eq!(sentences.len(), 16);
     assert!(sentences.iter().all(|s| !s.contains("no such call")));
 }

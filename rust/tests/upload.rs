@@ -418,7 +418,7 @@ fn lines_are_written() {
     assert_eq!((refusal.number, refusal.place), (j8::UNFIT, 0));
     assert_eq!(
         refusal.to_string(),
-        "refusal 1 at byte 0: a record is cut short, or its kind doesn't fit its payload"
+        "refusal 1 at byte 0: a record or the node table is unfit"
     );
     assert_eq!(j8::write_lines_to_vec(&[0; 4]), Err(refusal));
     assert_eq!(out, [0xaa; 8]);

@@ -1,8 +1,11 @@
-//! JSON8: a text read to a node table and a store, and a string of a table
-//! shown.
+//! JSON8: a text read to a node table and a store, a string of a table shown,
+//! and a table written.
 
 use crate::{decode, opening, refuse, Refusal, Sink, TEXT_MAX};
 use crate::{CUT_OFF, ILL_FORMED, NO_ROOM, TOO_LONG, TRAILING};
+
+mod write;
+pub use write::write;
 
 /// The most nodes of a text, keys with them.
 pub const NODES_MAX: usize = 1_024;

@@ -18,6 +18,7 @@ pub struct Refusal {
     pub place: usize,
 }
 
+const UNFIT: u32 = 1;
 const TOO_LONG: u32 = 2;
 const NO_OPENING: u32 = 3;
 const CUT_OFF: u32 = 4;

@@ -5,7 +5,7 @@
 //! nothing else, so that they can be compared.
 
 use crate::{opening, put_bytes, put_json, read, refuse, Count, Fill, Refusal, Sink};
-use crate::{CONTROL, ILL_FORMED, NO_ROOM, TOO_LONG};
+use crate::{CONTROL, ILL_FORMED, NO_ROOM, TOO_LONG, UNFIT};
 
 /// The longest line, LF not counted, and the least line buffer.
 pub const LINE_MAX: usize = 1_024;
@@ -19,7 +19,6 @@ pub const TEXT: u16 = 1;
 /// The kind of any other payload.
 pub const BYTES: u16 = 2;
 
-const UNFIT: u32 = 1;
 const UPLOAD_LIMIT: u32 = 17;
 const ENDED: u32 = 18;
 

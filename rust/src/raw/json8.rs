@@ -1,5 +1,7 @@
 //! JSON8, as it stands in `include/j8.h`.
 
+use super::j8_result;
+
 /// What reading JSON8 answers: `number` 0 means done with so many `nodes` in
 /// the table and bytes `stored` in the store, otherwise it is a refusal at
 /// `place`.
@@ -42,6 +44,22 @@ extern "C" {
         store_len: usize,
     ) -> j8_nodes;
 
+    /// Writes a node table as a JSON8 text into the lent bytes. Any table will
+    /// do.
+    ///
+    /// # Safety
+    /// As for [`j8_json8_read`], of the four parts.
+    pub fn j8_json8_write(
+        table: *const u32,
+        table_len: usize,
+        text: *const u8,
+        text_len: usize,
+        store: *const u8,
+        store_len: usize,
+        out: *mut u8,
+        out_len: usize,
+    ) -> j8_result;
+
     /// Says where the bytes of a string node stand. Any table will do.
     ///
     /// # Safety
@@ -55,4 +73,23 @@ extern "C" {
         store_len: usize,
         node: usize,
     ) -> j8_shown;
+}
+
+/// [`j8_json8_write`] on slices.
+pub(crate) fn json8_write(table: &[u32], text: &[u8], store: &[u8], out: &mut [u8]) -> j8_result {
+    // SAFETY: all parts come from slices, so they are aligned and good for their
+    // lengths, and the one that is written to overlaps no other. An empty
+    // slice's pointer is not null.
+    unsafe {
+        j8_json8_write(
+            table.as_ptr(),
+            table.len(),
+            text.as_ptr(),
+            text.len(),
+            store.as_ptr(),
+            store.len(),
+            out.as_mut_ptr(),
+            out.len(),
+        )
+    }
 }

@@ -1,0 +1,230 @@
+//! Writing the tables of the reader's settings backups, beside the reference,
+//! serde_json and the C and C++ peers. See the README for what is compared.
+
+use super::json8::{backup, KINDS, SIZES};
+use super::race;
+use serde_json::Value;
+use std::ffi::{c_char, c_void, CStr};
+use std::hint::black_box;
+
+// ------------------------------------------------------------------ peers
+
+type Make = unsafe extern "C" fn(*const u8, usize) -> *mut c_void;
+type Write = unsafe extern "C" fn(*mut c_void) -> *const c_char;
+type Free = unsafe extern "C" fn(*mut c_void);
+
+/// How a peer makes its tree, writes it and frees it.
+type Peer = (Make, Write, Free);
+
+#[cfg(peers)]
+const PEERS: [Peer; 3] = {
+    extern "C" {
+        fn writer_rapidjson_make(text: *const u8, length: usize) -> *mut c_void;
+        fn writer_rapidjson(tree: *mut c_void) -> *const c_char;
+        fn writer_rapidjson_utf8(tree: *mut c_void) -> *const c_char;
+        fn writer_rapidjson_free(tree: *mut c_void);
+        fn writer_cjson_make(text: *const u8, length: usize) -> *mut c_void;
+        fn writer_cjson(tree: *mut c_void) -> *const c_char;
+        fn writer_cjson_free(tree: *mut c_void);
+    }
+    let (make, free): (Make, Free) = (writer_rapidjson_make, writer_rapidjson_free);
+    [
+        (make, writer_rapidjson, free),
+        (make, writer_rapidjson_utf8, free),
+        (writer_cjson_make, writer_cjson, writer_cjson_free),
+    ]
+};
+#[cfg(not(peers))]
+const PEERS: [Peer; 0] = [];
+
+/// A peer's tree of a text.
+struct Tree {
+    tree: *mut c_void,
+    write: Write,
+    free: Free,
+}
+
+impl Tree {
+    fn new((make, write, free): Peer, text: &[u8]) -> Tree {
+        // SAFETY: the text is read only while the tree is made.
+        let tree = unsafe { make(text.as_ptr(), text.len()) };
+        Tree { tree, write, free }
+    }
+
+    /// Writes it; the text stays until the next time.
+    fn write(&mut self) -> *const c_char {
+        // SAFETY: the tree is its maker's.
+        unsafe { (self.write)(self.tree) }
+    }
+
+    fn text(&mut self) -> Vec<u8> {
+        let text = self.write();
+        assert!(!text.is_null());
+        // SAFETY: it is good until the next time, with a NUL behind it.
+        unsafe { CStr::from_ptr(text) }.to_bytes().to_vec()
+    }
+}
+
+impl Drop for Tree {
+    fn drop(&mut self) {
+        // SAFETY: as in `write`, and this is the last time.
+        unsafe { (self.free)(self.tree) }
+    }
+}
+
+// ------------------------------------------------------------------- race
+
+/// What two texts say is the same, but for the last digit of a double: most
+/// readers round by a short way.
+fn same(one: &Value, other: &Value) -> bool {
+    match (one, other) {
+        (Value::Array(a), Value::Array(b)) => {
+            a.len() == b.len() && a.iter().zip(b).all(|(a, b)| same(a, b))
+        }
+        (Value::Object(a), Value::Object(b)) => {
+            let pair = |(key, a)| b.get(key).is_some_and(|b| same(a, b));
+            a.len() == b.len() && a.iter().all(pair)
+        }
+        (Value::Number(a), Value::Number(b)) => match (a.as_f64(), b.as_f64()) {
+            (Some(a), Some(b)) => (a - b).abs() <= a.abs() * 1e-15,
+            _ => false,
+        },
+        _ => one == other,
+    }
+}
+
+/// Ours through the C interface itself.
+fn ours(nodes: j8::Nodes, out: &mut [u8]) -> j8::raw::j8_result {
+    let (table, text, store) = (nodes.table(), nodes.text(), nodes.store());
+    // SAFETY: all parts come from slices that don't overlap.
+    unsafe {
+        j8::raw::j8_json8_write(
+            table.as_ptr(),
+            table.len(),
+            text.as_ptr(),
+            text.len(),
+            store.as_ptr(),
+            store.len(),
+            out.as_mut_ptr(),
+            out.len(),
+        )
+    }
+}
+
+fn reference(nodes: j8::Nodes, out: &mut [u8]) -> usize {
+    let (table, text, store) = (nodes.table(), nodes.text(), nodes.store());
+    j8_reference::json8::write(table, text, store, out).expect("what was read is fit")
+}
+
+struct Row {
+    nodes: usize,
+    /// The bytes that we write.
+    written: usize,
+    /// Ours, ours in exact room, the reference, serde_json, and the peers in
+    /// their order.
+    least: Vec<f64>,
+}
+
+fn write(text: &[u8], rounds: usize) -> Row {
+    let read = j8::Json8::read(text).expect("our reader takes the text");
+    let nodes = read.nodes();
+    let value: Value = serde_json::from_slice(text).expect("the text is JSON");
+    // Six for each node and byte suffice for any table, so nobody has to measure.
+    let room = 6 * (nodes.len() + text.len() + nodes.store().len());
+    let (mut our_out, mut their_out) = (vec![0; room], vec![0; room]);
+    let mut serde_out = Vec::new();
+    let mut trees = PEERS.map(|peer| Tree::new(peer, text));
+
+    // All must write JSON that says the same.
+    let put = ours(nodes, &mut our_out);
+    assert_eq!(put.number, 0);
+    let written = our_out[..put.length].to_vec();
+    let mut exact_out = vec![0; written.len()];
+    assert_eq!(ours(nodes, &mut exact_out), put);
+    assert!(exact_out == written);
+    let length = reference(nodes, &mut their_out);
+    assert!(their_out[..length] == written);
+    serde_json::to_writer(&mut serde_out, &value).expect("a vector takes all");
+    let mut texts = vec![written.clone(), serde_out.clone()];
+    texts.extend(trees.iter_mut().map(Tree::text));
+    for text in &texts {
+        let theirs = serde_json::from_slice(text).expect("what is written is JSON");
+        assert!(same(&value, &theirs), "{}", text.escape_ascii());
+    }
+    // Ours to the letter: read back it is the same tree, numbers as they stood.
+    let back = j8::Json8::read(written.as_slice()).expect("our reader takes what we write");
+    assert!(back.nodes().value(0) == nodes.value(0));
+
+    let mut calls: Vec<Box<dyn FnMut() + '_>> = vec![
+        Box::new(|| {
+            black_box(ours(black_box(nodes), black_box(&mut our_out)));
+        }),
+        Box::new(|| {
+            black_box(ours(black_box(nodes), black_box(&mut exact_out)));
+        }),
+        Box::new(|| {
+            black_box(reference(black_box(nodes), black_box(&mut their_out)));
+        }),
+        Box::new(|| {
+            serde_out.clear();
+            let _ = black_box(serde_json::to_writer(&mut serde_out, black_box(&value)));
+            black_box(&serde_out);
+        }),
+    ];
+    for tree in &mut trees {
+        calls.push(Box::new(move || {
+            black_box(black_box(&mut *tree).write());
+        }));
+    }
+    let mut contestants: Vec<&mut dyn FnMut()> = Vec::new();
+    for call in &mut calls {
+        contestants.push(&mut **call);
+    }
+    Row {
+        nodes: nodes.len(),
+        written: written.len(),
+        least: race(&mut contestants, rounds),
+    }
+}
+
+pub fn run(rounds: usize) {
+    println!();
+    println!("JSON8: the nodes of a settings backup written, us a text, ns a byte of what is written, and how many times as long the others take");
+    println!(
+        "{:<8} {:>7} {:>5}  {:>7} {:>7}  {:>6} {:>6} {:>6} {:>6} {:>6} {:>6}",
+        "text",
+        "written",
+        "nodes",
+        "j8",
+        "a byte",
+        "exact",
+        "ref",
+        "serde",
+        "rapid",
+        "+UTF-8",
+        "cJSON"
+    );
+    for kind in &KINDS {
+        for size in SIZES {
+            let Row {
+                nodes,
+                written,
+                least,
+            } = write(&backup(kind, size), rounds);
+            print!(
+                "{:<8} {written:>7} {nodes:>5}  {:>7.2} {:>7.3} ",
+                kind.name,
+                least[0] / 1000.0,
+                least[0] / written as f64
+            );
+            // One column each, whether the peers are there or not.
+            for column in 1..7 {
+                match least.get(column) {
+                    Some(theirs) => print!(" {:>6.2}", theirs / least[0]),
+                    None => print!(" {:>6}", "-"),
+                }
+            }
+            println!();
+        }
+    }
+}

@@ -1,0 +1,57 @@
+//! What the tests of the JSON8 writer share: the library and the reference as
+//! calls of one shape, and the parts that they are lent.
+
+use j8::raw::{self, j8_result};
+
+/// A table with the text and the store that it speaks of.
+#[derive(Clone, Debug, PartialEq, Eq)]
+pub struct Parts {
+    pub table: Vec<u32>,
+    pub text: Vec<u8>,
+    pub store: Vec<u8>,
+}
+
+pub fn library(parts: &Parts, out: &mut [u8]) -> j8_result {
+    let Parts { table, text, store } = parts;
+    // SAFETY: all parts come from slices that don't overlap.
+    unsafe {
+        raw::j8_json8_write(
+            table.as_ptr(),
+            table.len(),
+            text.as_ptr(),
+            text.len(),
+            store.as_ptr(),
+            store.len(),
+            out.as_mut_ptr(),
+            out.len(),
+        )
+    }
+}
+
+pub fn reference(parts: &Parts, out: &mut [u8]) -> j8_result {
+    let Parts { table, text, store } = parts;
+    match j8_reference::json8::write(table, text, store, out) {
+        Ok(length) => done(length),
+        Err(refusal) => j8_result {
+            number: refusal.number,
+            place: refusal.place,
+            length: 0,
+        },
+    }
+}
+
+pub fn done(length: usize) -> j8_result {
+    j8_result {
+        number: 0,
+        place: 0,
+        length,
+    }
+}
+
+pub fn refused(number: u32) -> j8_result {
+    j8_result {
+        number,
+        place: 0,
+        length: 0,
+    }
+}
