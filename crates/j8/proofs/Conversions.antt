@@ -20,7 +20,9 @@ use Rattle.json8.specs.declared.show.Shown.{Shown}
 use Rattle.json8.specs.declared.show.Shown.the-variants.{InText, InStore, Nowhere}
 use Rattle.json8.specs.declared.answers.Parsed.{Parsed}
 use Rattle.json8.specs.declared.answers.Parsed.the-variants as parsed
-use Rattle.j8.specs.Tables.{nodesResult, shownResult}
+use Rattle.json8_write.specs.declared.answers.WroteTable.{WroteTable}
+use Rattle.json8_write.specs.declared.answers.WroteTable.the-variants as tables
+use Rattle.j8.specs.Tables.{nodesResult, shownResult, tableResult}
 use Rattle.j8.specs.Results.{done, refusal, readResult, writeResult, linesResult}
 
 module _ (d : Decoded) where
@@ -80,3 +82,10 @@ module _ (v w : Parsed) (p : v ≡ w) where
   pub nodes-refused : (number place : ℕ) → v ≡ parsed.Refused number place
       → record { number = number; place = place; nodes = 0; stored = 0 } ≡ nodesResult w
   nodes-refused number place q = ap nodesResult (sym q ∙ p)
+
+module _ (w v : WroteTable) (p : w ≡ v) where
+  pub table-done : (n : ℕ) → w ≡ tables.Wrote n → done n ≡ tableResult v
+  table-done n q = ap tableResult (sym q ∙ p)
+
+  pub table-refused : (number : ℕ) → w ≡ tables.Refused number → refusal number 0 ≡ tableResult v
+  table-refused number q = ap tableResult (sym q ∙ p)

@@ -1,14 +1,19 @@
-// JSON8 through the C interface: a text read to a node table, and a string of a table shown.
+// JSON8 through the C interface: a text read to a node table, a string of a table shown, and a table written.
 ghost use mathlib.Core.Path.{_≡_};
 ghost use Prim.Native.Nat.{_/_};
 ghost use lib.ListN.{length};
 ghost use Rattle.json8.specs.Read.{readOf, parsedOf, tableAfter, storeAfter};
 ghost use Rattle.json8.specs.Show.{shownAt};
-ghost use Rattle.j8.specs.Tables.{nodesResult, shownResult};
+ghost use Rattle.trees.specs.Tables.{nodesIn, treeOf};
+ghost use Rattle.json8_write.specs.Write.{wroteTree, treeInto};
+ghost use Rattle.j8.specs.Tables.{nodesResult, shownResult, tableResult};
+use crate::J8Result;
 use json8::answers::Parsed;
 use json8::read;
 use json8::show;
 use json8::show::Shown;
+use json8_write::answers::WroteTable;
+use json8_write::write;
 
 // `j8_nodes` of the header.
 #[repr(C)]
@@ -72,6 +77,31 @@ pub extern "C" fn j8_json8_show(table: &[u32], text: &[u8], store: &[u8], node: 
         Shown::Nowhere => J8Shown {
             number: 1,
             stored: 0,
+            place: 0,
+            length: 0,
+        },
+    }
+}
+
+#[no_mangle]
+pub extern "C" fn j8_json8_write(
+    table: &[u32],
+    text: &[u8],
+    store: &[u8],
+    out: &mut [u8],
+) -> J8Result
+    ensures answer { λ r. ⌜ r ≡ tableResult (wroteTree (length (now (out .entry))) (treeOf (nodesIn (now (table .entry))) (now (text .entry)) (now (store .entry)))) ⌝ }
+    ensures stored { λ r. ⌜ now (out .exit) ≡ treeInto (treeOf (nodesIn (now (table .entry))) (now (text .entry)) (now (store .entry))) (now (out .entry)) ⌝ }
+{
+    let written = write::write(table, text, store, out);
+    match written {
+        WroteTable::Wrote(n) => J8Result {
+            number: 0,
+            place: 0,
+            length: n,
+        },
+        WroteTable::Refused(number) => J8Result {
+            number,
             place: 0,
             length: 0,
         },
