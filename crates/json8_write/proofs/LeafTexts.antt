@@ -1,17 +1,15 @@
--- The text of a node that holds no other: the tests of the code choose the side of each pick of the definition.
+-- The texts of the parts of a fit table that hold no other values.
 -- Assumes nothing.
-use Prim.Native.Nat.{ℕ, _+_, _-_, _*_, _/_}
-use mathlib.Core.Bool.{Bool, true, false}
-use mathlib.Core.List.{List, [], _∷_}
+use Prim.Native.Nat.{ℕ, _+_, _-_, _*_, _≤_, _<_}
+use mathlib.Core.Bool.{true}
+use mathlib.Core.List.{List, [], _∷_, _++_}
 use mathlib.Core.Path.{_≡_, refl, sym, ap, _∙_}
 use native.Mathlib.Omega.{arith}
-use borrow.Author.Tests.{eq-eqb, ne-eqb, lt-leb, leb-true, leb-false}
+use borrow.Author.Tests.{leb-true, eqb-true, eqb-false}
 use lib.Dec.{leb, eqb}
 use lib.ListN.{length, getD, take, drop}
-use Rattle.prelude.specs.Pick.{pick}
 use Rattle.prelude.proofs.Cases.{split}
-use Rattle.prelude.proofs.Picks.{pick-true, pick-false}
-use Rattle.tokens.specs.Words.{nullWord, falseWord, trueWord}
+use Rattle.prelude.proofs.Picks.{pick-true}
 use Rattle.tokens.specs.Numbers.{numberKind}
 use Rattle.strings.specs.Write.{writeString}
 use Rattle.json8.specs.declared.nodes.Sort.{Sort}
@@ -21,156 +19,95 @@ use Rattle.json8.specs.declared.show.Shown.the-variants.{InText, InStore, Nowhe
 use Rattle.json8.specs.Nodes.{Node}
 use Rattle.json8.specs.Show.{shownAt}
 use Rattle.trees.specs.Trees.{number, string, render}
-use Rattle.trees.specs.Tables.{Maybe, just, unfit, bind, need, nodesIn, countAt, bytesOf, stringOf, numberOf, scalarOf, leafOf, labelAt}
-use Rattle.json8_write.specs.declared.texts.Text.{Text}
-use Rattle.json8_write.specs.declared.texts.Text.the-variants.{Upto, Unfit}
-use Rattle.json8_write.specs.Steps.{nodeAt, Inside, Put, Told, treeText, labelText, stringText, joined}
-use Rattle.json8_write.proofs.Puts.{put-none, upto, none, told-put, told-unfit, told-as, told-then, joined-none}
-use Rattle.json8_write.proofs.TableNodes.{node-there, no-count}
+use Rattle.trees.specs.Tables.{Maybe, just, unfit, bind, nodesIn, countAt, bytesOf, stringOf, numberOf, leafOf, labelAt}
+use Rattle.json8_write.specs.Write.{isFit}
+use Rattle.json8_write.specs.Steps.{nodeAt, Inside, Put, wordText, treeText, stringText, labelText}
+use Rattle.json8_write.proofs.Puts.{put-as, put-none, put-then}
+use Rattle.json8_write.proofs.Choices.{fit-need, false-true, unfit-never, string-is, number-is, leaf-scalar, scalar-word, scalar-number, scalar-string, key-counts, key-inside, key-string}
 
--- a string of a table, by where it is shown
+-- a string, by where it is shown
 module _ (table text store : List ℕ) (i : ℕ) (v : Shown) (h : Inside table i) (e : v ≡ shownAt table (length text) (length store) i) where
-  string-is : stringOf text store (nodeAt i table) ≡ bytesOf text store v
-  unfolding stringOf shownAt
-  string-is = ap (bytesOf text store) (sym (e ∙ pick-false (leb (length table / 4) i) _ _ (lt-leb (length table / 4) i h)))
-
   size-is : (place size : ℕ) → place + size - place ≡ size
   size-is place size = omega arith
 
   module _ {room o r : ℕ} {out new : List ℕ} (place size : ℕ) where
     pub text-string : v ≡ InText place size → Put (writeString (take (place + size - place) (drop place text))) room o r out new
-        → Told (stringText (stringOf text store (nodeAt i table))) room o (Upto r) out new
-    text-string f p = told-put (ap stringText (string-is ∙ ap (bytesOf text store) f)) (rw (size-is place size) at p)
+        → Put (stringText (stringOf text store (nodeAt i table))) room o r out new
+    text-string f p = put-as (ap stringText (string-is table text store i v h e ∙ ap (bytesOf text store) f)) (rw (size-is place size) at p)
 
     pub store-string : v ≡ InStore place size → Put (writeString (take (place + size - place) (drop place store))) room o r out new
-        → Told (stringText (stringOf text store (nodeAt i table))) room o (Upto r) out new
-    store-string f p = told-put (ap stringText (string-is ∙ ap (bytesOf text store) f)) (rw (size-is place size) at p)
+        → Put (stringText (stringOf text store (nodeAt i table))) room o r out new
+    store-string f p = put-as (ap stringText (string-is table text store i v h e ∙ ap (bytesOf text store) f)) (rw (size-is place size) at p)
 
-  pub no-string : {room o : ℕ} {out new : List ℕ} → v ≡ Nowhere → Told (stringText (stringOf text store (nodeAt i table))) room o Unfit out new
-  no-string f = told-unfit (ap stringText (string-is ∙ ap (bytesOf text store) f))
+  pub no-string : {room o : ℕ} {out : List ℕ} → v ≡ Nowhere → Put (stringText (stringOf text store (nodeAt i table))) room o o out out
+  no-string f = put-as (ap stringText (string-is table text store i v h e ∙ ap (bytesOf text store) f)) put-none
 
--- a number
-module _ (table text : List ℕ) (i place size : ℕ) (ep : place ≡ getD table (4 * i + 2) 0) (es : size ≡ getD table (4 * i + 3) 0) (b : Bool) (eb : b ≡ leb (place + size) (length text)) where
-  pub number-outside : {room o : ℕ} {out new : List ℕ} → b ≡ false → Told (treeText (numberOf text (nodeAt i table))) room o Unfit out new
-  unfolding numberOf
-  number-outside f =
-      let e : numberOf text (nodeAt i table) ≡ unfit = rw (sym ep, sym es) (pick-false (leb (place + size) (length text)) _ _ (sym eb ∙ f)) in
-      told-unfit (ap treeText e)
+-- a number that is fit
+module _ (table text : List ℕ) (i place size : ℕ) (ep : place ≡ getD table (4 * i + 2) 0) (es : size ≡ getD table (4 * i + 3) 0) (f : isFit (numberOf text (nodeAt i table)) ≡ true) where
+  parts : (leb (place + size) (length text) ≡ true) × (eqb (numberKind (take size (drop place text))) (getD table (4 * i) 0) ≡ true)
+  parts =
+      let a = fit-need (leb (place + size) (length text)) _ (sym (ap isFit (number-is table text i place size ep es)) ∙ f) in
+      (a .0, fit-need (eqb (numberKind (take size (drop place text))) (getD table (4 * i) 0)) (just (number (take size (drop place text)))) (a .1) .0)
 
-  module _ (g : b ≡ true) (l : Bool) (el : l ≡ eqb (numberKind (take (place + size - place) (drop place text))) (getD table (4 * i) 0)) where
-    size-same : place + size - place ≡ size
-    size-same = omega arith
+  pub number-inside : place + size ≤ length text
+  number-inside = leb-true (place + size) (length text) (parts .0)
 
-    number-is : (m : Bool) → l ≡ m → numberOf text (nodeAt i table) ≡ need m (just (number (take size (drop place text))))
-    unfolding numberOf
-    number-is m f =
-        rw (sym ep, sym es) (pick-true (leb (place + size) (length text)) _ _ (sym eb ∙ g)
-        ∙ ap (λ (x : Bool). need x (just (number (take size (drop place text))))) (sym (rw size-same at el) ∙ f))
+  pub number-put : {room o r : ℕ} {out new : List ℕ} → Put (take size (drop place text)) room o r out new → Put (treeText (numberOf text (nodeAt i table))) room o r out new
+  unfolding render
+  number-put w = put-as (ap treeText (number-is table text i place size ep es ∙ pick-true _ _ _ (parts .0) ∙ pick-true _ _ _ (parts .1))) w
 
-    pub number-illegal : {room o : ℕ} {out new : List ℕ} → l ≡ false → Told (treeText (numberOf text (nodeAt i table))) room o Unfit out new
-    unfolding pick
-    number-illegal f = told-unfit (ap treeText (number-is false f))
+-- a leaf that is fit counts itself alone, and goes by its kind
+module _ (text store : List ℕ) (v : Node) (f : isFit (leafOf text store v) ≡ true) where
+  counts : v .count ≡ 1
+  counts = eqb-true (v .count) 1 (fit-need (eqb (v .count) 1) _ f .0)
 
-    pub number-put : {room o r : ℕ} {out new : List ℕ} → l ≡ true → Put (take size (drop place text)) room o r out new
-        → Told (treeText (numberOf text (nodeAt i table))) room o (Upto r) out new
-    unfolding pick render
-    number-put f p = told-put (ap treeText (number-is true f)) p
+  string-tree : (x : Maybe (List ℕ)) → treeText (bind x (λ bs. just (string bs))) ≡ stringText x
+  unfolding render
+  string-tree (just bs) = refl
+  string-tree unfit = refl
 
--- by count and kind
-module _ (text store : List ℕ) (v : Node) where
-  pub leaf-counts : (v .count ≡ 1 → ⊥) → treeText (leafOf text store v) ≡ unfit
-  leaf-counts h = ap treeText (pick-false (eqb (v .count) 1) _ _ (ne-eqb (v .count) 1 h))
+  module _ {room o r : ℕ} {out new : List ℕ} where
+    pub leaf-string : 4 < v .kind → Put (stringText (stringOf text store v)) room o r out new → Put (treeText (leafOf text store v)) room o r out new
+    leaf-string h w = put-as (ap treeText (leaf-scalar text store v counts ∙ scalar-string text store v (omega arith) (omega arith)) ∙ string-tree (stringOf text store v)) w
 
-  module _ (one : v .count ≡ 1) where
-    scalar-is : leafOf text store v ≡ scalarOf text store v
-    scalar-is = pick-true (eqb (v .count) 1) _ _ (eq-eqb (v .count) 1 one)
+    pub leaf-number : 2 < v .kind → v .kind ≤ 4 → Put (treeText (numberOf text v)) room o r out new → Put (treeText (leafOf text store v)) room o r out new
+    leaf-number h g w = put-as (ap treeText (leaf-scalar text store v counts ∙ scalar-number text store v (omega arith) (omega arith))) w
 
-    pub leaf-null : v .kind ≡ 0 → treeText (leafOf text store v) ≡ just nullWord
-    unfolding scalarOf render
-    leaf-null a = ap treeText (scalar-is ∙ pick-true (eqb (v .kind) 0) _ _ (eq-eqb (v .kind) 0 a))
+    pub leaf-word : v .kind ≤ 2 → Put (wordText (v .kind)) room o r out new → Put (treeText (leafOf text store v)) room o r out new
+    leaf-word h w = put-as (ap treeText (leaf-scalar text store v counts) ∙ scalar-word text store v (omega arith) .1) w
 
-    module _ (not0 : v .kind ≡ 0 → ⊥) where
-      pub leaf-false : v .kind ≡ 1 → treeText (leafOf text store v) ≡ just falseWord
-      unfolding scalarOf render
-      leaf-false a = ap treeText (scalar-is ∙ pick-false _ _ _ (ne-eqb (v .kind) 0 not0) ∙ pick-true _ _ _ (eq-eqb (v .kind) 1 a))
+  pub number-fit : 2 < v .kind → v .kind ≤ 4 → isFit (numberOf text v) ≡ true
+  number-fit h g = sym (ap isFit (leaf-scalar text store v counts ∙ scalar-number text store v (omega arith) (omega arith))) ∙ f
 
-      module _ (not1 : v .kind ≡ 1 → ⊥) where
-        pub leaf-true : v .kind ≡ 2 → treeText (leafOf text store v) ≡ just trueWord
-        unfolding scalarOf render
-        leaf-true a =
-            ap treeText (scalar-is ∙ pick-false _ _ _ (ne-eqb (v .kind) 0 not0) ∙ pick-false _ _ _ (ne-eqb (v .kind) 1 not1) ∙ pick-true _ _ _ (eq-eqb (v .kind) 2 a))
+-- a key that is fit, and its colon
+module _ (table text store : List ℕ) (i : ℕ) (f : isFit (labelAt Pairs text store (drop i (nodesIn table))) ≡ true) where
+  one : countAt (drop i (nodesIn table)) ≡ 1
+  one = split (eqb (countAt (drop i (nodesIn table))) 1) (λ e. eqb-true _ 1 e)
+      (λ e. unfit-never _ (key-counts table text store i _ refl (eqb-false (countAt (drop i (nodesIn table))) 1 e)) f)
 
-        module _ (not2 : v .kind ≡ 2 → ⊥) where
-          pub leaf-whole : v .kind ≡ 3 → treeText (leafOf text store v) ≡ treeText (numberOf text v)
-          unfolding scalarOf
-          leaf-whole a =
-              ap treeText (scalar-is ∙ pick-false _ _ _ (ne-eqb (v .kind) 0 not0) ∙ pick-false _ _ _ (ne-eqb (v .kind) 1 not1) ∙ pick-false _ _ _ (ne-eqb (v .kind) 2 not2)
-              ∙ pick-true _ _ _ (eq-eqb (v .kind) 3 a))
+  pub key-there : Inside table i
+  key-there = key-inside table text store i _ refl one
 
-          module _ (not3 : v .kind ≡ 3 → ⊥) where
-            pub leaf-other : v .kind ≡ 4 → treeText (leafOf text store v) ≡ treeText (numberOf text v)
-            unfolding scalarOf
-            leaf-other a =
-                ap treeText (scalar-is ∙ pick-false _ _ _ (ne-eqb (v .kind) 0 not0) ∙ pick-false _ _ _ (ne-eqb (v .kind) 1 not1) ∙ pick-false _ _ _ (ne-eqb (v .kind) 2 not2)
-                ∙ pick-false _ _ _ (ne-eqb (v .kind) 3 not3) ∙ pick-true _ _ _ (eq-eqb (v .kind) 4 a))
+  colon : (x : Maybe (List ℕ)) → isFit x ≡ true → labelText Pairs x ≡ stringText x ++ (0x3a ∷ [])
+  colon (just bs) e = refl
+  colon unfit e = false-true e
 
-            string-tree : (x : Maybe (List ℕ)) → treeText (bind x (λ bs. just (string bs))) ≡ stringText x
-            unfolding render
-            string-tree (just bs) = refl
-            string-tree unfit = refl
-
-            pub leaf-string : (v .kind ≡ 4 → ⊥) → treeText (leafOf text store v) ≡ stringText (stringOf text store v)
-            unfolding scalarOf
-            leaf-string a =
-                ap treeText (scalar-is ∙ pick-false _ _ _ (ne-eqb (v .kind) 0 not0) ∙ pick-false _ _ _ (ne-eqb (v .kind) 1 not1) ∙ pick-false _ _ _ (ne-eqb (v .kind) 2 not2)
-                ∙ pick-false _ _ _ (ne-eqb (v .kind) 3 not3) ∙ pick-false _ _ _ (ne-eqb (v .kind) 4 a))
-                ∙ string-tree (stringOf text store v)
-
--- a key is a string that counts itself alone, and a colon stands behind it
-key-label : (x : Maybe (List ℕ)) → labelText Pairs x ≡ joined (stringText x) (just (0x3a ∷ []))
-key-label (just bs) = refl
-key-label unfit = refl
-
-module _ (table text store : List ℕ) (i n : ℕ) (en : n ≡ countAt (drop i (nodesIn table))) where
-  abbrev key : Maybe (List ℕ)
-  key = labelText Pairs (labelAt Pairs text store (drop i (nodesIn table)))
-
-  pub key-inside : n ≡ 1 → Inside table i
-  key-inside e =
-      split (leb (length table / 4) i)
-      (λ h. absurd (omega (arith, e, en, no-count i table (leb-true _ _ h))))
-      (λ h. leb-false (length table / 4) i h)
-
-  pub key-counts : (n ≡ 1 → ⊥) → key ≡ unfit
-  unfolding labelAt
-  key-counts h = go (drop i (nodesIn table)) en
-    where
-      go : (r : List Node) → n ≡ countAt r → labelText Pairs (labelAt Pairs text store r) ≡ unfit
-      go [] e = refl
-      go (v ∷ r) e = ap (labelText Pairs) (pick-false (eqb (v .count) 1) (stringOf text store v) unfit (ne-eqb (v .count) 1 (λ z. h (e ∙ z))))
-
-  key-is : n ≡ 1 → key ≡ joined (stringText (stringOf text store (nodeAt i table))) (just (0x3a ∷ []))
-  unfolding labelAt
-  key-is e =
-      let d : drop i (nodesIn table) ≡ nodeAt i table ∷ drop (i + 1) (nodesIn table) = node-there i table (key-inside e) in
-      let c : getD table (4 * i + 1) 0 ≡ 1 = sym (sym (ap countAt (sym d)) ∙ refl) ∙ sym en ∙ e in
-      ap (λ (r : List Node). labelText Pairs (labelAt Pairs text store r)) d
-      ∙ ap (labelText Pairs) (pick-true (eqb (getD table (4 * i + 1) 0) 1) (stringOf text store (nodeAt i table)) unfit (eq-eqb _ 1 c))
-      ∙ key-label (stringOf text store (nodeAt i table))
-
-  module _ (e : n ≡ 1) {room o : ℕ} {q : Text} {out mid : List ℕ} (t : Told (stringText (stringOf text store (nodeAt i table))) room o q out mid) where
-    pub key-unfit : {new : List ℕ} → q ≡ Unfit → Told key room o Unfit out new
-    key-unfit f = told-unfit (key-is e ∙ joined-none (just (0x3a ∷ [])) (none t f))
-
-    pub key-put : (p : ℕ) {r : ℕ} {new : List ℕ} → q ≡ Upto p → Put (0x3a ∷ []) room p r mid new → Told key room o (Upto r) out new
-    key-put p f w = told-as (key-is e) (told-then (upto t f) (told-put refl w))
+  pub key-put : {room o p r : ℕ} {out mid new : List ℕ} → Put (stringText (stringOf text store (nodeAt i table))) room o p out mid → Put (0x3a ∷ []) room p r mid new
+      → Put (labelText Pairs (labelAt Pairs text store (drop i (nodesIn table)))) room o r out new
+  key-put a b =
+      let e = key-string table text store i _ refl one in
+      put-as (ap (labelText Pairs) e ∙ colon (stringOf text store (nodeAt i table)) (sym (ap isFit e) ∙ f)) (put-then a b)
 
 -- what stands before a member
 module _ (b : Sort) (table text store : List ℕ) (i : ℕ) {room o : ℕ} {out : List ℕ} where
-  pub label-items : b ≡ Items → Told (labelText b (labelAt b text store (drop i (nodesIn table)))) room o (Upto o) out out
+  pub label-items : b ≡ Items → Put (labelText b (labelAt b text store (drop i (nodesIn table)))) room o o out out
   unfolding labelAt
-  label-items e = rw e (told-put refl put-none)
+  label-items e = rw e put-none
 
-  pub label-pairs : {r : Text} {new : List ℕ} → b ≡ Pairs → Told (labelText Pairs (labelAt Pairs text store (drop i (nodesIn table)))) room o r out new
-      → Told (labelText b (labelAt b text store (drop i (nodesIn table)))) room o r out new
+  pub label-pairs : {r : ℕ} {new : List ℕ} → b ≡ Pairs → Put (labelText Pairs (labelAt Pairs text store (drop i (nodesIn table)))) room o r out new
+      → Put (labelText b (labelAt b text store (drop i (nodesIn table)))) room o r out new
   label-pairs e t = rw e t
+
+pub key-fit : (b : Sort) (table text store : List ℕ) (i : ℕ) → b ≡ Pairs → isFit (labelAt b text store (drop i (nodesIn table))) ≡ true
+    → isFit (labelAt Pairs text store (drop i (nodesIn table))) ≡ true
+key-fit b table text store i e f = rw e at f

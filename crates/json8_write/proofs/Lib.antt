@@ -1,6 +1,9 @@
 pub mod Puts
 pub mod TableNodes
 pub mod NumberTexts
+pub mod Choices
+pub mod Fitting
 pub mod LeafTexts
 pub mod GroupTexts
 pub mod WholeTables
+pub mod Roominess

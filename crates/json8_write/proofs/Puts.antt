@@ -2,28 +2,26 @@
 -- Assumes nothing.
 use Prim.Native.Nat.{ℕ, _+_, _-_, _≤_, _<_}
 use mathlib.Core.Bool.{Bool, true, false}
-use mathlib.Core.List.{List, [], _∷_, _++_, append-assoc}
+use mathlib.Core.List.{List, [], _∷_, _++_}
 use mathlib.Core.Path.{_≡_, refl, sym, ap, subst, _∙_}
 use native.Mathlib.Nat.{add-zero}
 use native.Mathlib.Omega.{arith}
-use borrow.Author.Tests.{leb-true, leb-false}
+use borrow.Author.Tests.{leb-true, leb-false, eq-eqb, ne-eqb}
 use lib.Dec.{leb}
 use borrow.Rule.Slice.PartMut.{putMid}
 use lib.ListN.{length, take, drop, length-append, length-drop}
 use lib.Seq.{sets, length-take-le}
 use Rattle.prelude.proofs.Cases.{split}
-use Rattle.prelude.proofs.Picks.{pick-case}
+use Rattle.prelude.proofs.Picks.{pick-true, pick-false, pick-case}
 use Rattle.prelude.proofs.Stores.{sets-append, sets-part}
 use Rattle.prelude.specs.Pick.{pick}
 use Rattle.utf8.specs.Utf8.{validUtf8}
 use Rattle.units.specs.declared.styles.Style.the-variants.{Json, Bytes}
 use Rattle.strings.specs.Write.{quoted, writeString, Passed}
 use Rattle.strings.proofs.Writing.{quoted-positive}
+use Rattle.tokens.specs.Words.{nullWord, falseWord, trueWord}
 use Rattle.trees.specs.Trees.{comma}
-use Rattle.trees.specs.Tables.{Maybe, just, unfit}
-use Rattle.json8_write.specs.declared.texts.Text.{Text}
-use Rattle.json8_write.specs.declared.texts.Text.the-variants.{Upto, Unfit}
-use Rattle.json8_write.specs.Steps.{Put, Rendered, ToldBy, Told, joined}
+use Rattle.json8_write.specs.Steps.{Put, wordText}
 
 -- nothing can be put past the room
 pub put-past : {text : List ℕ} {room o : ℕ} {out : List ℕ} → room < o → Put text room o o out out
@@ -108,51 +106,17 @@ put-then {a} {b} {room} {o} {p} {r} {out} {mid} {new} x y =
           (λ e. y .over (let h : room < p = x .over (leb-false (o + length a) room e) in omega arith));
     }
 
--- an answer that was looked at, and one that is given
-pub upto : {want : Maybe (List ℕ)} {room o p : ℕ} {r : Text} {out new : List ℕ} → Told want room o r out new → r ≡ Upto p → Rendered want room o p out new
-upto {want} {room} {o} {p} {r} {out} {new} h e = subst (λ (x : Text). ToldBy want room o x out new) e (h .so)
+-- the word of a kind
+module _ {kind room o r : ℕ} {out new : List ℕ} where
+  pub word-null : kind ≡ 0 → Put nullWord room o r out new → Put (wordText kind) room o r out new
+  unfolding wordText
+  word-null e w = put-as (pick-true _ _ _ (eq-eqb kind 0 e)) w
 
-pub none : {want : Maybe (List ℕ)} {room o : ℕ} {r : Text} {out new : List ℕ} → Told want room o r out new → r ≡ Unfit → want ≡ unfit
-none {want} {room} {o} {r} {out} {new} h e = subst (λ (x : Text). ToldBy want room o x out new) e (h .so)
+  module _ (h : kind ≡ 0 → ⊥) where
+    pub word-false : kind ≡ 1 → Put falseWord room o r out new → Put (wordText kind) room o r out new
+    unfolding wordText
+    word-false e w = put-as (pick-false _ _ _ (ne-eqb kind 0 h) ∙ pick-true _ _ _ (eq-eqb kind 1 e)) w
 
-pub told-put : {want : Maybe (List ℕ)} {text : List ℕ} {room o p : ℕ} {out new : List ℕ} → want ≡ just text → Put text room o p out new
-    → Told want room o (Upto p) out new
-told-put {want} {text} e w = record { so = record { text = text; same = e; put = w } }
-
-pub told-unfit : {want : Maybe (List ℕ)} {room o : ℕ} {out new : List ℕ} → want ≡ unfit → Told want room o Unfit out new
-told-unfit e = record { so = e }
-
--- the same of another text that it equals
-pub told-as : {want this : Maybe (List ℕ)} {room o : ℕ} {r : Text} {out new : List ℕ} → this ≡ want → Told want room o r out new → Told this room o r out new
-told-as {want} {this} {room} {o} {r} {out} {new} e w = subst (λ (x : Maybe (List ℕ)). Told x room o r out new) (sym e) w
-
--- one text behind another
-pub joined-none : {a : Maybe (List ℕ)} (b : Maybe (List ℕ)) → a ≡ unfit → joined a b ≡ unfit
-joined-none b e = rw e
-
-pub joined-just : (x : List ℕ) (y : Maybe (List ℕ)) (z : List ℕ) → y ≡ just z → joined (just x) y ≡ just (x ++ z)
-joined-just x y z e = rw e
-
-joined-unfit : (x : List ℕ) (y : Maybe (List ℕ)) → y ≡ unfit → joined (just x) y ≡ unfit
-joined-unfit x y e = rw e
-
-pub joined-nil : (x : Maybe (List ℕ)) → joined (just []) x ≡ x
-joined-nil (just a) = refl
-joined-nil unfit = refl
-
-pub joined-assoc : (x : List ℕ) (y z : Maybe (List ℕ)) → joined (joined (just x) y) z ≡ joined (just x) (joined y z)
-joined-assoc x (just a) (just b) = ap just (append-assoc x a b)
-joined-assoc x (just a) unfit = refl
-joined-assoc x unfit z = refl
-
-module _ {a : Maybe (List ℕ)} {room o p : ℕ} {out mid : List ℕ} (x : Rendered a room o p out mid) where
-  then-by : (b : Maybe (List ℕ)) (r : Text) (new : List ℕ) → ToldBy b room p r mid new → ToldBy (joined a b) room o r out new
-  then-by b (Upto q) new y = record {
-    text = x .text ++ y .text;
-    same = ap (λ (z : Maybe (List ℕ)). joined z b) (x .same) ∙ joined-just (x .text) b (y .text) (y .same);
-    put = put-then (x .put) (y .put);
-  }
-  then-by b Unfit new y = ap (λ (z : Maybe (List ℕ)). joined z b) (x .same) ∙ joined-unfit (x .text) b y
-
-  pub told-then : {b : Maybe (List ℕ)} {r : Text} {new : List ℕ} → Told b room p r mid new → Told (joined a b) room o r out new
-  told-then {b} {r} {new} y = record { so = then-by b r new (y .so) }
+    pub word-true : (kind ≡ 1 → ⊥) → Put trueWord room o r out new → Put (wordText kind) room o r out new
+    unfolding wordText
+    word-true e w = put-as (pick-false _ _ _ (ne-eqb kind 0 h) ∙ pick-false _ _ _ (ne-eqb kind 1 e)) w

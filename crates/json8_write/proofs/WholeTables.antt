@@ -1,7 +1,7 @@
 -- A whole table: the root's count is judged first; the first pass over an empty part tells whether the text fits, and the second puts it.
 -- Assumes nothing.
-use Prim.Native.Nat.{ℕ, _/_, _≤_, _<_}
-use mathlib.Core.Bool.{true, false}
+use Prim.Native.Nat.{ℕ, _+_, _/_, _≤_, _<_}
+use mathlib.Core.Bool.{Bool, true, false}
 use mathlib.Core.List.{List, _++_}
 use mathlib.Core.Path.{_≡_, refl, sym, ap, _∙_}
 use native.Mathlib.Nat.{zero-add}
@@ -10,54 +10,77 @@ use borrow.Author.Tests.{le-leb, lt-leb, leb-true, leb-false}
 use lib.Dec.{leb}
 use lib.ListN.{length, drop}
 use lib.Seq.{sets}
-use Rattle.prelude.specs.Pick.{pick}
 use Rattle.prelude.proofs.Cases.{split, never}
 use Rattle.prelude.proofs.Picks.{pick-true, pick-false}
 use Rattle.prelude.proofs.Stores.{sets-over, empty-front}
 use Rattle.strings.specs.Write.{wroteInto}
 use Rattle.trees.specs.Trees.{Tree, render}
-use Rattle.trees.specs.Tables.{Maybe, just, unfit, nodesIn, countAt, treeAt, treeOf}
+use Rattle.trees.specs.Tables.{Maybe, just, unfit, need, nodesIn, countAt, treeAt, treeOf}
 use Rattle.json8_write.specs.declared.answers.WroteTable.{WroteTable}
 use Rattle.json8_write.specs.declared.answers.WroteTable.the-variants.{Wrote, Refused}
-use Rattle.json8_write.specs.declared.texts.Text.{Text}
-use Rattle.json8_write.specs.declared.texts.Text.the-variants.{Upto, Unfit}
-use Rattle.json8_write.specs.Steps.{Put, Told, treeText}
+use Rattle.json8_write.specs.Steps.{Put, treeText}
 use Rattle.json8_write.specs.Write.{isFit, wroteTree, treeInto}
-use Rattle.json8_write.proofs.Puts.{upto, none}
+use Rattle.json8_write.proofs.Puts.{put-as}
 use Rattle.json8_write.proofs.TableNodes.{nodes-length}
+use Rattle.json8_write.proofs.Choices.{fit-need, false-true}
 
 -- "1 to 1,024 nodes by the root's count, all inside the table"
 module _ (table text store : List ℕ) (c : ℕ) (ec : c ≡ countAt (drop 0 (nodesIn table))) where
-  abbrev whole : Maybe (List ℕ)
-  whole = treeText (treeOf (nodesIn table) text store)
+  abbrev whole : Maybe Tree
+  whole = treeOf (nodesIn table) text store
 
-  pub whole-many : 1024 < c → whole ≡ unfit
+  pub whole-many : 1024 < c → false ≡ isFit whole
   unfolding treeOf
-  whole-many h = ap treeText (pick-false _ _ _ (lt-leb (countAt (nodesIn table)) 1024 (omega (arith, ec))))
+  whole-many h = sym (ap isFit (pick-false _ _ _ (lt-leb (countAt (nodesIn table)) 1024 (omega (arith, ec)))))
 
   module _ (h : c ≤ 1024) where
-    few : treeOf (nodesIn table) text store ≡ pick (leb (countAt (nodesIn table)) (length (nodesIn table))) (treeAt 32 text store (nodesIn table)) unfit
+    few : whole ≡ need (leb (countAt (nodesIn table)) (length (nodesIn table))) (treeAt 32 text store (nodesIn table))
     unfolding treeOf
     few = pick-true _ _ _ (le-leb (countAt (nodesIn table)) 1024 (omega (arith, ec)))
 
-    pub whole-outside : length table / 4 < c → whole ≡ unfit
-    whole-outside f = ap treeText (few ∙ pick-false _ _ _ (lt-leb (countAt (nodesIn table)) (length (nodesIn table)) (omega (arith, ec, nodes-length table))))
+    pub whole-outside : length table / 4 < c → false ≡ isFit whole
+    whole-outside f =
+        sym (ap isFit (few ∙ pick-false _ _ _ (lt-leb (countAt (nodesIn table)) (length (nodesIn table)) (omega (arith, ec, nodes-length table)))))
 
-    pub whole-is : c ≤ length table / 4 → whole ≡ treeText (treeAt 32 text store (drop 0 (nodesIn table)))
-    whole-is f = ap treeText (few ∙ pick-true _ _ _ (le-leb (countAt (nodesIn table)) (length (nodesIn table)) (omega (arith, ec, nodes-length table))))
+    pub whole-value : {r : Bool} → c ≤ length table / 4 → r ≡ isFit (treeAt 32 text store (drop 0 (nodesIn table))) → r ≡ isFit whole
+    whole-value f e =
+        e ∙ sym (ap isFit (few ∙ pick-true _ _ _ (le-leb (countAt (nodesIn table)) (length (nodesIn table)) (omega (arith, ec, nodes-length table)))))
 
--- a table that has a text is fit
-pub is-fit : (x : Maybe Tree) {room o n : ℕ} {q : Text} {out new : List ℕ} → Told (treeText x) room o q out new → q ≡ Upto n → true ≡ isFit x
-is-fit (just t) w e = refl
-is-fit unfit w e = never (let z : unfit ≡ just (upto w e .text) = upto w e .same in cc)
+-- a table that is fit is its root's value
+module _ (table text store : List ℕ) (f : isFit (treeOf (nodesIn table) text store) ≡ true) where
+  parts : (leb (countAt (nodesIn table)) 1024 ≡ true) × (leb (countAt (nodesIn table)) (length (nodesIn table)) ≡ true)
+  unfolding treeOf
+  parts =
+      let a = fit-need (leb (countAt (nodesIn table)) 1024) _ f in
+      (a .0, fit-need (leb (countAt (nodesIn table)) (length (nodesIn table))) (treeAt 32 text store (nodesIn table)) (a .1) .0)
 
-pub not-fit : (x : Maybe Tree) {room o : ℕ} {q : Text} {out new : List ℕ} → Told (treeText x) room o q out new → q ≡ Unfit → false ≡ isFit x
-not-fit (just t) w e = never (let z : just (render t) ≡ unfit = none w e in cc)
-not-fit unfit w e = refl
+  pub root-count : {c : ℕ} → c ≡ countAt (drop 0 (nodesIn table)) → (c ≤ 1024) × (c ≤ length table / 4)
+  root-count ec = (
+    omega (arith, ec, leb-true (countAt (nodesIn table)) 1024 (parts .0)),
+    omega (arith, ec, nodes-length table, leb-true (countAt (nodesIn table)) (length (nodesIn table)) (parts .1)),
+  )
+
+  root-is : treeOf (nodesIn table) text store ≡ treeAt 32 text store (drop 0 (nodesIn table))
+  unfolding treeOf
+  root-is = pick-true _ _ _ (parts .0) ∙ pick-true _ _ _ (parts .1)
+
+  pub root-room : 0 + countAt (drop 0 (nodesIn table)) ≤ 1024
+  root-room = omega (arith, leb-true (countAt (nodesIn table)) 1024 (parts .0))
+
+  pub root-fit : isFit (treeAt 32 text store (drop 0 (nodesIn table))) ≡ true
+  root-fit = sym (ap isFit root-is) ∙ f
+
+  pub root-put : {room o r : ℕ} {out new : List ℕ} → Put (treeText (treeAt 32 text store (drop 0 (nodesIn table)))) room o r out new
+      → Put (treeText (treeOf (nodesIn table) text store)) room o r out new
+  root-put w = put-as (ap treeText root-is) w
 
 -- what writing answers and leaves
 abbrev Wrote-It : Maybe Tree → List ℕ → WroteTable → List ℕ → Type 0
 Wrote-It x out r new = (r ≡ wroteTree (length out) x) × (new ≡ treeInto x out)
+
+pub wrote-unfit : (x : Maybe Tree) (out : List ℕ) → isFit x ≡ false → Wrote-It x out (Refused 1) out
+wrote-unfit (just t) out e = never (let z : true ≡ false = e in cc)
+wrote-unfit unfit out e = (refl, refl)
 
 full : (t : Tree) (out : List ℕ) → length out < length (render t) → Wrote-It (just t) out (Refused 12) out
 unfolding wroteInto
@@ -71,43 +94,32 @@ stored t out n new h e w =
     let f : leb (length (render t)) (length out) ≡ true = le-leb (length (render t)) (length out) h in
     (ap Wrote e ∙ sym (pick-true _ _ _ f), w ∙ sets-over (render t) out h ∙ sym (pick-true _ _ _ f))
 
+-- one pass that is known to fit
+pub wrote-one : (x : Maybe Tree) (out : List ℕ) (n : ℕ) (new : List ℕ) → isFit x ≡ true → length (treeText x) ≤ length out → Put (treeText x) (length out) 0 n out new
+    → Wrote-It x out (Wrote n) new
+wrote-one unfit out n new f h p = false-true f
+wrote-one (just t) out n new f h p = stored t out n new h (p .fits (omega arith) .0 ∙ zero-add _) (p .fits (omega arith) .1)
+
 -- the first pass over the empty part `l`, and the second over the buffer
-module _ (l l₀ out : List ℕ) (z : length l ≡ 0) (q : Text) where
+module _ (l l₀ out : List ℕ) (z : length l ≡ 0) where
   same : l ++ out ≡ out
   same = empty-front l out z
 
-  pub wrote-unfit : (x : Maybe Tree) → Told (treeText x) (length out) 0 q l₀ l → q ≡ Unfit → Wrote-It x out (Refused 1) (l ++ out)
-  wrote-unfit (just t) w e = never (let y : just (render t) ≡ unfit = none w e in cc)
-  wrote-unfit unfit w e = (refl, same)
-
-  -- the text that was measured is the tree's
-  measured : (t : Tree) (n : ℕ) → Told (treeText (just t)) (length out) 0 q l₀ l → q ≡ Upto n → Put (render t) (length out) 0 n l₀ l
-  measured t n w e =
-      let y : just (render t) ≡ just (upto w e .text) = upto w e .same in
-      let f : upto w e .text ≡ render t = cc in
-      rw f at (upto w e .put)
-
-  pub wrote-full : (x : Maybe Tree) (n : ℕ) → Told (treeText x) (length out) 0 q l₀ l → q ≡ Upto n → length out < n → Wrote-It x out (Refused 12) (l ++ out)
-  wrote-full unfit n w e h = never (let y : unfit ≡ just (upto w e .text) = upto w e .same in cc)
-  wrote-full (just t) n w e h =
-      let p = measured t n w e in
+  pub wrote-full : (x : Maybe Tree) (n : ℕ) → isFit x ≡ true → Put (treeText x) (length out) 0 n l₀ l → length out < n → Wrote-It x out (Refused 12) (l ++ out)
+  wrote-full unfit n f p h = false-true f
+  wrote-full (just t) n f p h =
       let g : length out < length (render t) =
       split (leb (length (render t)) (length out))
-      (λ f. absurd (omega (arith, p .fits (omega (arith, leb-true (length (render t)) (length out) f)) .0, leb-true (length (render t)) (length out) f)))
-      (λ f. leb-false (length (render t)) (length out) f) in
+      (λ e. absurd (omega (arith, p .fits (omega (arith, leb-true (length (render t)) (length out) e)) .0, leb-true (length (render t)) (length out) e)))
+      (λ e. leb-false (length (render t)) (length out) e) in
       (full t out g .0, same ∙ full t out g .1)
 
-  pub wrote-both : (x : Maybe Tree) (n : ℕ) (r : Text) (new : List ℕ) → Told (treeText x) (length out) 0 q l₀ l → q ≡ Upto n → n ≤ length out
-      → Told (treeText x) (length out) 0 r (l ++ out) new → Wrote-It x out (Wrote n) new
-  wrote-both unfit n r new w e h v = never (let y : unfit ≡ just (upto w e .text) = upto w e .same in cc)
-  wrote-both (just t) n Unfit new w e h v = never (let y : just (render t) ≡ unfit = v .so in cc)
-  wrote-both (just t) n (Upto m) new w e h v =
-      let p = measured t n w e in
+  pub wrote-both : (x : Maybe Tree) (n m : ℕ) (new : List ℕ) → isFit x ≡ true → Put (treeText x) (length out) 0 n l₀ l → n ≤ length out
+      → Put (treeText x) (length out) 0 m (l ++ out) new → Wrote-It x out (Wrote n) new
+  wrote-both unfit n m new f p h u = false-true f
+  wrote-both (just t) n m new f p h u =
       let g : length (render t) ≤ length out =
       split (leb (length (render t)) (length out))
-      (λ f. leb-true (length (render t)) (length out) f)
-      (λ f. absurd (omega (arith, p .over (omega (arith, leb-false (length (render t)) (length out) f))))) in
-      let y : just (render t) ≡ just (v .so .text) = v .so .same in
-      let f : v .so .text ≡ render t = cc in
-      let u : Put (render t) (length out) 0 m (l ++ out) new = rw f at (v .so .put) in
+      (λ e. leb-true (length (render t)) (length out) e)
+      (λ e. absurd (omega (arith, p .over (omega (arith, leb-false (length (render t)) (length out) e))))) in
       stored t out n new g (p .fits (omega arith) .0 ∙ zero-add _) (u .fits (omega arith) .1 ∙ ap (λ (k : List ℕ). sets k 0 (render t)) same)

@@ -1,18 +1,20 @@
 -- What the functions of the code promise each other: these speak of the code alone, and no rule cites them.
 -- Assumes nothing.
 use Prim.Native.Nat.{ℕ, _+_, _*_, _/_, _≤_, _<_}
-use mathlib.Core.Bool.{Bool}
-use mathlib.Core.List.{List, _++_}
+use mathlib.Core.Bool.{Bool, _&&_}
+use mathlib.Core.List.{List, [], _++_}
 use mathlib.Core.Path.{_≡_}
-use lib.ListN.{length, getD}
+use lib.Dec.{leb, eqb}
+use lib.ListN.{length, getD, drop}
 use lib.Seq.{sets}
 use Rattle.json8.specs.declared.nodes.Sort.{Sort}
+use Rattle.prelude.specs.Pick.{pick}
+use Rattle.tokens.specs.Words.{nullWord, falseWord, trueWord}
 use Rattle.strings.specs.Write.{writeString}
 use Rattle.json8.specs.Nodes.{Node, node}
-use Rattle.trees.specs.Trees.{Label, Tree, Members, render, renderLabel, renderMembers}
-use Rattle.trees.specs.Tables.{Maybe, just, unfit, bind}
-use Rattle.json8_write.specs.declared.texts.Text.{Text}
-use Rattle.json8_write.specs.declared.texts.Text.the-variants.{Upto, Unfit}
+use Rattle.trees.specs.Trees.{Label, Tree, Members, comma, render, renderLabel, renderMembers}
+use Rattle.trees.specs.Tables.{Maybe, just, unfit, labelSize, memberSize, TreeReader}
+use Rattle.json8_write.specs.Write.{isFit}
 
 -- no buffer is longer
 abbrev pub roomMax : ℕ
@@ -31,36 +33,31 @@ pub record Put (text : List ℕ) (room o r : ℕ) (out new : List ℕ) : Type 0 
   pub fits : o + length text ≤ room → (r ≡ o + length text) × (new ≡ sets out o text)
   pub over : room < o + length text → room < r
 
--- the texts of what a table means, where it means something
-abbrev pub treeText : Maybe Tree → Maybe (List ℕ)
-treeText (just t) = just (render t)
-treeText unfit = unfit
+-- the first member's nodes are among w, and it is fit
+abbrev pub memberFit : (b : Sort) → (List Node → Maybe (Label b)) → TreeReader → ℕ → List Node → Bool
+memberFit b label tree w r = leb (memberSize b r) w && (isFit (label r) && isFit (tree (drop (labelSize b) r)))
 
-abbrev pub labelText : (b : Sort) → Maybe (Label b) → Maybe (List ℕ)
-labelText b (just k) = just (renderLabel b k)
-labelText b unfit = unfit
+-- the word of a kind, 0 to 2
+unfoldable pub wordText : ℕ → List ℕ
+wordText kind = pick (eqb kind 0) nullWord (pick (eqb kind 1) falseWord trueWord)
 
-abbrev pub membersText : {b : Sort} → Bool → Maybe (Members b) → Maybe (List ℕ)
-membersText first (just ms) = just (renderMembers first ms)
-membersText first unfit = unfit
+-- the texts of what a table means; of an unfit one nothing is asked
+abbrev pub treeText : Maybe Tree → List ℕ
+treeText (just t) = render t
+treeText unfit = []
 
-abbrev pub stringText : Maybe (List ℕ) → Maybe (List ℕ)
-stringText (just bs) = just (writeString bs)
-stringText unfit = unfit
+abbrev pub stringText : Maybe (List ℕ) → List ℕ
+stringText (just bs) = writeString bs
+stringText unfit = []
 
--- one text behind another
-abbrev pub joined : Maybe (List ℕ) → Maybe (List ℕ) → Maybe (List ℕ)
-joined a b = bind a (λ x. bind b (λ y. just (x ++ y)))
+abbrev pub labelText : (b : Sort) → Maybe (Label b) → List ℕ
+labelText b (just k) = renderLabel b k
+labelText b unfit = []
 
--- a text was put; or there is none
-pub record Rendered (want : Maybe (List ℕ)) (room o p : ℕ) (out new : List ℕ) : Type 0 where
-  pub text : List ℕ
-  pub same : want ≡ just text
-  pub put : Put text room o p out new
+abbrev pub membersText : {b : Sort} → Bool → Maybe (Members b) → List ℕ
+membersText first (just ms) = renderMembers first ms
+membersText first unfit = []
 
-abbrev pub ToldBy : Maybe (List ℕ) → (room o : ℕ) → Text → (out new : List ℕ) → Type 0
-ToldBy want room o (Upto p) out new = Rendered want room o p out new
-ToldBy want room o Unfit out new = want ≡ unfit
-
-pub record Told (want : Maybe (List ℕ)) (room o : ℕ) (r : Text) (out new : List ℕ) : Type 0 where
-  pub so : ToldBy want room o r out new
+-- a member's comma, key and value
+abbrev pub memberText : (b : Sort) → (List Node → Maybe (Label b)) → TreeReader → Bool → List Node → List ℕ
+memberText b label tree first r = comma first ++ (labelText b (label r) ++ treeText (tree (drop (labelSize b) r)))

@@ -14,9 +14,9 @@ use Rattle.trees.specs.Tables.{Maybe, just, unfit}
 use Rattle.json8_write.specs.declared.answers.WroteTable.{WroteTable}
 use Rattle.json8_write.specs.declared.answers.WroteTable.the-variants.{Wrote, Refused}
 
--- a table is fit if it means a tree
-abbrev pub isFit : Maybe Tree → Bool
-isFit (just t) = true
+-- a table is fit if it means a tree, and so are its parts if they mean something
+abbrev pub isFit : {A : Type 0} → Maybe A → Bool
+isFit (just a) = true
 isFit unfit = false
 
 -- the answer for what a table means, in a room

@@ -9,15 +9,9 @@ ghost use Rattle.strings.specs.Write.{writeString};
 ghost use Rattle.tokens.specs.Words.{nullWord, falseWord, trueWord};
 ghost use Rattle.trees.specs.Trees.{comma, openOf};
 ghost use Rattle.json8.specs.Values.{closeOf};
-ghost use Rattle.json8_write.specs.Steps.{roomMax, Put};
+ghost use Rattle.json8_write.specs.Steps.{roomMax, Put, wordText};
 use json8::nodes::Sort;
 use prelude::slices;
-
-// What a reader of nodes answers: the place behind its text, or that the table is unfit.
-pub enum Text {
-    Upto(usize),
-    Unfit,
-}
 
 // n bytes of s from a place on.
 pub fn put_run(s: &[u8], at: usize, n: usize, room: usize, o: usize, out: &mut [u8]) -> usize
@@ -45,7 +39,7 @@ pub fn put_byte(x: u8, room: usize, o: usize, out: &mut [u8]) -> usize
     o + 1
 }
 
-pub fn put_null(room: usize, o: usize, out: &mut [u8]) -> usize
+fn put_null(room: usize, o: usize, out: &mut [u8]) -> usize
     requires { ⌜ room ≤ roomMax ⌝ }
     ensures { λ r. ⌜ Put nullWord room o r (now (out .entry)) (now (out .exit)) ⌝ }
 {
@@ -53,7 +47,7 @@ pub fn put_null(room: usize, o: usize, out: &mut [u8]) -> usize
     put_run(&word, 0, 4, room, o, out)
 }
 
-pub fn put_false(room: usize, o: usize, out: &mut [u8]) -> usize
+fn put_false(room: usize, o: usize, out: &mut [u8]) -> usize
     requires { ⌜ room ≤ roomMax ⌝ }
     ensures { λ r. ⌜ Put falseWord room o r (now (out .entry)) (now (out .exit)) ⌝ }
 {
@@ -61,12 +55,26 @@ pub fn put_false(room: usize, o: usize, out: &mut [u8]) -> usize
     put_run(&word, 0, 5, room, o, out)
 }
 
-pub fn put_true(room: usize, o: usize, out: &mut [u8]) -> usize
+fn put_true(room: usize, o: usize, out: &mut [u8]) -> usize
     requires { ⌜ room ≤ roomMax ⌝ }
     ensures { λ r. ⌜ Put trueWord room o r (now (out .entry)) (now (out .exit)) ⌝ }
 {
     let word = [0x74u8, 0x72, 0x75, 0x65];
     put_run(&word, 0, 4, room, o, out)
+}
+
+// The word of a kind, 0 to 2.
+pub fn put_word(kind: u32, room: usize, o: usize, out: &mut [u8]) -> usize
+    requires { ⌜ room ≤ roomMax ⌝ }
+    ensures { λ r. ⌜ Put (wordText kind) room o r (now (out .entry)) (now (out .exit)) ⌝ }
+{
+    if kind == 0 {
+        return put_null(room, o, out);
+    }
+    if kind == 1 {
+        return put_false(room, o, out);
+    }
+    put_true(room, o, out)
 }
 
 // A byte string, quoted.

@@ -1,19 +1,17 @@
-// The text of a node: values, lists and dicts call each other, and the brackets that may still be opened fall at each call. Nodes are judged
-// and written in one go, so a pass over no buffer judges and measures a table, and the same pass over a buffer writes it.
-ghost use mathlib.Core.List.{_∷_};
+// The texts of the nodes of a fit table. Values, lists and dicts call each other, and the brackets that may still be opened fall at each
+// call.
+ghost use mathlib.Core.Bool.{true};
 ghost use mathlib.Core.Path.{_≡_};
-ghost use Prim.Native.Nat.{_+_, _/_, _≤_, _<_};
-ghost use lib.Dec.{leb};
+ghost use Prim.Native.Nat.{_+_, _≤_};
 ghost use lib.ListN.{length, drop};
 ghost use Rattle.utf8.specs.Class.{IsTable};
 ghost use Rattle.json8.specs.declared.nodes.Sort.the-variants.{Pairs};
 ghost use Rattle.json8.specs.Nodes.{Node};
-ghost use Rattle.trees.specs.Trees.{comma};
-ghost use Rattle.trees.specs.Tables.{just, need, nodesIn, countAt, stringOf, numberOf, leafOf, labelSize, labelAt, memberSize, treeAt, grouped};
-ghost use Rattle.json8_write.specs.Steps.{roomMax, Told, Inside, nodeAt, treeText, labelText, stringText, joined};
+ghost use Rattle.trees.specs.Tables.{nodesIn, countAt, stringOf, numberOf, leafOf, labelSize, labelAt, memberSize, treeAt, grouped};
+ghost use Rattle.json8_write.specs.Write.{isFit};
+ghost use Rattle.json8_write.specs.Steps.{roomMax, Put, Inside, nodeAt, treeText, stringText, labelText, memberText};
 use crate::nodes;
 use crate::texts;
-use crate::texts::Text;
 use json8::nodes::Sort;
 use json8::show;
 use json8::show::Shown;
@@ -28,35 +26,29 @@ fn string_text(
     room: usize,
     o: usize,
     out: &mut [u8],
-) -> Text
+) -> usize
     requires { ⌜ IsTable (now t) × Inside (now table) i × (room ≤ roomMax) ⌝ }
-    ensures { λ r. ⌜ Told (stringText (stringOf (now (text .entry)) (now (store .entry)) (nodeAt i (now (table .entry))))) room o r (now (out .entry)) (now (out .exit)) ⌝ }
+    ensures { λ r. ⌜ Put (stringText (stringOf (now (text .entry)) (now (store .entry)) (nodeAt i (now (table .entry))))) room o r (now (out .entry)) (now (out .exit)) ⌝ }
 {
     match show::shown_at(table, text.len(), store.len(), i) {
         Shown::InText(place, size) => {
-            Text::Upto(texts::put_string(t, &text[place..place + size], room, o, out))
+            texts::put_string(t, &text[place..place + size], room, o, out)
         }
         Shown::InStore(place, size) => {
-            Text::Upto(texts::put_string(t, &store[place..place + size], room, o, out))
+            texts::put_string(t, &store[place..place + size], room, o, out)
         }
-        Shown::Nowhere => Text::Unfit,
+        Shown::Nowhere => o,
     }
 }
 
 // A number, as it stands in the text.
-fn number_text(table: &[u32], text: &[u8], i: usize, room: usize, o: usize, out: &mut [u8]) -> Text
-    requires { ⌜ Inside (now table) i × (0 < nodeAt i (now table) .kind) × (room ≤ roomMax) ⌝ }
-    ensures { λ r. ⌜ Told (treeText (numberOf (now (text .entry)) (nodeAt i (now (table .entry))))) room o r (now (out .entry)) (now (out .exit)) ⌝ }
+fn number_text(table: &[u32], text: &[u8], i: usize, room: usize, o: usize, out: &mut [u8]) -> usize
+    requires { ⌜ Inside (now table) i × (isFit (numberOf (now text) (nodeAt i (now table))) ≡ true) × (room ≤ roomMax) ⌝ }
+    ensures { λ r. ⌜ Put (treeText (numberOf (now (text .entry)) (nodeAt i (now (table .entry))))) room o r (now (out .entry)) (now (out .exit)) ⌝ }
 {
     let place = nodes::number_in(table, 4 * i + 2);
     let size = nodes::number_in(table, 4 * i + 3);
-    if !show::is_within(place, size, text.len()) {
-        return Text::Unfit;
-    }
-    if !nodes::is_legal(table[4 * i], &text[place..place + size]) {
-        return Text::Unfit;
-    }
-    Text::Upto(texts::put_run(text, place, size, room, o, out))
+    texts::put_run(text, place, size, room, o, out)
 }
 
 // A node that holds no other.
@@ -69,30 +61,35 @@ fn leaf_text(
     room: usize,
     o: usize,
     out: &mut [u8],
-) -> Text
-    requires { ⌜ IsTable (now t) × Inside (now table) i × (room ≤ roomMax) ⌝ }
-    ensures { λ r. ⌜ Told (treeText (leafOf (now (text .entry)) (now (store .entry)) (nodeAt i (now (table .entry))))) room o r (now (out .entry)) (now (out .exit)) ⌝ }
+) -> usize
+    requires { ⌜ IsTable (now t) × Inside (now table) i × (isFit (leafOf (now text) (now store) (nodeAt i (now table))) ≡ true) × (room ≤ roomMax) ⌝ }
+    ensures { λ r. ⌜ Put (treeText (leafOf (now (text .entry)) (now (store .entry)) (nodeAt i (now (table .entry))))) room o r (now (out .entry)) (now (out .exit)) ⌝ }
 {
-    if table[4 * i + 1] != 1 {
-        return Text::Unfit;
-    }
     let kind = table[4 * i];
-    if kind == 0 {
-        return Text::Upto(texts::put_null(room, o, out));
+    if 4 < kind {
+        return string_text(t, table, text, store, i, room, o, out);
     }
-    if kind == 1 {
-        return Text::Upto(texts::put_false(room, o, out));
-    }
-    if kind == 2 {
-        return Text::Upto(texts::put_true(room, o, out));
-    }
-    if kind == 3 {
+    if 2 < kind {
         return number_text(table, text, i, room, o, out);
     }
-    if kind == 4 {
-        return number_text(table, text, i, room, o, out);
-    }
-    string_text(t, table, text, store, i, room, o, out)
+    texts::put_word(kind, room, o, out)
+}
+
+fn key_text(
+    t: &[u8; 256],
+    table: &[u32],
+    text: &[u8],
+    store: &[u8],
+    i: usize,
+    room: usize,
+    o: usize,
+    out: &mut [u8],
+) -> usize
+    requires { ⌜ IsTable (now t) × (isFit (labelAt Pairs (now text) (now store) (drop i (nodesIn (now table)))) ≡ true) × (room ≤ roomMax) ⌝ }
+    ensures { λ r. ⌜ Put (labelText Pairs (labelAt Pairs (now (text .entry)) (now (store .entry)) (drop i (nodesIn (now (table .entry)))))) room o r (now (out .entry)) (now (out .exit)) ⌝ }
+{
+    let p = string_text(t, table, text, store, i, room, o, out);
+    texts::put_byte(0x3a, room, p, out)
 }
 
 // What stands before a member's value: nothing, or its key and a colon.
@@ -106,35 +103,13 @@ fn label_text(
     room: usize,
     o: usize,
     out: &mut [u8],
-) -> Text
-    requires { ⌜ IsTable (now t) × (i ≤ 1024) × (room ≤ roomMax) ⌝ }
-    ensures { λ r. ⌜ Told (labelText sort (labelAt sort (now (text .entry)) (now (store .entry)) (drop i (nodesIn (now (table .entry)))))) room o r (now (out .entry)) (now (out .exit)) ⌝ }
+) -> usize
+    requires { ⌜ IsTable (now t) × (isFit (labelAt sort (now text) (now store) (drop i (nodesIn (now table)))) ≡ true) × (room ≤ roomMax) ⌝ }
+    ensures { λ r. ⌜ Put (labelText sort (labelAt sort (now (text .entry)) (now (store .entry)) (drop i (nodesIn (now (table .entry)))))) room o r (now (out .entry)) (now (out .exit)) ⌝ }
 {
     match sort {
-        Sort::Items => Text::Upto(o),
+        Sort::Items => o,
         Sort::Pairs => key_text(t, table, text, store, i, room, o, out),
-    }
-}
-
-fn key_text(
-    t: &[u8; 256],
-    table: &[u32],
-    text: &[u8],
-    store: &[u8],
-    i: usize,
-    room: usize,
-    o: usize,
-    out: &mut [u8],
-) -> Text
-    requires { ⌜ IsTable (now t) × (i ≤ 1024) × (room ≤ roomMax) ⌝ }
-    ensures { λ r. ⌜ Told (labelText Pairs (labelAt Pairs (now (text .entry)) (now (store .entry)) (drop i (nodesIn (now (table .entry)))))) room o r (now (out .entry)) (now (out .exit)) ⌝ }
-{
-    if nodes::count_at(table, i) != 1 {
-        return Text::Unfit;
-    }
-    match string_text(t, table, text, store, i, room, o, out) {
-        Text::Unfit => Text::Unfit,
-        Text::Upto(p) => Text::Upto(texts::put_byte(0x3a, room, p, out)),
     }
 }
 
@@ -149,13 +124,10 @@ pub fn value_text(
     room: usize,
     o: usize,
     out: &mut [u8],
-) -> Text
-    requires { ⌜ IsTable (now t) × (i + countAt (drop i (nodesIn (now table))) ≤ 1024) × (room ≤ roomMax) ⌝ }
-    ensures { λ r. ⌜ Told (treeText (treeAt left (now (text .entry)) (now (store .entry)) (drop i (nodesIn (now (table .entry)))))) room o r (now (out .entry)) (now (out .exit)) ⌝ }
+) -> usize
+    requires { ⌜ IsTable (now t) × (i + countAt (drop i (nodesIn (now table))) ≤ 1024) × (isFit (treeAt left (now text) (now store) (drop i (nodesIn (now table)))) ≡ true) × (room ≤ roomMax) ⌝ }
+    ensures { λ r. ⌜ Put (treeText (treeAt left (now (text .entry)) (now (store .entry)) (drop i (nodesIn (now (table .entry)))))) room o r (now (out .entry)) (now (out .exit)) ⌝ }
 {
-    if table.len() / 4 <= i {
-        return Text::Unfit;
-    }
     let kind = table[4 * i];
     if kind == 7 {
         return group_text(t, table, text, store, i, left, Sort::Items, room, o, out);
@@ -166,44 +138,36 @@ pub fn value_text(
     leaf_text(t, table, text, store, i, room, o, out)
 }
 
-// A member in w nodes that are left: its comma, its key and its value.
+// A member: its comma, its key and its value.
 fn member_text(
     t: &[u8; 256],
     table: &[u32],
     text: &[u8],
     store: &[u8],
     i: usize,
-    w: usize,
     left: usize,
     sort: Sort,
     first: bool,
     room: usize,
     o: usize,
     out: &mut [u8],
-) -> Text
-    requires { ⌜ IsTable (now t) × (i + w ≤ 1024) × (room ≤ roomMax) ⌝ }
-    ensures { λ r. ⌜ Told (need (leb (memberSize sort (drop i (nodesIn (now (table .entry))))) w) (joined (just (comma first)) (joined (labelText sort (labelAt sort (now (text .entry)) (now (store .entry)) (drop i (nodesIn (now (table .entry)))))) (treeText (treeAt left (now (text .entry)) (now (store .entry)) (drop (labelSize sort) (drop i (nodesIn (now (table .entry)))))))))) room o r (now (out .entry)) (now (out .exit)) ⌝ }
+) -> usize
+    requires { ⌜ IsTable (now t) × (i + memberSize sort (drop i (nodesIn (now table))) ≤ 1024) × (isFit (labelAt sort (now text) (now store) (drop i (nodesIn (now table)))) ≡ true) × (isFit (treeAt left (now text) (now store) (drop (labelSize sort) (drop i (nodesIn (now table))))) ≡ true) × (room ≤ roomMax) ⌝ }
+    ensures { λ r. ⌜ Put (memberText sort (labelAt sort (now (text .entry)) (now (store .entry))) (treeAt left (now (text .entry)) (now (store .entry))) first (drop i (nodesIn (now (table .entry))))) room o r (now (out .entry)) (now (out .exit)) ⌝ }
 {
-    if w < nodes::member_size(table, i, sort) {
-        return Text::Unfit;
-    }
     let p = texts::put_comma(first, room, o, out);
-    match label_text(t, table, text, store, i, sort, room, p, out) {
-        Text::Unfit => Text::Unfit,
-        Text::Upto(q) => {
-            value_text(
-                t,
-                table,
-                text,
-                store,
-                i + nodes::label_size(sort),
-                left,
-                room,
-                q,
-                out,
-            )
-        }
-    }
+    let q = label_text(t, table, text, store, i, sort, room, p, out);
+    value_text(
+        t,
+        table,
+        text,
+        store,
+        i + nodes::label_size(sort),
+        left,
+        room,
+        q,
+        out,
+    )
 }
 
 // A list or a dict.
@@ -218,52 +182,31 @@ fn group_text(
     room: usize,
     o: usize,
     out: &mut [u8],
-) -> Text
-    requires { ⌜ IsTable (now t) × Inside (now table) i × (i + nodeAt i (now table) .count ≤ 1024) × (room ≤ roomMax) ⌝ }
-    ensures { λ r. ⌜ Told (treeText (grouped left (now (text .entry)) (now (store .entry)) sort (nodeAt i (now (table .entry))) (drop (i + 1) (nodesIn (now (table .entry)))))) room o r (now (out .entry)) (now (out .exit)) ⌝ }
+) -> usize
+    requires { ⌜ IsTable (now t) × Inside (now table) i × (i + nodeAt i (now table) .count ≤ 1024) × (isFit (grouped left (now text) (now store) sort (nodeAt i (now table)) (drop (i + 1) (nodesIn (now table)))) ≡ true) × (room ≤ roomMax) ⌝ }
+    ensures { λ r. ⌜ Put (treeText (grouped left (now (text .entry)) (now (store .entry)) sort (nodeAt i (now (table .entry))) (drop (i + 1) (nodesIn (now (table .entry)))))) room o r (now (out .entry)) (now (out .exit)) ⌝ }
 {
-    if left == 0 {
-        return Text::Unfit;
-    }
-    let count = nodes::number_in(table, 4 * i + 1);
-    if count == 0 {
-        return Text::Unfit;
-    }
     let mut members = nodes::number_in(table, 4 * i + 3);
-    let mut w = count - 1;
     let mut at = i + 1;
     let mut first = true;
     let mut p = texts::put_open(sort, room, o, out);
     while 0 < members {
-        match member_text(
+        p = member_text(
             t,
             table,
             text,
             store,
             at,
-            w,
             left - 1,
             sort,
             first,
             room,
             p,
             out,
-        ) {
-            Text::Unfit => {
-                return Text::Unfit;
-            }
-            Text::Upto(q) => {
-                p = q;
-            }
-        }
-        let size = nodes::member_size(table, at, sort);
-        at += size;
-        w -= size;
+        );
+        at += nodes::member_size(table, at, sort);
         members -= 1;
         first = false;
     }
-    if w != 0 {
-        return Text::Unfit;
-    }
-    Text::Upto(texts::put_close(sort, room, p, out))
+    texts::put_close(sort, room, p, out)
 }

@@ -2,8 +2,9 @@
 -- Assumes nothing.
 use Rattle.trees.specs.Trees.{render}
 use Rattle.trees.specs.Tables.{nodesIn}
-use Rattle.trees.specs.Claims.{Written-Table-Reads-Back, Written-Tree-Reads-Back, Fit-Tables-Are-Sound, Read-Table-Is-Fit, Restored-Is-The-Same, Render-Is-Injective}
+use Rattle.trees.specs.Claims.{Written-Table-Reads-Back, Written-Tree-Reads-Back, Fit-Tables-Are-Sound, Read-Table-Is-Fit, Restored-Is-The-Same, Render-Is-Injective, Written-Table-Length}
 use Rattle.trees.proofs.Fitting.{tree-sound}
+use Rattle.trees.proofs.Rooms.{tree-room}
 use Rattle.trees.proofs.WholeTexts.{known-tree, written-known, written-read, front-read, render-one, read-fit, text-sound}
 
 pub written-table-reads-back : Written-Table-Reads-Back
@@ -24,3 +25,6 @@ restored-is-the-same s t b e h =
 
 pub render-is-injective : Render-Is-Injective
 render-is-injective t u a b e = render-one t u a b e
+
+pub written-table-length : Written-Table-Length
+written-table-length r text store t e = tree-room text store r t e

@@ -10,4 +10,5 @@ pub mod WrittenMembers
 pub mod WrittenTrees
 pub mod ReadTrees
 pub mod WholeTexts
+pub mod Rooms
 pub mod Claims

@@ -14,8 +14,9 @@ use Rattle.json8.specs.Nodes.{Node, Read, got, refused}
 use Rattle.json8.specs.Values.{value}
 use Rattle.json8.specs.Read.{depthMax, readAll, readOf, parsedOf, tableAfter, storeAfter}
 use Rattle.trees.specs.Trees.{Tree, render}
-use Rattle.trees.specs.Tables.{Maybe, just, unfit, nodesIn, treeOf}
+use Rattle.trees.specs.Tables.{Maybe, just, unfit, nodesIn, countAt, treeOf}
 use Rattle.trees.specs.Sound.{Sound, sizeOf}
+use Rattle.trees.specs.Rooms.{roomOf}
 
 -- what a table means whose numbers stand in a buffer
 abbrev pub tableTree : List ℕ → List ℕ → List ℕ → Maybe Tree
@@ -84,3 +85,8 @@ Restored-Is-The-Same =
 -- two trees with one text are one
 abbrev pub Render-Is-Injective : Type 0
 Render-Is-Injective = (t u : Tree) → Sound t → Sound u → render t ≡ render u → t ≡ u
+
+-- a table's text is at most six bytes for each node and each byte of a string or number that it holds
+abbrev pub Written-Table-Length : Type 0
+Written-Table-Length =
+    (r : List Node) (text store : List ℕ) (t : Tree) → treeOf r text store ≡ just t → length (render t) ≤ roomOf (countAt r) r

@@ -1,4 +1,5 @@
 pub mod Trees
 pub mod Tables
 pub mod Sound
+pub mod Rooms
 pub mod Claims

@@ -24,13 +24,17 @@ use Rattle.json8_write.proofs.values.leaf_text.Reads as leaf-text-reads
 use Rattle.json8_write.proofs.values.+group_text+member_text+value_text.{statement}
 use Rattle.json8_write.proofs.values.+group_text+member_text+value_text.Tie.{close}
 use denote.Ref.{now}
-use mathlib.Core.Path.{sym, _∙_}
+use mathlib.Core.Path.{sym, ap, _∙_}
 use Prim.Native.Nat.{_+_, _-_, _*_}
 use native.Mathlib.Omega.{arith}
-use borrow.Author.Needs.{needs}
-use Rattle.json8_write.proofs.Puts.{told-unfit, told-as}
+use Rattle.trees.specs.Trees.{Tree}
+use Rattle.trees.specs.Tables.{Maybe}
+use Rattle.json8_write.specs.Write.{isFit}
+use Rattle.json8_write.specs.Steps.{treeText}
+use Rattle.json8_write.proofs.Puts.{put-as}
 use Rattle.json8_write.proofs.TableNodes.{count-there}
-use Rattle.json8_write.proofs.GroupTexts.{value-end, value-list, value-dict, value-leaf, member-long, value-room, member-unlabelled, member-told, groupText, group-deep, group-empty, group-told, Loop, begun, loop-unfit, size-fits, further, loop-left, loop-end}
+use Rattle.json8_write.proofs.Choices.{value-list, value-dict, value-leaf}
+use Rattle.json8_write.proofs.GroupTexts.{value-there, value-room, value-fit, member-put, Loop, groupText, opens, begun, group-put, turn-bound, turn-label, turn-tree, further, ended}
 
 abbrev μ-group-text : Measures 5 group-text-kinds.ps ℕ
 μ-group-text κs a =
@@ -38,7 +42,7 @@ abbrev μ-group-text : Measures 5 group-text-kinds.ps ℕ
 
 abbrev μ-member-text : Measures 5 member-text-kinds.ps ℕ
 μ-member-text κs a =
-    3 * a .1 .1 .1 .1 .1 .1 .0 + 3
+    3 * a .1 .1 .1 .1 .1 .0 + 3
 
 abbrev μ-value-text : Measures 5 value-text-kinds.ps ℕ
 μ-value-text κs a =
@@ -69,96 +73,52 @@ value-text-below t =
     and 5 value-text-kinds.ps (falls 5 value-text-kinds.ps _<_ μ-value-text t) value-text.Pre
 
 abbrev group-text-Inv-loop : group-text-lts.InvT-loop
-group-text-Inv-loop t table text store i left sort room o out₀ count members₀ w₀ at₀ first₀ p₀ out members w at first p =
-    Loop sort table text store (left - 1) room (groupText sort table text store (left - 1) i) p₀ out₀ members w at p first out
+group-text-Inv-loop t table text store i left sort room o out₀ members₀ at₀ first₀ p₀ out members at first p =
+    Loop sort table text store (left - 1) room (groupText sort table text store (left - 1) i) p₀ out₀ members at p first out
 
 abbrev group-text-μ-loop : group-text-lts.MeasureT-loop
-group-text-μ-loop t table text store i left sort room o out₀ count members₀ w₀ at₀ first₀ p₀ out members w at first p =
+group-text-μ-loop t table text store i left sort room o out₀ members₀ at₀ first₀ p₀ out members at first p =
     members
-
-group-text-returns : (t : ℕ) → group-text-lts.Need-returns (number-in-reads.Asked, number-in-reads.Learnt, put-open-reads.Asked, put-open-reads.Learnt, member-text-below t, member-text.Post, member-size-reads.Asked, member-size-reads.Learnt, put-close-reads.Asked, put-close-reads.Learnt) (group-text-at t) group-text.Post group-text-Inv-loop group-text-μ-loop
-group-text-returns t c =
-    told-unfit (group-deep (c .before .before .before .before .before .args .sort) (now (c .before .before .before .before .before .args .table)) (now (c .before .before .before .before .before .args .text)) (now (c .before .before .before .before .before .args .store)) (c .before .before .before .before .before .args .left) (c .before .before .before .before .before .args .i) (c .if1 .taken))
 
 group-text-mul-number-in : (t : ℕ) → group-text-lts.Need-mul-number-in (number-in-reads.Asked, number-in-reads.Learnt, put-open-reads.Asked, put-open-reads.Learnt, member-text-below t, member-text.Post, member-size-reads.Asked, member-size-reads.Learnt, put-close-reads.Asked, put-close-reads.Learnt) (group-text-at t) group-text.Post group-text-Inv-loop group-text-μ-loop
 group-text-mul-number-in t c =
-    omega (arith, c .before .before .before .before .before .pre .1 .1)
+    omega (arith, c .before .before .before .before .pre .1 .1)
 
 group-text-add-number-in : (t : ℕ) → group-text-lts.Need-add-number-in (number-in-reads.Asked, number-in-reads.Learnt, put-open-reads.Asked, put-open-reads.Learnt, member-text-below t, member-text.Post, member-size-reads.Asked, member-size-reads.Learnt, put-close-reads.Asked, put-close-reads.Learnt) (group-text-at t) group-text.Post group-text-Inv-loop group-text-μ-loop
 group-text-add-number-in t c =
-    omega (arith, c .before .before .before .before .before .pre .1 .1)
+    omega (arith, c .before .before .before .before .pre .1 .1)
 
 group-text-number-in-requires : (t : ℕ) → group-text-lts.Need-number-in-requires (number-in-reads.Asked, number-in-reads.Learnt, put-open-reads.Asked, put-open-reads.Learnt, member-text-below t, member-text.Post, member-size-reads.Asked, member-size-reads.Learnt, put-close-reads.Asked, put-close-reads.Learnt) (group-text-at t) group-text.Post group-text-Inv-loop group-text-μ-loop
 group-text-number-in-requires t c κs =
-    omega (arith, c .before .before .before .before .before .pre .1 .1)
-
-group-text-returns-2 : (t : ℕ) → group-text-lts.Need-returns-2 (number-in-reads.Asked, number-in-reads.Learnt, put-open-reads.Asked, put-open-reads.Learnt, member-text-below t, member-text.Post, member-size-reads.Asked, member-size-reads.Learnt, put-close-reads.Asked, put-close-reads.Learnt) (group-text-at t) group-text.Post group-text-Inv-loop group-text-μ-loop
-group-text-returns-2 t c =
-    told-unfit (group-empty (c .before .before .before .before .before .before .before .args .sort) (now (c .before .before .before .before .before .before .before .args .table)) (now (c .before .before .before .before .before .before .before .args .text)) (now (c .before .before .before .before .before .before .before .args .store)) (c .before .before .before .before .before .before .before .args .left) (c .before .before .before .before .before .before .before .args .i) (c .before .before .if1 .left) (sym (c .before .number-in .ensures .0) ∙ c .if2 .taken))
-
-group-text-mul-number-in-2 : (t : ℕ) → group-text-lts.Need-mul-number-in-2 (number-in-reads.Asked, number-in-reads.Learnt, put-open-reads.Asked, put-open-reads.Learnt, member-text-below t, member-text.Post, member-size-reads.Asked, member-size-reads.Learnt, put-close-reads.Asked, put-close-reads.Learnt) (group-text-at t) group-text.Post group-text-Inv-loop group-text-μ-loop
-group-text-mul-number-in-2 t c =
-    omega (arith, c .before .before .before .before .before .before .before .pre .1 .1)
-
-group-text-add-number-in-2 : (t : ℕ) → group-text-lts.Need-add-number-in-2 (number-in-reads.Asked, number-in-reads.Learnt, put-open-reads.Asked, put-open-reads.Learnt, member-text-below t, member-text.Post, member-size-reads.Asked, member-size-reads.Learnt, put-close-reads.Asked, put-close-reads.Learnt) (group-text-at t) group-text.Post group-text-Inv-loop group-text-μ-loop
-group-text-add-number-in-2 t c =
-    omega (arith, c .before .before .before .before .before .before .before .pre .1 .1)
-
-group-text-number-in-requires-2 : (t : ℕ) → group-text-lts.Need-number-in-requires-2 (number-in-reads.Asked, number-in-reads.Learnt, put-open-reads.Asked, put-open-reads.Learnt, member-text-below t, member-text.Post, member-size-reads.Asked, member-size-reads.Learnt, put-close-reads.Asked, put-close-reads.Learnt) (group-text-at t) group-text.Post group-text-Inv-loop group-text-μ-loop
-group-text-number-in-requires-2 t c κs =
-    omega (arith, c .before .before .before .before .before .before .before .pre .1 .1)
-
-group-text-sub-w : (t : ℕ) → group-text-lts.Need-sub-w (number-in-reads.Asked, number-in-reads.Learnt, put-open-reads.Asked, put-open-reads.Learnt, member-text-below t, member-text.Post, member-size-reads.Asked, member-size-reads.Learnt, put-close-reads.Asked, put-close-reads.Learnt) (group-text-at t) group-text.Post group-text-Inv-loop group-text-μ-loop
-group-text-sub-w t c =
-    omega (arith, c .before .if2 .left)
+    omega (arith, c .before .before .before .before .pre .1 .1)
 
 group-text-add-at : (t : ℕ) → group-text-lts.Need-add-at (number-in-reads.Asked, number-in-reads.Learnt, put-open-reads.Asked, put-open-reads.Learnt, member-text-below t, member-text.Post, member-size-reads.Asked, member-size-reads.Learnt, put-close-reads.Asked, put-close-reads.Learnt) (group-text-at t) group-text.Post group-text-Inv-loop group-text-μ-loop
 group-text-add-at t c =
-    omega (arith, c .before .before .before .before .before .before .before .before .pre .1 .2)
+    omega (arith, c .before .before .before .before .before .pre .1 .2)
 
 group-text-put-open-requires : (t : ℕ) → group-text-lts.Need-put-open-requires (number-in-reads.Asked, number-in-reads.Learnt, put-open-reads.Asked, put-open-reads.Learnt, member-text-below t, member-text.Post, member-size-reads.Asked, member-size-reads.Learnt, put-close-reads.Asked, put-close-reads.Learnt) (group-text-at t) group-text.Post group-text-Inv-loop group-text-μ-loop
 group-text-put-open-requires t c κs =
-    c .before .before .before .before .before .before .before .before .before .pre .1 .3
+    c .before .before .before .before .before .before .pre .1 .4
 
 group-text-loop-holds : (t : ℕ) → group-text-lts.Need-loop-holds (number-in-reads.Asked, number-in-reads.Learnt, put-open-reads.Asked, put-open-reads.Learnt, member-text-below t, member-text.Post, member-size-reads.Asked, member-size-reads.Learnt, put-close-reads.Asked, put-close-reads.Learnt) (group-text-at t) group-text.Post group-text-Inv-loop group-text-μ-loop
 group-text-loop-holds t c =
-    begun (c .before .before .before .before .before .before .before .before .before .before .before .before .args .sort) (now (c .before .before .before .before .before .before .before .before .before .before .before .before .args .table)) (now (c .before .before .before .before .before .before .before .before .before .before .before .before .args .text)) (now (c .before .before .before .before .before .before .before .before .before .before .before .before .args .store)) (c .before .before .before .before .before .before .before .before .before .before .before .before .args .left - 1) (c .before .before .before .before .before .before .before .before .before .before .before .before .args .i) _ _ _ (c .before .before .before .before .before .before .number-in .ensures .0) (c .before .before .before .before .number-in2 .ensures .0) (c .before .before .before .before .before .if2 .left) (c .before .before .before .before .before .before .before .before .before .before .before .before .pre .1 .2)
+    begun (c .before .before .before .before .before .before .before .before .before .args .sort) (now (c .before .before .before .before .before .before .before .before .before .args .table)) (now (c .before .before .before .before .before .before .before .before .before .args .text)) (now (c .before .before .before .before .before .before .before .before .before .args .store)) (c .before .before .before .before .before .before .before .before .before .args .left) (c .before .before .before .before .before .before .before .before .before .args .i) (c .before .before .before .before .before .before .before .before .before .pre .1 .3) _ _ _ (c .before .before .before .before .number-in .ensures .0) (c .before .before .before .before .before .before .before .before .before .pre .1 .2)
 
 group-text-sub-member-text : (t : ℕ) → group-text-lts.Need-sub-member-text (number-in-reads.Asked, number-in-reads.Learnt, put-open-reads.Asked, put-open-reads.Learnt, member-text-below t, member-text.Post, member-size-reads.Asked, member-size-reads.Learnt, put-close-reads.Asked, put-close-reads.Learnt) (group-text-at t) group-text.Post group-text-Inv-loop group-text-μ-loop
 group-text-sub-member-text t c =
-    omega (arith, c .before .before .before .before .before .before .before .before .before .if1 .left)
+    omega (arith, opens (c .before .before .before .before .before .before .before .before .before .before .before .args .sort) (now (c .before .before .before .before .before .before .before .before .before .before .before .args .table)) (now (c .before .before .before .before .before .before .before .before .before .before .before .args .text)) (now (c .before .before .before .before .before .before .before .before .before .before .before .args .store)) (c .before .before .before .before .before .before .before .before .before .before .before .args .left) (c .before .before .before .before .before .before .before .before .before .before .before .args .i) (c .before .before .before .before .before .before .before .before .before .before .before .pre .1 .3))
 
 group-text-member-text-requires : (t : ℕ) → group-text-lts.Need-member-text-requires (number-in-reads.Asked, number-in-reads.Learnt, put-open-reads.Asked, put-open-reads.Learnt, member-text-below t, member-text.Post, member-size-reads.Asked, member-size-reads.Learnt, put-close-reads.Asked, put-close-reads.Learnt) (group-text-at t) group-text.Post group-text-Inv-loop group-text-μ-loop
 group-text-member-text-requires t c κs =
-    (omega (arith, c .before .before .before .before .before .before .before .before .before .before .before .before .before .before .before .pre .0, c .before .before .before .before .before .before .before .before .before .before .if1 .left), (c .before .before .before .before .before .before .before .before .before .before .before .before .before .before .before .pre .1 .0, c .before .before .loop .inv .bound, c .before .before .before .before .before .before .before .before .before .before .before .before .before .before .before .pre .1 .3))
-
-group-text-enum-told : (t : ℕ) → group-text-lts.Need-enum-told (number-in-reads.Asked, number-in-reads.Learnt, put-open-reads.Asked, put-open-reads.Learnt, member-text-below t, member-text.Post, member-size-reads.Asked, member-size-reads.Learnt, put-close-reads.Asked, put-close-reads.Learnt) (group-text-at t) group-text.Post group-text-Inv-loop group-text-μ-loop
-group-text-enum-told t c =
-    search needs
-
-group-text-same-length : (t : ℕ) → group-text-lts.Need-same-length (number-in-reads.Asked, number-in-reads.Learnt, put-open-reads.Asked, put-open-reads.Learnt, member-text-below t, member-text.Post, member-size-reads.Asked, member-size-reads.Learnt, put-close-reads.Asked, put-close-reads.Learnt) (group-text-at t) group-text.Post group-text-Inv-loop group-text-μ-loop
-group-text-same-length t c =
-    c .before .before .before .before .member-text .kept .1 .1 .1 .1 .1 .1 .1 .1 .1 .1 .1 .0 ∙ c .before .before .before .before .before .before .before .loop .inv .long ∙ c .before .before .before .before .before .before .before .before .before .before .put-open .kept .1 .1 .1 .0
-
-group-text-returns-3 : (t : ℕ) → group-text-lts.Need-returns-3 (number-in-reads.Asked, number-in-reads.Learnt, put-open-reads.Asked, put-open-reads.Learnt, member-text-below t, member-text.Post, member-size-reads.Asked, member-size-reads.Learnt, put-close-reads.Asked, put-close-reads.Learnt) (group-text-at t) group-text.Post group-text-Inv-loop group-text-μ-loop
-group-text-returns-3 t c =
-    group-told (c .before .before .before .before .before .before .before .before .before .before .before .before .before .before .before .before .before .before .before .before .args .sort) (now (c .before .before .before .before .before .before .before .before .before .before .before .before .before .before .before .before .before .before .before .before .args .table)) (now (c .before .before .before .before .before .before .before .before .before .before .before .before .before .before .before .before .before .before .before .before .args .text)) (now (c .before .before .before .before .before .before .before .before .before .before .before .before .before .before .before .before .before .before .before .before .args .store)) (c .before .before .before .before .before .before .before .before .before .before .before .before .before .before .before .before .before .before .before .before .args .left) (c .before .before .before .before .before .before .before .before .before .before .before .before .before .before .before .before .before .before .before .before .args .i) (c .before .before .before .before .before .before .before .before .before .before .before .before .before .before .before .if1 .left) (λ z. c .before .before .before .before .before .before .before .before .before .before .before .before .before .if2 .left (c .before .before .before .before .before .before .before .before .before .before .before .before .before .before .number-in .ensures .0 ∙ z)) (c .before .before .before .before .before .before .before .before .before .before .put-open .ensures) (told-unfit (loop-unfit (c .before .before .before .before .before .before .before .before .before .before .before .before .before .before .before .before .before .before .before .before .args .sort) (now (c .before .before .before .before .before .before .before .before .before .before .before .before .before .before .before .before .before .before .before .before .args .table)) (now (c .before .before .before .before .before .before .before .before .before .before .before .before .before .before .before .before .before .before .before .before .args .text)) (now (c .before .before .before .before .before .before .before .before .before .before .before .before .before .before .before .before .before .before .before .before .args .store)) (c .before .before .before .before .before .before .before .before .before .before .before .before .before .before .before .before .before .before .before .before .args .left - 1) (c .before .before .before .before .before .before .before .before .before .before .before .before .before .before .before .before .before .before .before .before .args .room) _ _ _ _ _ _ _ _ _ (c .before .before .before .before .before .before .before .loop .inv) (c .before .before .before .before .before .before .loop-test .taken) (c .before .before .before .before .member-text .ensures) (c .enum-told .given .1)))
-
-group-text-enum-known-q : (t : ℕ) → group-text-lts.Need-enum-known-q (number-in-reads.Asked, number-in-reads.Learnt, put-open-reads.Asked, put-open-reads.Learnt, member-text-below t, member-text.Post, member-size-reads.Asked, member-size-reads.Learnt, put-close-reads.Asked, put-close-reads.Learnt) (group-text-at t) group-text.Post group-text-Inv-loop group-text-μ-loop
-group-text-enum-known-q t c =
-    search needs
+    (omega (arith, c .before .before .before .before .before .before .before .before .before .before .before .before .pre .0, opens (c .before .before .before .before .before .before .before .before .before .before .before .before .args .sort) (now (c .before .before .before .before .before .before .before .before .before .before .before .before .args .table)) (now (c .before .before .before .before .before .before .before .before .before .before .before .before .args .text)) (now (c .before .before .before .before .before .before .before .before .before .before .before .before .args .store)) (c .before .before .before .before .before .before .before .before .before .before .before .before .args .left) (c .before .before .before .before .before .before .before .before .before .before .before .before .args .i) (c .before .before .before .before .before .before .before .before .before .before .before .before .pre .1 .3)), (c .before .before .before .before .before .before .before .before .before .before .before .before .pre .1 .0, turn-bound (c .before .before .before .before .before .before .before .before .before .before .before .before .args .sort) (now (c .before .before .before .before .before .before .before .before .before .before .before .before .args .table)) (now (c .before .before .before .before .before .before .before .before .before .before .before .before .args .text)) (now (c .before .before .before .before .before .before .before .before .before .before .before .before .args .store)) ((c .before .before .before .before .before .before .before .before .before .before .before .before .args .left) - 1) (c .before .before .before .before .before .before .before .before .before .before .before .before .args .room) _ _ _ _ _ _ _ _ (c .before .before .loop .inv) (c .before .loop-test .taken), turn-label (c .before .before .before .before .before .before .before .before .before .before .before .before .args .sort) (now (c .before .before .before .before .before .before .before .before .before .before .before .before .args .table)) (now (c .before .before .before .before .before .before .before .before .before .before .before .before .args .text)) (now (c .before .before .before .before .before .before .before .before .before .before .before .before .args .store)) ((c .before .before .before .before .before .before .before .before .before .before .before .before .args .left) - 1) (c .before .before .before .before .before .before .before .before .before .before .before .before .args .room) _ _ _ _ _ _ _ _ (c .before .before .loop .inv) (c .before .loop-test .taken), turn-tree (c .before .before .before .before .before .before .before .before .before .before .before .before .args .sort) (now (c .before .before .before .before .before .before .before .before .before .before .before .before .args .table)) (now (c .before .before .before .before .before .before .before .before .before .before .before .before .args .text)) (now (c .before .before .before .before .before .before .before .before .before .before .before .before .args .store)) ((c .before .before .before .before .before .before .before .before .before .before .before .before .args .left) - 1) (c .before .before .before .before .before .before .before .before .before .before .before .before .args .room) _ _ _ _ _ _ _ _ (c .before .before .loop .inv) (c .before .loop-test .taken), c .before .before .before .before .before .before .before .before .before .before .before .before .pre .1 .4))
 
 group-text-member-size-requires : (t : ℕ) → group-text-lts.Need-member-size-requires (number-in-reads.Asked, number-in-reads.Learnt, put-open-reads.Asked, put-open-reads.Learnt, member-text-below t, member-text.Post, member-size-reads.Asked, member-size-reads.Learnt, put-close-reads.Asked, put-close-reads.Learnt) (group-text-at t) group-text.Post group-text-Inv-loop group-text-μ-loop
 group-text-member-size-requires t c κs =
-    omega (arith, c .before .before .before .before .before .before .before .before .loop .inv .bound)
+    omega (arith, turn-bound (c .before .before .before .before .before .before .before .before .before .before .before .before .before .before .before .args .sort) (now (c .before .before .before .before .before .before .before .before .before .before .before .before .before .before .before .args .table)) (now (c .before .before .before .before .before .before .before .before .before .before .before .before .before .before .before .args .text)) (now (c .before .before .before .before .before .before .before .before .before .before .before .before .before .before .before .args .store)) ((c .before .before .before .before .before .before .before .before .before .before .before .before .before .before .before .args .left) - 1) (c .before .before .before .before .before .before .before .before .before .before .before .before .before .before .before .args .room) _ _ _ _ _ _ _ _ (c .before .before .before .before .before .loop .inv) (c .before .before .before .before .loop-test .taken))
 
 group-text-add-at-2 : (t : ℕ) → group-text-lts.Need-add-at-2 (number-in-reads.Asked, number-in-reads.Learnt, put-open-reads.Asked, put-open-reads.Learnt, member-text-below t, member-text.Post, member-size-reads.Asked, member-size-reads.Learnt, put-close-reads.Asked, put-close-reads.Learnt) (group-text-at t) group-text.Post group-text-Inv-loop group-text-μ-loop
 group-text-add-at-2 t c =
-    omega (arith, c .before .before .before .before .before .before .before .before .before .loop .inv .bound, size-fits (c .before .before .before .before .before .before .before .before .before .before .before .before .before .before .before .before .before .before .before .before .before .before .args .sort) (now (c .before .before .before .before .before .before .before .before .before .before .before .before .before .before .before .before .before .before .before .before .before .before .args .table)) (now (c .before .before .before .before .before .before .before .before .before .before .before .before .before .before .before .before .before .before .before .before .before .before .args .text)) (now (c .before .before .before .before .before .before .before .before .before .before .before .before .before .before .before .before .before .before .before .before .before .before .args .store)) (c .before .before .before .before .before .before .before .before .before .before .before .before .before .before .before .before .before .before .before .before .before .before .args .left - 1) (c .before .before .before .before .before .before .before .before .before .before .before .before .before .before .before .before .before .before .before .before .before .before .args .room) _ _ _ _ _ _ _ _ _ (c .before .before .before .before .before .before .before .before .before .loop .inv) (c .before .before .before .before .before .before .before .before .loop-test .taken) (c .before .before .before .before .before .before .member-text .ensures) _ _ (c .before .before .q .given .1) (c .member-size .ensures .0))
-
-group-text-sub-w-2 : (t : ℕ) → group-text-lts.Need-sub-w-2 (number-in-reads.Asked, number-in-reads.Learnt, put-open-reads.Asked, put-open-reads.Learnt, member-text-below t, member-text.Post, member-size-reads.Asked, member-size-reads.Learnt, put-close-reads.Asked, put-close-reads.Learnt) (group-text-at t) group-text.Post group-text-Inv-loop group-text-μ-loop
-group-text-sub-w-2 t c =
-    size-fits (c .before .before .before .before .before .before .before .before .before .before .before .before .before .before .before .before .before .before .before .before .before .before .args .sort) (now (c .before .before .before .before .before .before .before .before .before .before .before .before .before .before .before .before .before .before .before .before .before .before .args .table)) (now (c .before .before .before .before .before .before .before .before .before .before .before .before .before .before .before .before .before .before .before .before .before .before .args .text)) (now (c .before .before .before .before .before .before .before .before .before .before .before .before .before .before .before .before .before .before .before .before .before .before .args .store)) (c .before .before .before .before .before .before .before .before .before .before .before .before .before .before .before .before .before .before .before .before .before .before .args .left - 1) (c .before .before .before .before .before .before .before .before .before .before .before .before .before .before .before .before .before .before .before .before .before .before .args .room) _ _ _ _ _ _ _ _ _ (c .before .before .before .before .before .before .before .before .before .loop .inv) (c .before .before .before .before .before .before .before .before .loop-test .taken) (c .before .before .before .before .before .before .member-text .ensures) _ _ (c .before .before .q .given .1) (c .member-size .ensures .0)
+    omega (arith, c .member-size .ensures .1, turn-bound (c .before .before .before .before .before .before .before .before .before .before .before .before .before .before .before .before .args .sort) (now (c .before .before .before .before .before .before .before .before .before .before .before .before .before .before .before .before .args .table)) (now (c .before .before .before .before .before .before .before .before .before .before .before .before .before .before .before .before .args .text)) (now (c .before .before .before .before .before .before .before .before .before .before .before .before .before .before .before .before .args .store)) ((c .before .before .before .before .before .before .before .before .before .before .before .before .before .before .before .before .args .left) - 1) (c .before .before .before .before .before .before .before .before .before .before .before .before .before .before .before .before .args .room) _ _ _ _ _ _ _ _ (c .before .before .before .before .before .before .loop .inv) (c .before .before .before .before .before .loop-test .taken))
 
 group-text-sub-members : (t : ℕ) → group-text-lts.Need-sub-members (number-in-reads.Asked, number-in-reads.Learnt, put-open-reads.Asked, put-open-reads.Learnt, member-text-below t, member-text.Post, member-size-reads.Asked, member-size-reads.Learnt, put-close-reads.Asked, put-close-reads.Learnt) (group-text-at t) group-text.Post group-text-Inv-loop group-text-μ-loop
 group-text-sub-members t c =
@@ -170,131 +130,95 @@ group-text-loop-less t c =
 
 group-text-loop-again : (t : ℕ) → group-text-lts.Need-loop-again (number-in-reads.Asked, number-in-reads.Learnt, put-open-reads.Asked, put-open-reads.Learnt, member-text-below t, member-text.Post, member-size-reads.Asked, member-size-reads.Learnt, put-close-reads.Asked, put-close-reads.Learnt) (group-text-at t) group-text.Post group-text-Inv-loop group-text-μ-loop
 group-text-loop-again t c =
-    further (c .before .before .before .before .before .before .before .before .before .before .before .before .before .before .before .before .before .before .before .before .before .before .args .sort) (now (c .before .before .before .before .before .before .before .before .before .before .before .before .before .before .before .before .before .before .before .before .before .before .args .table)) (now (c .before .before .before .before .before .before .before .before .before .before .before .before .before .before .before .before .before .before .before .before .before .before .args .text)) (now (c .before .before .before .before .before .before .before .before .before .before .before .before .before .before .before .before .before .before .before .before .before .before .args .store)) (c .before .before .before .before .before .before .before .before .before .before .before .before .before .before .before .before .before .before .before .before .before .before .args .left - 1) (c .before .before .before .before .before .before .before .before .before .before .before .before .before .before .before .before .before .before .before .before .before .before .args .room) _ _ _ _ _ _ _ _ _ (c .before .before .before .before .before .before .before .before .before .loop .inv) (c .before .before .before .before .before .before .before .before .loop-test .taken) (c .before .before .before .before .before .before .member-text .ensures) _ _ (c .before .before .q .given .1) (c .member-size .ensures .0) (c .before .before .before .before .before .before .member-text .kept .1 .1 .1 .1 .1 .1 .1 .1 .1 .1 .1 .0)
-
-group-text-same-length-2 : (t : ℕ) → group-text-lts.Need-same-length-2 (number-in-reads.Asked, number-in-reads.Learnt, put-open-reads.Asked, put-open-reads.Learnt, member-text-below t, member-text.Post, member-size-reads.Asked, member-size-reads.Learnt, put-close-reads.Asked, put-close-reads.Learnt) (group-text-at t) group-text.Post group-text-Inv-loop group-text-μ-loop
-group-text-same-length-2 t c =
-    c .before .before .loop .inv .long ∙ c .before .before .before .before .before .put-open .kept .1 .1 .1 .0
-
-group-text-returns-4 : (t : ℕ) → group-text-lts.Need-returns-4 (number-in-reads.Asked, number-in-reads.Learnt, put-open-reads.Asked, put-open-reads.Learnt, member-text-below t, member-text.Post, member-size-reads.Asked, member-size-reads.Learnt, put-close-reads.Asked, put-close-reads.Learnt) (group-text-at t) group-text.Post group-text-Inv-loop group-text-μ-loop
-group-text-returns-4 t c =
-    group-told (c .before .before .before .before .before .before .before .before .before .before .before .before .before .before .before .args .sort) (now (c .before .before .before .before .before .before .before .before .before .before .before .before .before .before .before .args .table)) (now (c .before .before .before .before .before .before .before .before .before .before .before .before .before .before .before .args .text)) (now (c .before .before .before .before .before .before .before .before .before .before .before .before .before .before .before .args .store)) (c .before .before .before .before .before .before .before .before .before .before .before .before .before .before .before .args .left) (c .before .before .before .before .before .before .before .before .before .before .before .before .before .before .before .args .i) (c .before .before .before .before .before .before .before .before .before .before .if1 .left) (λ z. c .before .before .before .before .before .before .before .before .if2 .left (c .before .before .before .before .before .before .before .before .before .number-in .ensures .0 ∙ z)) (c .before .before .before .before .before .put-open .ensures) (told-unfit (loop-left (c .before .before .before .before .before .before .before .before .before .before .before .before .before .before .before .args .sort) (now (c .before .before .before .before .before .before .before .before .before .before .before .before .before .before .before .args .table)) (now (c .before .before .before .before .before .before .before .before .before .before .before .before .before .before .before .args .text)) (now (c .before .before .before .before .before .before .before .before .before .before .before .before .before .before .before .args .store)) (c .before .before .before .before .before .before .before .before .before .before .before .before .before .before .before .args .left - 1) (c .before .before .before .before .before .before .before .before .before .before .before .before .before .before .before .args .room) _ _ _ _ _ _ _ _ _ (c .before .before .loop .inv) (c .before .loop-test .left) (c .if3 .taken)))
+    further (c .before .before .before .before .before .before .before .before .before .before .before .before .before .before .before .before .args .sort) (now (c .before .before .before .before .before .before .before .before .before .before .before .before .before .before .before .before .args .table)) (now (c .before .before .before .before .before .before .before .before .before .before .before .before .before .before .before .before .args .text)) (now (c .before .before .before .before .before .before .before .before .before .before .before .before .before .before .before .before .args .store)) ((c .before .before .before .before .before .before .before .before .before .before .before .before .before .before .before .before .args .left) - 1) (c .before .before .before .before .before .before .before .before .before .before .before .before .before .before .before .before .args .room) _ _ _ _ _ _ _ _ (c .before .before .before .before .before .before .loop .inv) (c .before .before .before .before .before .loop-test .taken) (c .before .before .before .member-text .ensures) (c .member-size .ensures .0) (c .before .before .before .member-text .kept .1 .1 .1 .1 .1 .1 .1 .1 .1 .1 .0)
 
 group-text-put-close-requires : (t : ℕ) → group-text-lts.Need-put-close-requires (number-in-reads.Asked, number-in-reads.Learnt, put-open-reads.Asked, put-open-reads.Learnt, member-text-below t, member-text.Post, member-size-reads.Asked, member-size-reads.Learnt, put-close-reads.Asked, put-close-reads.Learnt) (group-text-at t) group-text.Post group-text-Inv-loop group-text-μ-loop
 group-text-put-close-requires t c κs =
-    c .before .before .before .before .before .before .before .before .before .before .before .before .before .before .before .before .pre .1 .3
+    c .before .before .before .before .before .before .before .before .before .before .before .before .pre .1 .4
 
-group-text-same-length-3 : (t : ℕ) → group-text-lts.Need-same-length-3 (number-in-reads.Asked, number-in-reads.Learnt, put-open-reads.Asked, put-open-reads.Learnt, member-text-below t, member-text.Post, member-size-reads.Asked, member-size-reads.Learnt, put-close-reads.Asked, put-close-reads.Learnt) (group-text-at t) group-text.Post group-text-Inv-loop group-text-μ-loop
-group-text-same-length-3 t c =
-    c .before .before .put-close .kept .1 .1 .1 .0 ∙ c .before .before .before .before .before .before .loop .inv .long ∙ c .before .before .before .before .before .before .before .before .before .put-open .kept .1 .1 .1 .0
+group-text-same-length : (t : ℕ) → group-text-lts.Need-same-length (number-in-reads.Asked, number-in-reads.Learnt, put-open-reads.Asked, put-open-reads.Learnt, member-text-below t, member-text.Post, member-size-reads.Asked, member-size-reads.Learnt, put-close-reads.Asked, put-close-reads.Learnt) (group-text-at t) group-text.Post group-text-Inv-loop group-text-μ-loop
+group-text-same-length t c =
+    c .before .before .put-close .kept .1 .1 .1 .0 ∙ c .before .before .before .before .before .loop .inv .long ∙ c .before .before .before .before .before .before .before .before .put-open .kept .1 .1 .1 .0
 
-group-text-returns-5 : (t : ℕ) → group-text-lts.Need-returns-5 (number-in-reads.Asked, number-in-reads.Learnt, put-open-reads.Asked, put-open-reads.Learnt, member-text-below t, member-text.Post, member-size-reads.Asked, member-size-reads.Learnt, put-close-reads.Asked, put-close-reads.Learnt) (group-text-at t) group-text.Post group-text-Inv-loop group-text-μ-loop
-group-text-returns-5 t c =
-    group-told (c .before .before .before .before .before .before .before .before .before .before .before .before .before .before .before .before .before .before .before .args .sort) (now (c .before .before .before .before .before .before .before .before .before .before .before .before .before .before .before .before .before .before .before .args .table)) (now (c .before .before .before .before .before .before .before .before .before .before .before .before .before .before .before .before .before .before .before .args .text)) (now (c .before .before .before .before .before .before .before .before .before .before .before .before .before .before .before .before .before .before .before .args .store)) (c .before .before .before .before .before .before .before .before .before .before .before .before .before .before .before .before .before .before .before .args .left) (c .before .before .before .before .before .before .before .before .before .before .before .before .before .before .before .before .before .before .before .args .i) (c .before .before .before .before .before .before .before .before .before .before .before .before .before .before .if1 .left) (λ z. c .before .before .before .before .before .before .before .before .before .before .before .before .if2 .left (c .before .before .before .before .before .before .before .before .before .before .before .before .before .number-in .ensures .0 ∙ z)) (c .before .before .before .before .before .before .before .before .before .put-open .ensures) (loop-end (c .before .before .before .before .before .before .before .before .before .before .before .before .before .before .before .before .before .before .before .args .sort) (now (c .before .before .before .before .before .before .before .before .before .before .before .before .before .before .before .before .before .before .before .args .table)) (now (c .before .before .before .before .before .before .before .before .before .before .before .before .before .before .before .before .before .before .before .args .text)) (now (c .before .before .before .before .before .before .before .before .before .before .before .before .before .before .before .before .before .before .before .args .store)) (c .before .before .before .before .before .before .before .before .before .before .before .before .before .before .before .before .before .before .before .args .left - 1) (c .before .before .before .before .before .before .before .before .before .before .before .before .before .before .before .before .before .before .before .args .room) _ _ _ _ _ _ _ _ _ (c .before .before .before .before .before .before .loop .inv) (c .before .before .before .before .before .loop-test .left) (c .before .before .before .before .if3 .left) (c .before .before .put-close .ensures))
+group-text-returns : (t : ℕ) → group-text-lts.Need-returns (number-in-reads.Asked, number-in-reads.Learnt, put-open-reads.Asked, put-open-reads.Learnt, member-text-below t, member-text.Post, member-size-reads.Asked, member-size-reads.Learnt, put-close-reads.Asked, put-close-reads.Learnt) (group-text-at t) group-text.Post group-text-Inv-loop group-text-μ-loop
+group-text-returns t c =
+    group-put (c .before .before .before .before .before .before .before .before .before .before .before .before .before .before .before .args .sort) (now (c .before .before .before .before .before .before .before .before .before .before .before .before .before .before .before .args .table)) (now (c .before .before .before .before .before .before .before .before .before .before .before .before .before .before .before .args .text)) (now (c .before .before .before .before .before .before .before .before .before .before .before .before .before .before .before .args .store)) (c .before .before .before .before .before .before .before .before .before .before .before .before .before .before .before .args .left) (c .before .before .before .before .before .before .before .before .before .before .before .before .before .before .before .args .i) (c .before .before .before .before .before .before .before .before .before .before .before .before .before .before .before .pre .1 .3) (c .before .before .before .before .before .before .before .before .put-open .ensures) (ended (c .before .before .before .before .before .before .before .before .before .before .before .before .before .before .before .args .sort) (now (c .before .before .before .before .before .before .before .before .before .before .before .before .before .before .before .args .table)) (now (c .before .before .before .before .before .before .before .before .before .before .before .before .before .before .before .args .text)) (now (c .before .before .before .before .before .before .before .before .before .before .before .before .before .before .before .args .store)) ((c .before .before .before .before .before .before .before .before .before .before .before .before .before .before .before .args .left) - 1) (c .before .before .before .before .before .before .before .before .before .before .before .before .before .before .before .args .room) _ _ _ _ _ _ _ _ (c .before .before .before .before .before .loop .inv) (c .before .before .before .before .loop-test .left) (c .before .before .put-close .ensures))
 
-member-text-member-size-requires : (t : ℕ) → member-text-lts.Need-member-size-requires (member-size-reads.Asked, member-size-reads.Learnt, put-comma-reads.Asked, put-comma-reads.Learnt, label-text-reads.Asked, label-text-reads.Learnt, label-size-reads.Asked, label-size-reads.Learnt, value-text-below t, value-text.Post) (member-text-at t) member-text.Post
-member-text-member-size-requires t c κs =
-    omega (arith, c .before .before .before .before .pre .1 .1)
-
-member-text-returns : (t : ℕ) → member-text-lts.Need-returns (member-size-reads.Asked, member-size-reads.Learnt, put-comma-reads.Asked, put-comma-reads.Learnt, label-text-reads.Asked, label-text-reads.Learnt, label-size-reads.Asked, label-size-reads.Learnt, value-text-below t, value-text.Post) (member-text-at t) member-text.Post
-member-text-returns t c =
-    told-unfit (member-long (c .before .before .before .before .before .before .args .sort) (now (c .before .before .before .before .before .before .args .table)) (now (c .before .before .before .before .before .before .args .text)) (now (c .before .before .before .before .before .before .args .store)) (c .before .before .before .before .before .before .args .left) (c .before .before .before .before .before .before .args .i) (c .before .before .before .before .before .before .args .w) (c .before .before .before .before .before .before .args .first) _ (c .before .member-size .ensures .0) (c .if1 .taken))
-
-member-text-put-comma-requires : (t : ℕ) → member-text-lts.Need-put-comma-requires (member-size-reads.Asked, member-size-reads.Learnt, put-comma-reads.Asked, put-comma-reads.Learnt, label-text-reads.Asked, label-text-reads.Learnt, label-size-reads.Asked, label-size-reads.Learnt, value-text-below t, value-text.Post) (member-text-at t) member-text.Post
+member-text-put-comma-requires : (t : ℕ) → member-text-lts.Need-put-comma-requires (put-comma-reads.Asked, put-comma-reads.Learnt, label-text-reads.Asked, label-text-reads.Learnt, label-size-reads.Asked, label-size-reads.Learnt, value-text-below t, value-text.Post) (member-text-at t) member-text.Post
 member-text-put-comma-requires t c κs =
-    c .before .before .before .before .before .before .before .pre .1 .2
+    c .before .before .before .before .before .pre .1 .4
 
-member-text-label-text-requires : (t : ℕ) → member-text-lts.Need-label-text-requires (member-size-reads.Asked, member-size-reads.Learnt, put-comma-reads.Asked, put-comma-reads.Learnt, label-text-reads.Asked, label-text-reads.Learnt, label-size-reads.Asked, label-size-reads.Learnt, value-text-below t, value-text.Post) (member-text-at t) member-text.Post
+member-text-label-text-requires : (t : ℕ) → member-text-lts.Need-label-text-requires (put-comma-reads.Asked, put-comma-reads.Learnt, label-text-reads.Asked, label-text-reads.Learnt, label-size-reads.Asked, label-size-reads.Learnt, value-text-below t, value-text.Post) (member-text-at t) member-text.Post
 member-text-label-text-requires t c κs =
-    (c .before .before .before .before .before .before .before .before .before .before .before .pre .1 .0, omega (arith, c .before .before .before .before .before .before .before .before .before .before .before .pre .1 .1), c .before .before .before .before .before .before .before .before .before .before .before .pre .1 .2)
+    (c .before .before .before .before .before .before .before .before .before .pre .1 .0, c .before .before .before .before .before .before .before .before .before .pre .1 .2, c .before .before .before .before .before .before .before .before .before .pre .1 .4)
 
-member-text-enum-told : (t : ℕ) → member-text-lts.Need-enum-told (member-size-reads.Asked, member-size-reads.Learnt, put-comma-reads.Asked, put-comma-reads.Learnt, label-text-reads.Asked, label-text-reads.Learnt, label-size-reads.Asked, label-size-reads.Learnt, value-text-below t, value-text.Post) (member-text-at t) member-text.Post
-member-text-enum-told t c =
-    search needs
-
-member-text-enum-known-q : (t : ℕ) → member-text-lts.Need-enum-known-q (member-size-reads.Asked, member-size-reads.Learnt, put-comma-reads.Asked, put-comma-reads.Learnt, label-text-reads.Asked, label-text-reads.Learnt, label-size-reads.Asked, label-size-reads.Learnt, value-text-below t, value-text.Post) (member-text-at t) member-text.Post
-member-text-enum-known-q t c =
-    search needs
-
-member-text-label-size-requires : (t : ℕ) → member-text-lts.Need-label-size-requires (member-size-reads.Asked, member-size-reads.Learnt, put-comma-reads.Asked, put-comma-reads.Learnt, label-text-reads.Asked, label-text-reads.Learnt, label-size-reads.Asked, label-size-reads.Learnt, value-text-below t, value-text.Post) (member-text-at t) member-text.Post
+member-text-label-size-requires : (t : ℕ) → member-text-lts.Need-label-size-requires (put-comma-reads.Asked, put-comma-reads.Learnt, label-text-reads.Asked, label-text-reads.Learnt, label-size-reads.Asked, label-size-reads.Learnt, value-text-below t, value-text.Post) (member-text-at t) member-text.Post
 member-text-label-size-requires t c κs =
     tt
 
-member-text-add-value-text : (t : ℕ) → member-text-lts.Need-add-value-text (member-size-reads.Asked, member-size-reads.Learnt, put-comma-reads.Asked, put-comma-reads.Learnt, label-text-reads.Asked, label-text-reads.Learnt, label-size-reads.Asked, label-size-reads.Learnt, value-text-below t, value-text.Post) (member-text-at t) member-text.Post
+member-text-add-value-text : (t : ℕ) → member-text-lts.Need-add-value-text (put-comma-reads.Asked, put-comma-reads.Learnt, label-text-reads.Asked, label-text-reads.Learnt, label-size-reads.Asked, label-size-reads.Learnt, value-text-below t, value-text.Post) (member-text-at t) member-text.Post
 member-text-add-value-text t c =
-    omega (arith, c .before .before .before .before .before .before .before .before .before .before .before .before .before .before .before .before .before .before .pre .1 .1, c .label-size .ensures .1)
+    omega (arith, c .before .before .before .before .before .before .before .before .before .before .before .before .before .pre .1 .1, c .label-size .ensures .1)
 
-member-text-value-text-requires : (t : ℕ) → member-text-lts.Need-value-text-requires (member-size-reads.Asked, member-size-reads.Learnt, put-comma-reads.Asked, put-comma-reads.Learnt, label-text-reads.Asked, label-text-reads.Learnt, label-size-reads.Asked, label-size-reads.Learnt, value-text-below t, value-text.Post) (member-text-at t) member-text.Post
+member-text-value-text-requires : (t : ℕ) → member-text-lts.Need-value-text-requires (put-comma-reads.Asked, put-comma-reads.Learnt, label-text-reads.Asked, label-text-reads.Learnt, label-size-reads.Asked, label-size-reads.Learnt, value-text-below t, value-text.Post) (member-text-at t) member-text.Post
 member-text-value-text-requires t c κs =
-    (omega (arith, c .before .before .before .before .before .before .before .before .before .before .before .before .before .before .before .before .before .before .before .pre .0), (c .before .before .before .before .before .before .before .before .before .before .before .before .before .before .before .before .before .before .before .pre .1 .0, value-room (c .before .before .before .before .before .before .before .before .before .before .before .before .before .before .before .before .before .before .before .args .sort) (now (c .before .before .before .before .before .before .before .before .before .before .before .before .before .before .before .before .before .before .before .args .table)) (now (c .before .before .before .before .before .before .before .before .before .before .before .before .before .before .before .before .before .before .before .args .text)) (now (c .before .before .before .before .before .before .before .before .before .before .before .before .before .before .before .before .before .before .before .args .store)) (c .before .before .before .before .before .before .before .before .before .before .before .before .before .before .before .before .before .before .before .args .left) (c .before .before .before .before .before .before .before .before .before .before .before .before .before .before .before .before .before .before .before .args .i) (c .before .before .before .before .before .before .before .before .before .before .before .before .before .before .before .before .before .before .before .args .w) (c .before .before .before .before .before .before .before .before .before .before .before .before .before .before .before .before .before .before .before .args .first) _ (c .before .before .before .before .before .before .before .before .before .before .before .before .before .before .member-size .ensures .0) (c .before .before .before .before .before .before .before .before .before .before .before .before .before .if1 .left) _ (c .before .label-size .ensures .0) (c .before .before .before .before .before .before .before .before .before .before .before .before .before .before .before .before .before .before .before .pre .1 .1), c .before .before .before .before .before .before .before .before .before .before .before .before .before .before .before .before .before .before .before .pre .1 .2))
+    (omega (arith, c .before .before .before .before .before .before .before .before .before .before .before .before .before .before .pre .0), (c .before .before .before .before .before .before .before .before .before .before .before .before .before .before .pre .1 .0, value-room (c .before .before .before .before .before .before .before .before .before .before .before .before .before .before .args .sort) (now (c .before .before .before .before .before .before .before .before .before .before .before .before .before .before .args .table)) (now (c .before .before .before .before .before .before .before .before .before .before .before .before .before .before .args .text)) (now (c .before .before .before .before .before .before .before .before .before .before .before .before .before .before .args .store)) (c .before .before .before .before .before .before .before .before .before .before .before .before .before .before .args .left) (c .before .before .before .before .before .before .before .before .before .before .before .before .before .before .args .i) (c .before .before .before .before .before .before .before .before .before .before .before .before .before .before .args .first) _ (c .before .label-size .ensures .0) (c .before .before .before .before .before .before .before .before .before .before .before .before .before .before .pre .1 .1), value-fit (c .before .before .before .before .before .before .before .before .before .before .before .before .before .before .args .sort) (now (c .before .before .before .before .before .before .before .before .before .before .before .before .before .before .args .table)) (now (c .before .before .before .before .before .before .before .before .before .before .before .before .before .before .args .text)) (now (c .before .before .before .before .before .before .before .before .before .before .before .before .before .before .args .store)) (c .before .before .before .before .before .before .before .before .before .before .before .before .before .before .args .left) (c .before .before .before .before .before .before .before .before .before .before .before .before .before .before .args .i) (c .before .before .before .before .before .before .before .before .before .before .before .before .before .before .args .first) _ (c .before .label-size .ensures .0) (c .before .before .before .before .before .before .before .before .before .before .before .before .before .before .pre .1 .3), c .before .before .before .before .before .before .before .before .before .before .before .before .before .before .pre .1 .4))
 
-member-text-same-length : (t : ℕ) → member-text-lts.Need-same-length (member-size-reads.Asked, member-size-reads.Learnt, put-comma-reads.Asked, put-comma-reads.Learnt, label-text-reads.Asked, label-text-reads.Learnt, label-size-reads.Asked, label-size-reads.Learnt, value-text-below t, value-text.Post) (member-text-at t) member-text.Post
+member-text-same-length : (t : ℕ) → member-text-lts.Need-same-length (put-comma-reads.Asked, put-comma-reads.Learnt, label-text-reads.Asked, label-text-reads.Learnt, label-size-reads.Asked, label-size-reads.Learnt, value-text-below t, value-text.Post) (member-text-at t) member-text.Post
 member-text-same-length t c =
-    c .before .before .before .before .label-text .kept .1 .1 .1 .1 .1 .1 .1 .1 .0 ∙ c .before .before .before .before .before .before .before .before .put-comma .kept .1 .1 .1 .0
+    c .before .before .value-text .kept .1 .1 .1 .1 .1 .1 .1 .1 .0 ∙ c .before .before .before .before .before .before .before .label-text .kept .1 .1 .1 .1 .1 .1 .1 .1 .0 ∙ c .before .before .before .before .before .before .before .before .before .before .before .put-comma .kept .1 .1 .1 .0
 
-member-text-returns-2 : (t : ℕ) → member-text-lts.Need-returns-2 (member-size-reads.Asked, member-size-reads.Learnt, put-comma-reads.Asked, put-comma-reads.Learnt, label-text-reads.Asked, label-text-reads.Learnt, label-size-reads.Asked, label-size-reads.Learnt, value-text-below t, value-text.Post) (member-text-at t) member-text.Post
-member-text-returns-2 t c =
-    member-unlabelled (c .before .before .before .before .before .before .before .before .before .before .before .before .before .before .before .before .args .sort) (now (c .before .before .before .before .before .before .before .before .before .before .before .before .before .before .before .before .args .table)) (now (c .before .before .before .before .before .before .before .before .before .before .before .before .before .before .before .before .args .text)) (now (c .before .before .before .before .before .before .before .before .before .before .before .before .before .before .before .before .args .store)) (c .before .before .before .before .before .before .before .before .before .before .before .before .before .before .before .before .args .left) (c .before .before .before .before .before .before .before .before .before .before .before .before .before .before .before .before .args .i) (c .before .before .before .before .before .before .before .before .before .before .before .before .before .before .before .before .args .w) (c .before .before .before .before .before .before .before .before .before .before .before .before .before .before .before .before .args .first) _ (c .before .before .before .before .before .before .before .before .before .before .before .member-size .ensures .0) (c .before .before .before .before .before .before .before .before .before .before .if1 .left) (c .before .before .before .before .before .before .before .before .put-comma .ensures) (c .before .before .before .before .label-text .ensures) (c .enum-told .given .1)
-
-member-text-same-length-2 : (t : ℕ) → member-text-lts.Need-same-length-2 (member-size-reads.Asked, member-size-reads.Learnt, put-comma-reads.Asked, put-comma-reads.Learnt, label-text-reads.Asked, label-text-reads.Learnt, label-size-reads.Asked, label-size-reads.Learnt, value-text-below t, value-text.Post) (member-text-at t) member-text.Post
-member-text-same-length-2 t c =
-    c .before .before .value-text .kept .1 .1 .1 .1 .1 .1 .1 .1 .0 ∙ c .before .before .before .before .before .before .before .before .before .before .label-text .kept .1 .1 .1 .1 .1 .1 .1 .1 .0 ∙ c .before .before .before .before .before .before .before .before .before .before .before .before .before .before .put-comma .kept .1 .1 .1 .0
-
-member-text-returns-3 : (t : ℕ) → member-text-lts.Need-returns-3 (member-size-reads.Asked, member-size-reads.Learnt, put-comma-reads.Asked, put-comma-reads.Learnt, label-text-reads.Asked, label-text-reads.Learnt, label-size-reads.Asked, label-size-reads.Learnt, value-text-below t, value-text.Post) (member-text-at t) member-text.Post
-member-text-returns-3 t c =
-    member-told (c .before .before .before .before .before .before .before .before .before .before .before .before .before .before .before .before .before .before .before .before .before .before .args .sort) (now (c .before .before .before .before .before .before .before .before .before .before .before .before .before .before .before .before .before .before .before .before .before .before .args .table)) (now (c .before .before .before .before .before .before .before .before .before .before .before .before .before .before .before .before .before .before .before .before .before .before .args .text)) (now (c .before .before .before .before .before .before .before .before .before .before .before .before .before .before .before .before .before .before .before .before .before .before .args .store)) (c .before .before .before .before .before .before .before .before .before .before .before .before .before .before .before .before .before .before .before .before .before .before .args .left) (c .before .before .before .before .before .before .before .before .before .before .before .before .before .before .before .before .before .before .before .before .before .before .args .i) (c .before .before .before .before .before .before .before .before .before .before .before .before .before .before .before .before .before .before .before .before .before .before .args .w) (c .before .before .before .before .before .before .before .before .before .before .before .before .before .before .before .before .before .before .before .before .before .before .args .first) _ (c .before .before .before .before .before .before .before .before .before .before .before .before .before .before .before .before .before .member-size .ensures .0) (c .before .before .before .before .before .before .before .before .before .before .before .before .before .before .before .before .if1 .left) (c .before .before .before .before .before .before .before .before .before .before .before .before .before .before .put-comma .ensures) (c .before .before .before .before .before .before .before .before .before .before .label-text .ensures) _ _ (c .before .before .before .before .before .before .q .given .1) (c .before .before .before .before .label-size .ensures .0) (c .before .before .value-text .ensures)
-
-value-text-returns : (t : ℕ) → value-text-lts.Need-returns (group-text-below t, group-text.Post, leaf-text-reads.Asked, leaf-text-reads.Learnt) (value-text-at t) value-text.Post
-value-text-returns t c =
-    told-unfit (value-end (now (c .before .before .before .before .before .args .table)) (now (c .before .before .before .before .before .args .text)) (now (c .before .before .before .before .before .args .store)) (c .before .before .before .before .before .args .left) (c .before .before .before .before .before .args .i) (c .if1 .taken))
+member-text-returns : (t : ℕ) → member-text-lts.Need-returns (put-comma-reads.Asked, put-comma-reads.Learnt, label-text-reads.Asked, label-text-reads.Learnt, label-size-reads.Asked, label-size-reads.Learnt, value-text-below t, value-text.Post) (member-text-at t) member-text.Post
+member-text-returns t c =
+    member-put (c .before .before .before .before .before .before .before .before .before .before .before .before .before .before .before .before .before .args .sort) (now (c .before .before .before .before .before .before .before .before .before .before .before .before .before .before .before .before .before .args .table)) (now (c .before .before .before .before .before .before .before .before .before .before .before .before .before .before .before .before .before .args .text)) (now (c .before .before .before .before .before .before .before .before .before .before .before .before .before .before .before .before .before .args .store)) (c .before .before .before .before .before .before .before .before .before .before .before .before .before .before .before .before .before .args .left) (c .before .before .before .before .before .before .before .before .before .before .before .before .before .before .before .before .before .args .i) (c .before .before .before .before .before .before .before .before .before .before .before .before .before .before .before .before .before .args .first) _ (c .before .before .before .before .label-size .ensures .0) (c .before .before .before .before .before .before .before .before .before .before .before .put-comma .ensures) (c .before .before .before .before .before .before .before .label-text .ensures) (c .before .before .value-text .ensures)
 
 value-text-mul-kind : (t : ℕ) → value-text-lts.Need-mul-kind (group-text-below t, group-text.Post, leaf-text-reads.Asked, leaf-text-reads.Learnt) (value-text-at t) value-text.Post
 value-text-mul-kind t c =
-    search needs
+    omega (arith, (value-there (now (c .before .before .before .before .args .table)) (now (c .before .before .before .before .args .text)) (now (c .before .before .before .before .args .store)) (c .before .before .before .before .args .left) (c .before .before .before .before .args .i) (c .before .before .before .before .pre .1 .2)))
 
 value-text-mul-kind-2 : (t : ℕ) → value-text-lts.Need-mul-kind-2 (group-text-below t, group-text.Post, leaf-text-reads.Asked, leaf-text-reads.Learnt) (value-text-at t) value-text.Post
 value-text-mul-kind-2 t c =
-    search needs
+    omega (arith, (value-there (now (c .before .before .before .before .args .table)) (now (c .before .before .before .before .args .text)) (now (c .before .before .before .before .args .store)) (c .before .before .before .before .args .left) (c .before .before .before .before .args .i) (c .before .before .before .before .pre .1 .2)))
 
 value-text-shared-slice-read-kind : (t : ℕ) → value-text-lts.Need-shared-slice-read-kind (group-text-below t, group-text.Post, leaf-text-reads.Asked, leaf-text-reads.Learnt) (value-text-at t) value-text.Post
 value-text-shared-slice-read-kind t c =
-    omega arith
+    omega (arith, (value-there (now (c .before .before .before .before .before .args .table)) (now (c .before .before .before .before .before .args .text)) (now (c .before .before .before .before .before .args .store)) (c .before .before .before .before .before .args .left) (c .before .before .before .before .before .args .i) (c .before .before .before .before .before .pre .1 .2)))
 
 value-text-group-text-requires : (t : ℕ) → value-text-lts.Need-group-text-requires (group-text-below t, group-text.Post, leaf-text-reads.Asked, leaf-text-reads.Learnt) (value-text-at t) value-text.Post
 value-text-group-text-requires t c κs =
-    (omega (arith, c .before .before .before .before .before .before .before .before .pre .0), (c .before .before .before .before .before .before .before .before .pre .1 .0, c .before .before .before .if1 .left, omega (arith, c .before .before .before .before .before .before .before .before .pre .1 .1, count-there (c .before .before .before .before .before .before .before .before .args .i) (now (c .before .before .before .before .before .before .before .before .args .table)) (c .before .before .before .if1 .left)), c .before .before .before .before .before .before .before .before .pre .1 .2))
+    (omega (arith, c .before .before .before .before .before .before .before .pre .0), (c .before .before .before .before .before .before .before .pre .1 .0, (value-there (now (c .before .before .before .before .before .before .before .args .table)) (now (c .before .before .before .before .before .before .before .args .text)) (now (c .before .before .before .before .before .before .before .args .store)) (c .before .before .before .before .before .before .before .args .left) (c .before .before .before .before .before .before .before .args .i) (c .before .before .before .before .before .before .before .pre .1 .2)), omega (arith, c .before .before .before .before .before .before .before .pre .1 .1, count-there (c .before .before .before .before .before .before .before .args .i) (now (c .before .before .before .before .before .before .before .args .table)) (value-there (now (c .before .before .before .before .before .before .before .args .table)) (now (c .before .before .before .before .before .before .before .args .text)) (now (c .before .before .before .before .before .before .before .args .store)) (c .before .before .before .before .before .before .before .args .left) (c .before .before .before .before .before .before .before .args .i) (c .before .before .before .before .before .before .before .pre .1 .2))), sym (ap (λ (x : Maybe Tree). isFit x) (value-list (now (c .before .before .before .before .before .before .before .args .table)) (now (c .before .before .before .before .before .before .before .args .text)) (now (c .before .before .before .before .before .before .before .args .store)) (c .before .before .before .before .before .before .before .args .left) (c .before .before .before .before .before .before .before .args .i) (value-there (now (c .before .before .before .before .before .before .before .args .table)) (now (c .before .before .before .before .before .before .before .args .text)) (now (c .before .before .before .before .before .before .before .args .store)) (c .before .before .before .before .before .before .before .args .left) (c .before .before .before .before .before .before .before .args .i) (c .before .before .before .before .before .before .before .pre .1 .2)) (c .before .if1 .taken))) ∙ c .before .before .before .before .before .before .before .pre .1 .2, c .before .before .before .before .before .before .before .pre .1 .3))
 
 value-text-same-length : (t : ℕ) → value-text-lts.Need-same-length (group-text-below t, group-text.Post, leaf-text-reads.Asked, leaf-text-reads.Learnt) (value-text-at t) value-text.Post
 value-text-same-length t c =
     c .before .before .group-text .kept .1 .1 .1 .1 .1 .1 .1 .1 .1 .0
 
-value-text-returns-2 : (t : ℕ) → value-text-lts.Need-returns-2 (group-text-below t, group-text.Post, leaf-text-reads.Asked, leaf-text-reads.Learnt) (value-text-at t) value-text.Post
-value-text-returns-2 t c =
-    told-as (value-list (now (c .before .before .before .before .before .before .before .before .before .before .before .args .table)) (now (c .before .before .before .before .before .before .before .before .before .before .before .args .text)) (now (c .before .before .before .before .before .before .before .before .before .before .before .args .store)) (c .before .before .before .before .before .before .before .before .before .before .before .args .left) (c .before .before .before .before .before .before .before .before .before .before .before .args .i) (c .before .before .before .before .before .before .if1 .left) (c .before .before .before .before .if2 .taken)) (c .before .before .group-text .ensures)
+value-text-returns : (t : ℕ) → value-text-lts.Need-returns (group-text-below t, group-text.Post, leaf-text-reads.Asked, leaf-text-reads.Learnt) (value-text-at t) value-text.Post
+value-text-returns t c =
+    put-as (ap treeText (value-list (now (c .before .before .before .before .before .before .before .before .before .before .args .table)) (now (c .before .before .before .before .before .before .before .before .before .before .args .text)) (now (c .before .before .before .before .before .before .before .before .before .before .args .store)) (c .before .before .before .before .before .before .before .before .before .before .args .left) (c .before .before .before .before .before .before .before .before .before .before .args .i) (value-there (now (c .before .before .before .before .before .before .before .before .before .before .args .table)) (now (c .before .before .before .before .before .before .before .before .before .before .args .text)) (now (c .before .before .before .before .before .before .before .before .before .before .args .store)) (c .before .before .before .before .before .before .before .before .before .before .args .left) (c .before .before .before .before .before .before .before .before .before .before .args .i) (c .before .before .before .before .before .before .before .before .before .before .pre .1 .2)) (c .before .before .before .before .if1 .taken))) (c .before .before .group-text .ensures)
 
 value-text-group-text-requires-2 : (t : ℕ) → value-text-lts.Need-group-text-requires-2 (group-text-below t, group-text.Post, leaf-text-reads.Asked, leaf-text-reads.Learnt) (value-text-at t) value-text.Post
 value-text-group-text-requires-2 t c κs =
-    (omega (arith, c .before .before .before .before .before .before .before .before .before .pre .0), (c .before .before .before .before .before .before .before .before .before .pre .1 .0, c .before .before .before .before .if1 .left, omega (arith, c .before .before .before .before .before .before .before .before .before .pre .1 .1, count-there (c .before .before .before .before .before .before .before .before .before .args .i) (now (c .before .before .before .before .before .before .before .before .before .args .table)) (c .before .before .before .before .if1 .left)), c .before .before .before .before .before .before .before .before .before .pre .1 .2))
+    (omega (arith, c .before .before .before .before .before .before .before .before .pre .0), (c .before .before .before .before .before .before .before .before .pre .1 .0, (value-there (now (c .before .before .before .before .before .before .before .before .args .table)) (now (c .before .before .before .before .before .before .before .before .args .text)) (now (c .before .before .before .before .before .before .before .before .args .store)) (c .before .before .before .before .before .before .before .before .args .left) (c .before .before .before .before .before .before .before .before .args .i) (c .before .before .before .before .before .before .before .before .pre .1 .2)), omega (arith, c .before .before .before .before .before .before .before .before .pre .1 .1, count-there (c .before .before .before .before .before .before .before .before .args .i) (now (c .before .before .before .before .before .before .before .before .args .table)) (value-there (now (c .before .before .before .before .before .before .before .before .args .table)) (now (c .before .before .before .before .before .before .before .before .args .text)) (now (c .before .before .before .before .before .before .before .before .args .store)) (c .before .before .before .before .before .before .before .before .args .left) (c .before .before .before .before .before .before .before .before .args .i) (c .before .before .before .before .before .before .before .before .pre .1 .2))), sym (ap (λ (x : Maybe Tree). isFit x) (value-dict (now (c .before .before .before .before .before .before .before .before .args .table)) (now (c .before .before .before .before .before .before .before .before .args .text)) (now (c .before .before .before .before .before .before .before .before .args .store)) (c .before .before .before .before .before .before .before .before .args .left) (c .before .before .before .before .before .before .before .before .args .i) (value-there (now (c .before .before .before .before .before .before .before .before .args .table)) (now (c .before .before .before .before .before .before .before .before .args .text)) (now (c .before .before .before .before .before .before .before .before .args .store)) (c .before .before .before .before .before .before .before .before .args .left) (c .before .before .before .before .before .before .before .before .args .i) (c .before .before .before .before .before .before .before .before .pre .1 .2)) (c .before .before .if1 .left) (c .before .if2 .taken))) ∙ c .before .before .before .before .before .before .before .before .pre .1 .2, c .before .before .before .before .before .before .before .before .pre .1 .3))
 
 value-text-same-length-2 : (t : ℕ) → value-text-lts.Need-same-length-2 (group-text-below t, group-text.Post, leaf-text-reads.Asked, leaf-text-reads.Learnt) (value-text-at t) value-text.Post
 value-text-same-length-2 t c =
     c .before .before .group-text2 .kept .1 .1 .1 .1 .1 .1 .1 .1 .1 .0
 
-value-text-returns-3 : (t : ℕ) → value-text-lts.Need-returns-3 (group-text-below t, group-text.Post, leaf-text-reads.Asked, leaf-text-reads.Learnt) (value-text-at t) value-text.Post
-value-text-returns-3 t c =
-    told-as (value-dict (now (c .before .before .before .before .before .before .before .before .before .before .before .before .args .table)) (now (c .before .before .before .before .before .before .before .before .before .before .before .before .args .text)) (now (c .before .before .before .before .before .before .before .before .before .before .before .before .args .store)) (c .before .before .before .before .before .before .before .before .before .before .before .before .args .left) (c .before .before .before .before .before .before .before .before .before .before .before .before .args .i) (c .before .before .before .before .before .before .before .if1 .left) (c .before .before .before .before .before .if2 .left) (c .before .before .before .before .if3 .taken)) (c .before .before .group-text2 .ensures)
+value-text-returns-2 : (t : ℕ) → value-text-lts.Need-returns-2 (group-text-below t, group-text.Post, leaf-text-reads.Asked, leaf-text-reads.Learnt) (value-text-at t) value-text.Post
+value-text-returns-2 t c =
+    put-as (ap treeText (value-dict (now (c .before .before .before .before .before .before .before .before .before .before .before .args .table)) (now (c .before .before .before .before .before .before .before .before .before .before .before .args .text)) (now (c .before .before .before .before .before .before .before .before .before .before .before .args .store)) (c .before .before .before .before .before .before .before .before .before .before .before .args .left) (c .before .before .before .before .before .before .before .before .before .before .before .args .i) (value-there (now (c .before .before .before .before .before .before .before .before .before .before .before .args .table)) (now (c .before .before .before .before .before .before .before .before .before .before .before .args .text)) (now (c .before .before .before .before .before .before .before .before .before .before .before .args .store)) (c .before .before .before .before .before .before .before .before .before .before .before .args .left) (c .before .before .before .before .before .before .before .before .before .before .before .args .i) (c .before .before .before .before .before .before .before .before .before .before .before .pre .1 .2)) (c .before .before .before .before .before .if1 .left) (c .before .before .before .before .if2 .taken))) (c .before .before .group-text2 .ensures)
 
 value-text-leaf-text-requires : (t : ℕ) → value-text-lts.Need-leaf-text-requires (group-text-below t, group-text.Post, leaf-text-reads.Asked, leaf-text-reads.Learnt) (value-text-at t) value-text.Post
 value-text-leaf-text-requires t c κs =
-    (c .before .before .before .before .before .before .before .before .before .pre .1 .0, c .before .before .before .before .if1 .left, c .before .before .before .before .before .before .before .before .before .pre .1 .2)
+    (c .before .before .before .before .before .before .before .before .pre .1 .0, (value-there (now (c .before .before .before .before .before .before .before .before .args .table)) (now (c .before .before .before .before .before .before .before .before .args .text)) (now (c .before .before .before .before .before .before .before .before .args .store)) (c .before .before .before .before .before .before .before .before .args .left) (c .before .before .before .before .before .before .before .before .args .i) (c .before .before .before .before .before .before .before .before .pre .1 .2)), sym (ap (λ (x : Maybe Tree). isFit x) (value-leaf (now (c .before .before .before .before .before .before .before .before .args .table)) (now (c .before .before .before .before .before .before .before .before .args .text)) (now (c .before .before .before .before .before .before .before .before .args .store)) (c .before .before .before .before .before .before .before .before .args .left) (c .before .before .before .before .before .before .before .before .args .i) (value-there (now (c .before .before .before .before .before .before .before .before .args .table)) (now (c .before .before .before .before .before .before .before .before .args .text)) (now (c .before .before .before .before .before .before .before .before .args .store)) (c .before .before .before .before .before .before .before .before .args .left) (c .before .before .before .before .before .before .before .before .args .i) (c .before .before .before .before .before .before .before .before .pre .1 .2)) (c .before .before .if1 .left) (c .before .if2 .left))) ∙ c .before .before .before .before .before .before .before .before .pre .1 .2, c .before .before .before .before .before .before .before .before .pre .1 .3)
 
 value-text-same-length-3 : (t : ℕ) → value-text-lts.Need-same-length-3 (group-text-below t, group-text.Post, leaf-text-reads.Asked, leaf-text-reads.Learnt) (value-text-at t) value-text.Post
 value-text-same-length-3 t c =
     c .before .before .leaf-text .kept .1 .1 .1 .1 .1 .1 .1 .0
 
-value-text-returns-4 : (t : ℕ) → value-text-lts.Need-returns-4 (group-text-below t, group-text.Post, leaf-text-reads.Asked, leaf-text-reads.Learnt) (value-text-at t) value-text.Post
-value-text-returns-4 t c =
-    told-as (value-leaf (now (c .before .before .before .before .before .before .before .before .before .before .before .before .args .table)) (now (c .before .before .before .before .before .before .before .before .before .before .before .before .args .text)) (now (c .before .before .before .before .before .before .before .before .before .before .before .before .args .store)) (c .before .before .before .before .before .before .before .before .before .before .before .before .args .left) (c .before .before .before .before .before .before .before .before .before .before .before .before .args .i) (c .before .before .before .before .before .before .before .if1 .left) (c .before .before .before .before .before .if2 .left) (c .before .before .before .before .if3 .left)) (c .before .before .leaf-text .ensures)
+value-text-returns-3 : (t : ℕ) → value-text-lts.Need-returns-3 (group-text-below t, group-text.Post, leaf-text-reads.Asked, leaf-text-reads.Learnt) (value-text-at t) value-text.Post
+value-text-returns-3 t c =
+    put-as (ap treeText (value-leaf (now (c .before .before .before .before .before .before .before .before .before .before .before .args .table)) (now (c .before .before .before .before .before .before .before .before .before .before .before .args .text)) (now (c .before .before .before .before .before .before .before .before .before .before .before .args .store)) (c .before .before .before .before .before .before .before .before .before .before .before .args .left) (c .before .before .before .before .before .before .before .before .before .before .before .args .i) (value-there (now (c .before .before .before .before .before .before .before .before .before .before .before .args .table)) (now (c .before .before .before .before .before .before .before .before .before .before .before .args .text)) (now (c .before .before .before .before .before .before .before .before .before .before .before .args .store)) (c .before .before .before .before .before .before .before .before .before .before .before .args .left) (c .before .before .before .before .before .before .before .before .before .before .before .args .i) (c .before .before .before .before .before .before .before .before .before .before .before .pre .1 .2)) (c .before .before .before .before .before .if1 .left) (c .before .before .before .before .if2 .left))) (c .before .before .leaf-text .ensures)
 
 pub +group-text+member-text+value-text-spec : {M : Type 1} → statement M
 +group-text+member-text+value-text-spec =
@@ -303,65 +227,45 @@ pub +group-text+member-text+value-text-spec : {M : Type 1} → statement M
     group-text.Post
     group-text-Inv-loop
     group-text-μ-loop
-    (group-text-returns t)
     (group-text-mul-number-in t)
     (group-text-add-number-in t)
     (group-text-number-in-requires t)
-    (group-text-returns-2 t)
-    (group-text-mul-number-in-2 t)
-    (group-text-add-number-in-2 t)
-    (group-text-number-in-requires-2 t)
-    (group-text-sub-w t)
     (group-text-add-at t)
     (group-text-put-open-requires t)
     (group-text-loop-holds t)
     (group-text-sub-member-text t)
     (group-text-member-text-requires t)
-    (group-text-enum-told t)
-    (group-text-same-length t)
-    (group-text-returns-3 t)
-    (group-text-enum-known-q t)
     (group-text-member-size-requires t)
     (group-text-add-at-2 t)
-    (group-text-sub-w-2 t)
     (group-text-sub-members t)
     (group-text-loop-less t)
     (group-text-loop-again t)
-    (group-text-same-length-2 t)
-    (group-text-returns-4 t)
     (group-text-put-close-requires t)
-    (group-text-same-length-3 t)
-    (group-text-returns-5 t))
-    (λ t. member-text-lts.spec (member-size-reads.Asked, member-size-reads.Learnt, put-comma-reads.Asked, put-comma-reads.Learnt, label-text-reads.Asked, label-text-reads.Learnt, label-size-reads.Asked, label-size-reads.Learnt, value-text-below t, value-text.Post)
+    (group-text-same-length t)
+    (group-text-returns t))
+    (λ t. member-text-lts.spec (put-comma-reads.Asked, put-comma-reads.Learnt, label-text-reads.Asked, label-text-reads.Learnt, label-size-reads.Asked, label-size-reads.Learnt, value-text-below t, value-text.Post)
     (member-text-at t)
     member-text.Post
-    (member-text-member-size-requires t)
-    (member-text-returns t)
     (member-text-put-comma-requires t)
     (member-text-label-text-requires t)
-    (member-text-enum-told t)
-    (member-text-enum-known-q t)
     (member-text-label-size-requires t)
     (member-text-add-value-text t)
     (member-text-value-text-requires t)
     (member-text-same-length t)
-    (member-text-returns-2 t)
-    (member-text-same-length-2 t)
-    (member-text-returns-3 t))
+    (member-text-returns t))
     λ t. value-text-lts.spec
     (group-text-below t, group-text.Post, leaf-text-reads.Asked, leaf-text-reads.Learnt)
     (value-text-at t)
     value-text.Post
-    (value-text-returns t)
     (value-text-mul-kind t)
     (value-text-mul-kind-2 t)
     (value-text-shared-slice-read-kind t)
     (value-text-group-text-requires t)
     (value-text-same-length t)
-    (value-text-returns-2 t)
+    (value-text-returns t)
     (value-text-group-text-requires-2 t)
     (value-text-same-length-2 t)
-    (value-text-returns-3 t)
+    (value-text-returns-2 t)
     (value-text-leaf-text-requires t)
     (value-text-same-length-3 t)
-    (value-text-returns-4 t)
+    (value-text-returns-3 t)

@@ -4,7 +4,7 @@ use borrow.Author.Needs.{needs}
 use Rattle.json8_write.proofs.values.label_text.Statement.{statement}
 use Rattle.json8_write.proofs.values.label_text.Tie as tie
 use denote.Ref.{now}
-use Rattle.json8_write.proofs.LeafTexts.{label-items, label-pairs}
+use Rattle.json8_write.proofs.LeafTexts.{label-items, label-pairs, key-fit}
 
 enum-told : tie.Need-enum-told
 enum-told c = search needs
@@ -13,7 +13,8 @@ enum-told-2 : tie.Need-enum-told-2
 enum-told-2 c = search needs
 
 key-text-requires : tie.Need-key-text-requires
-key-text-requires c κs = search needs
+key-text-requires c κs =
+    (c .before .before .before .before .before .before .before .pre .0, key-fit (c .before .before .before .before .before .before .before .args .sort) (now (c .before .before .before .before .before .before .before .args .table)) (now (c .before .before .before .before .before .before .before .args .text)) (now (c .before .before .before .before .before .before .before .args .store)) (c .before .before .before .before .before .before .before .args .i) (c .before .enum-told2 .given .1) (c .before .before .before .before .before .before .before .pre .1), c .before .before .before .before .before .before .before .pre .2)
 
 returns : tie.Need-returns
 returns c =

@@ -1,13 +1,10 @@
--- Outside the text, illegal, or put as it stands (LeafTexts).
+-- A fit number lies inside the text and is put as it stands (LeafTexts).
 -- Assumes nothing.
 use borrow.Author.Needs.{needs}
 use Rattle.json8_write.proofs.values.number_text.Statement.{statement}
 use Rattle.json8_write.proofs.values.number_text.Tie as tie
 use denote.Ref.{now}
-use native.Mathlib.Omega.{arith}
-use mathlib.Core.Path.{sym, _∙_}
-use borrow.Author.Tests.{leb-true, not-true, not-false}
-use Rattle.json8_write.proofs.LeafTexts.{number-outside, number-illegal, number-put}
+use Rattle.json8_write.proofs.LeafTexts.{number-inside, number-put}
 
 mul-number-in : tie.Need-mul-number-in
 mul-number-in c = search needs
@@ -27,53 +24,16 @@ add-number-in-2 c = search needs
 number-in-requires-2 : tie.Need-number-in-requires-2
 number-in-requires-2 c κs = search needs
 
-is-within-requires : tie.Need-is-within-requires
-is-within-requires c κs = search needs
-
-returns : tie.Need-returns
-returns c =
-    number-outside (now (c .before .before .before .before .before .before .before .args .table)) (now (c .before .before .before .before .before .before .before .args .text)) (c .before .before .before .before .before .before .before .args .i) _ _ (c .before .before .before .number-in .ensures .0) (c .before .before .number-in2 .ensures .0) _ (c .before .is-within .ensures) (not-true _ (c .if1 .taken))
-
-mul-is-legal : tie.Need-mul-is-legal
-mul-is-legal c = search needs
-
-mul-is-legal-2 : tie.Need-mul-is-legal-2
-mul-is-legal-2 c = search needs
-
-shared-slice-read-is-legal : tie.Need-shared-slice-read-is-legal
-shared-slice-read-is-legal c = search needs
-
-add-is-legal : tie.Need-add-is-legal
-add-is-legal c =
-    omega (arith, c .before .before .before .before .number-in .ensures .1, c .before .before .before .number-in2 .ensures .1)
-
-sub-is-legal : tie.Need-sub-is-legal
-sub-is-legal c = search needs
-
-part-is-legal-start : tie.Need-part-is-legal-start
-part-is-legal-start c = search needs
-
-part-is-legal-end : tie.Need-part-is-legal-end
-part-is-legal-end c =
-    leb-true _ _ (sym (c .before .before .is-within .ensures) ∙ not-false _ (c .before .if1 .left))
-
-is-legal-requires : tie.Need-is-legal-requires
-is-legal-requires c κs = search needs
-
-returns-2 : tie.Need-returns-2
-returns-2 c =
-    number-illegal (now (c .before .before .before .before .before .before .before .before .before .before .before .args .table)) (now (c .before .before .before .before .before .before .before .before .before .before .before .args .text)) (c .before .before .before .before .before .before .before .before .before .before .before .args .i) _ _ (c .before .before .before .before .before .before .before .number-in .ensures .0) (c .before .before .before .before .before .before .number-in2 .ensures .0) _ (c .before .before .before .before .before .is-within .ensures) (not-false _ (c .before .before .before .before .if1 .left)) _ (c .before .is-legal .ensures) (not-true _ (c .if2 .taken))
-
 put-run-requires : tie.Need-put-run-requires
 put-run-requires c κs =
-    (leb-true _ _ (sym (c .before .before .before .before .before .before .is-within .ensures) ∙ not-false _ (c .before .before .before .before .before .if1 .left)), c .before .before .before .before .before .before .before .before .before .before .before .before .pre .2)
+    (number-inside (now (c .before .before .before .before .before .before .args .table)) (now (c .before .before .before .before .before .before .args .text)) (c .before .before .before .before .before .before .args .i) _ _ (c .before .before .number-in .ensures .0) (c .before .number-in2 .ensures .0) (c .before .before .before .before .before .before .pre .1), c .before .before .before .before .before .before .pre .2)
 
 same-length : tie.Need-same-length
 same-length c = search needs
 
-returns-3 : tie.Need-returns-3
-returns-3 c =
-    number-put (now (c .before .before .before .before .before .before .before .before .before .before .before .before .before .before .before .args .table)) (now (c .before .before .before .before .before .before .before .before .before .before .before .before .before .before .before .args .text)) (c .before .before .before .before .before .before .before .before .before .before .before .before .before .before .before .args .i) _ _ (c .before .before .before .before .before .before .before .before .before .before .before .number-in .ensures .0) (c .before .before .before .before .before .before .before .before .before .before .number-in2 .ensures .0) _ (c .before .before .before .before .before .before .before .before .before .is-within .ensures) (not-false _ (c .before .before .before .before .before .before .before .before .if1 .left)) _ (c .before .before .before .before .before .is-legal .ensures) (not-false _ (c .before .before .before .before .if2 .left)) (c .before .before .put-run .ensures)
+returns : tie.Need-returns
+returns c =
+    number-put (now (c .before .before .before .before .before .before .before .before .before .args .table)) (now (c .before .before .before .before .before .before .before .before .before .args .text)) (c .before .before .before .before .before .before .before .before .before .args .i) _ _ (c .before .before .before .before .before .number-in .ensures .0) (c .before .before .before .before .number-in2 .ensures .0) (c .before .before .before .before .before .before .before .before .before .pre .1) (c .before .before .put-run .ensures)
 
 pub number-text-spec : {M : Type 1} → statement M
 number-text-spec =
@@ -85,17 +45,6 @@ number-text-spec =
     mul-number-in-2
     add-number-in-2
     number-in-requires-2
-    is-within-requires
-    returns
-    mul-is-legal
-    mul-is-legal-2
-    shared-slice-read-is-legal
-    add-is-legal
-    sub-is-legal
-    part-is-legal-start
-    part-is-legal-end
-    is-legal-requires
-    returns-2
     put-run-requires
     same-length
-    returns-3)
+    returns)
