@@ -17,10 +17,12 @@ use Rattle.json8.specs.declared.nodes.Sort.the-variants.{Items, Pairs}
 use Rattle.json8.specs.declared.show.Shown.{Shown}
 use Rattle.json8.specs.Nodes.{Node}
 use Rattle.json8.specs.Show.{shownAt}
-use Rattle.trees.specs.Trees.{Tree, number, string, branch, Members, render}
-use Rattle.trees.specs.Tables.{Maybe, just, unfit, bind, need, nodesIn, countAt, bytesOf, stringOf, numberOf, scalarOf, leafOf, labelAt, membersAt, treeFrom, grouped, treeAt}
+use Rattle.trees.specs.Trees.{Tree, number, string, branch, render}
+use Rattle.trees.specs.Tables.{Maybe, just, unfit, bind, need, nodesIn, countAt, bytesOf, stringOf, numberOf, scalarOf, leafOf, labelAt, treeFrom, grouped, treeAt}
+use Rattle.json8_write.specs.declared.nodes.Branch.{Branch}
+use Rattle.json8_write.specs.declared.nodes.Branch.the-variants.{Of, Leaf}
 use Rattle.json8_write.specs.Write.{isFit}
-use Rattle.json8_write.specs.Steps.{nodeAt, Inside, wordText, treeText}
+use Rattle.json8_write.specs.Steps.{nodeAt, Inside, within, branchOf, wordText, treeText}
 use Rattle.json8_write.proofs.TableNodes.{none-there, node-there, no-count}
 
 -- what is needed of something that is fit
@@ -129,23 +131,30 @@ module _ (table text store : List ℕ) (left i : ℕ) where
     value-is : value ≡ treeAt left text store (nodeAt i table ∷ drop (i + 1) (nodesIn table))
     value-is = ap (treeAt left text store) (node-there i table h)
 
-    pub value-list : getD table (4 * i) 0 ≡ 7 → value ≡ grouped left text store Items (nodeAt i table) (drop (i + 1) (nodesIn table))
-    unfolding treeFrom
-    value-list e = value-is ∙ pick-true _ _ _ (eq-eqb (getD table (4 * i) 0) 7 e)
+    abbrev kind : ℕ
+    kind = getD table (4 * i) 0
 
-    module _ (not7 : getD table (4 * i) 0 ≡ 7 → ⊥) where
-      pub value-dict : getD table (4 * i) 0 ≡ 8 → value ≡ grouped left text store Pairs (nodeAt i table) (drop (i + 1) (nodesIn table))
-      unfolding treeFrom
-      value-dict e = value-is ∙ pick-false _ _ _ (ne-eqb (getD table (4 * i) 0) 7 not7) ∙ pick-true _ _ _ (eq-eqb (getD table (4 * i) 0) 8 e)
+    module _ (v : Branch) (e : v ≡ branchOf kind) where
+      pub value-group : (b : Sort) → v ≡ Of b → value ≡ grouped left text store b (nodeAt i table) (drop (i + 1) (nodesIn table))
+      unfolding treeFrom branchOf
+      value-group b f =
+          split (eqb kind 7)
+          (λ a. let z : Of Items ≡ Of b = sym (e ∙ pick-true _ _ _ a) ∙ f in let y : Items ≡ b = cc in rw (← y) (value-is ∙ pick-true _ _ _ a))
+          (λ a. split (eqb kind 8)
+          (λ c. let z : Of Pairs ≡ Of b = sym (e ∙ pick-false _ _ _ a ∙ pick-true _ _ _ c) ∙ f in let y : Pairs ≡ b = cc in
+          rw (← y) (value-is ∙ pick-false _ _ _ a ∙ pick-true _ _ _ c))
+          (λ c. never (let z : Leaf ≡ Of b = sym (e ∙ pick-false _ _ _ a ∙ pick-false _ _ _ c) ∙ f in cc)))
 
-      pub value-leaf : (getD table (4 * i) 0 ≡ 8 → ⊥) → value ≡ leafOf text store (nodeAt i table)
-      unfolding treeFrom
-      value-leaf e = value-is ∙ pick-false _ _ _ (ne-eqb (getD table (4 * i) 0) 7 not7) ∙ pick-false _ _ _ (ne-eqb (getD table (4 * i) 0) 8 e)
+      pub value-leaf : v ≡ Leaf → value ≡ leafOf text store (nodeAt i table)
+      unfolding treeFrom branchOf
+      value-leaf f =
+          split (eqb kind 7)
+          (λ a. never (let z : Of Items ≡ Leaf = sym (e ∙ pick-true _ _ _ a) ∙ f in cc))
+          (λ a. split (eqb kind 8)
+          (λ c. never (let z : Of Pairs ≡ Leaf = sym (e ∙ pick-false _ _ _ a ∙ pick-true _ _ _ c) ∙ f in cc))
+          (λ c. value-is ∙ pick-false _ _ _ a ∙ pick-false _ _ _ c))
 
 -- a list or a dict, by its node's numbers
-abbrev pub within : (b : Sort) (table text store : List ℕ) (left members w at : ℕ) → Maybe (Members b)
-within b table text store left members w at = membersAt b (labelAt b text store) (treeAt left text store) members w (drop at (nodesIn table))
-
 module _ (b : Sort) (table text store : List ℕ) (left i : ℕ) where
   abbrev group : Maybe Tree
   group = grouped left text store b (nodeAt i table) (drop (i + 1) (nodesIn table))

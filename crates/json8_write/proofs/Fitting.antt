@@ -5,7 +5,7 @@ use mathlib.Core.Bool.{Bool, true, false, _&&_}
 use mathlib.Core.List.{List}
 use mathlib.Core.Path.{_≡_, refl, sym, ap, _∙_}
 use native.Mathlib.Omega.{arith}
-use borrow.Author.Tests.{le-leb, lt-leb, leb-true}
+use borrow.Author.Tests.{le-leb, lt-leb, leb-true, eq-eqb}
 use lib.Dec.{leb, eqb}
 use lib.ListN.{length, getD, take, drop}
 use lib.Seq.{drop-drop}
@@ -21,9 +21,9 @@ use Rattle.json8.specs.Nodes.{Node}
 use Rattle.trees.specs.Trees.{Label, Tree, string, branch, Members, one}
 use Rattle.trees.specs.Tables.{Maybe, just, unfit, bind, nodesIn, countAt, bytesOf, stringOf, numberOf, leafOf, labelSize, labelAt, memberSize, TreeReader, membersAt, treeAt, grouped}
 use Rattle.json8_write.specs.Write.{isFit}
-use Rattle.json8_write.specs.Steps.{nodeAt, Inside, memberFit}
+use Rattle.json8_write.specs.Steps.{nodeAt, Inside, within, memberFit}
 use Rattle.json8_write.proofs.TableNodes.{member-is}
-use Rattle.json8_write.proofs.Choices.{need-fit, string-is, number-is, leaf-counts, leaf-scalar, scalar-word, scalar-number, scalar-string, group-deep, group-empty, group-is, within}
+use Rattle.json8_write.proofs.Choices.{need-fit, string-is, number-is, leaf-counts, leaf-scalar, scalar-word, scalar-number, scalar-string, group-deep, group-empty, group-is}
 
 -- strings
 module _ (table text store : List ℕ) (i : ℕ) (v : Shown) (h : Inside table i) (e : v ≡ shownAt table (length text) (length store) i) where
@@ -126,15 +126,9 @@ pub record Judged (b : Sort) (table text store : List ℕ) (left : ℕ) (want : 
   pub same : want ≡ isFit (within b table text store left members w at)
   pub bound : at + w ≤ 1024
 
-abbrev pub groupFit : (b : Sort) (table text store : List ℕ) (left i : ℕ) → Bool
-groupFit b table text store left i = isFit (within b table text store left (getD table (4 * i + 3) 0) (getD table (4 * i + 1) 0 - 1) (i + 1))
-
-pub begun : (b : Sort) (table text store : List ℕ) (left i : ℕ) {c n : ℕ} → c ≡ getD table (4 * i + 1) 0 → n ≡ getD table (4 * i + 3) 0
-    → (c ≡ 0 → ⊥) → i + getD table (4 * i + 1) 0 ≤ 1024 → Judged b table text store left (groupFit b table text store left i) n (c - 1) (i + 1)
-begun b table text store left i {c} {n} ec en nz h = record {
-  same = λ j. isFit (within b table text store left (sym en j) (sym ec j - 1) (i + 1));
-  bound = omega (arith, ec, nz);
-}
+pub begun : (b : Sort) (table text store : List ℕ) (left members w i : ℕ) → i + w ≤ 1024
+    → Judged b table text store left (isFit (within b table text store left members w i)) members w i
+begun b table text store left members w i h = record { same = refl; bound = h }
 
 module _ (b : Sort) (table text store : List ℕ) (left : ℕ) (want : Bool) (members w at : ℕ) (i : Judged b table text store left want members w at) where
   module _ (h : 0 < members) (r : Bool) (t : r ≡ memberFit b (labelAt b text store) (treeAt left text store) w (drop at (nodesIn table))) where
@@ -178,5 +172,26 @@ module _ (b : Sort) (table text store : List ℕ) (left i : ℕ) where
   branched (just ms) = refl
   branched unfit = refl
 
-  pub group-fit : (left ≡ 0 → ⊥) → (getD table (4 * i + 1) 0 ≡ 0 → ⊥) → isFit group ≡ groupFit b table text store (left - 1) i
-  group-fit h f = ap isFit (group-is b table text store left i h f) ∙ branched (within b table text store (left - 1) (getD table (4 * i + 3) 0) (getD table (4 * i + 1) 0 - 1) (i + 1))
+  pub group-fit : {c n : ℕ} → c ≡ getD table (4 * i + 1) 0 → n ≡ getD table (4 * i + 3) 0 → (left ≡ 0 → ⊥) → (c ≡ 0 → ⊥)
+      → isFit (within b table text store (left - 1) n (c - 1) (i + 1)) ≡ isFit group
+  group-fit ec en h f =
+      (λ j. isFit (within b table text store (left - 1) (en j) (ec j - 1) (i + 1)))
+      ∙ sym (ap isFit (group-is b table text store left i h (λ z. f (ec ∙ z)))
+      ∙ branched (within b table text store (left - 1) (getD table (4 * i + 3) 0) (getD table (4 * i + 1) 0 - 1) (i + 1)))
+
+-- the root is the one member of its nodes
+pub root-member : (table text store : List ℕ) (left c : ℕ) → c ≡ countAt (drop 0 (nodesIn table))
+    → isFit (within Items table text store left 1 c 0) ≡ isFit (treeAt left text store (drop 0 (nodesIn table)))
+unfolding labelAt
+root-member table text store left c e =
+    let m : memberSize Items (nodesIn table) ≡ c = omega (arith, e) in
+    let f : leb (memberSize Items (nodesIn table)) c ≡ true = le-leb (memberSize Items (nodesIn table)) c (omega arith) in
+    let z : c - memberSize Items (nodesIn table) ≡ 0 = omega arith in
+    let l : isFit (membersAt Items (labelAt Items text store) (treeAt left text store) 0 (c - memberSize Items (nodesIn table)) (drop (memberSize Items (nodesIn table)) (nodesIn table))) ≡ true =
+    sym (members-left Items (labelAt Items text store) (treeAt left text store) _ _) ∙ eq-eqb _ 0 z in
+    members-fit Items (labelAt Items text store) (treeAt left text store) 0 c (nodesIn table)
+    ∙ rw (f, l) (and-true (isFit (treeAt left text store (nodesIn table))))
+  where
+    and-true : (x : Bool) → x && true ≡ x
+    and-true true = refl
+    and-true false = refl

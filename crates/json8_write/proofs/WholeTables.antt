@@ -14,14 +14,17 @@ use Rattle.prelude.proofs.Cases.{split, never}
 use Rattle.prelude.proofs.Picks.{pick-true, pick-false}
 use Rattle.prelude.proofs.Stores.{sets-over, empty-front}
 use Rattle.strings.specs.Write.{wroteInto}
+use Rattle.json8.specs.declared.nodes.Sort.the-variants.{Items}
 use Rattle.trees.specs.Trees.{Tree, render}
 use Rattle.trees.specs.Tables.{Maybe, just, unfit, need, nodesIn, countAt, treeAt, treeOf}
 use Rattle.json8_write.specs.declared.answers.WroteTable.{WroteTable}
 use Rattle.json8_write.specs.declared.answers.WroteTable.the-variants.{Wrote, Refused}
-use Rattle.json8_write.specs.Steps.{Put, treeText}
+use Rattle.json8_write.specs.Steps.{within, Put, treeText, bodyText}
 use Rattle.json8_write.specs.Write.{isFit, wroteTree, treeInto}
 use Rattle.json8_write.proofs.Puts.{put-as}
 use Rattle.json8_write.proofs.TableNodes.{nodes-length}
+use Rattle.json8_write.proofs.Fitting.{root-member}
+use Rattle.json8_write.proofs.GroupTexts.{root-within, root-text}
 use Rattle.json8_write.proofs.Choices.{fit-need, false-true}
 
 -- "1 to 1,024 nodes by the root's count, all inside the table"
@@ -42,9 +45,9 @@ module _ (table text store : List ℕ) (c : ℕ) (ec : c ≡ countAt (drop 0 (no
     whole-outside f =
         sym (ap isFit (few ∙ pick-false _ _ _ (lt-leb (countAt (nodesIn table)) (length (nodesIn table)) (omega (arith, ec, nodes-length table)))))
 
-    pub whole-value : {r : Bool} → c ≤ length table / 4 → r ≡ isFit (treeAt 32 text store (drop 0 (nodesIn table))) → r ≡ isFit whole
+    pub whole-value : {r : Bool} → c ≤ length table / 4 → r ≡ isFit (within Items table text store 32 1 c 0) → r ≡ isFit whole
     whole-value f e =
-        e ∙ sym (ap isFit (few ∙ pick-true _ _ _ (le-leb (countAt (nodesIn table)) (length (nodesIn table)) (omega (arith, ec, nodes-length table)))))
+        e ∙ root-member table text store 32 c ec ∙ sym (ap isFit (few ∙ pick-true _ _ _ (le-leb (countAt (nodesIn table)) (length (nodesIn table)) (omega (arith, ec, nodes-length table)))))
 
 -- a table that is fit is its root's value
 module _ (table text store : List ℕ) (f : isFit (treeOf (nodesIn table) text store) ≡ true) where
@@ -64,15 +67,12 @@ module _ (table text store : List ℕ) (f : isFit (treeOf (nodesIn table) text s
   unfolding treeOf
   root-is = pick-true _ _ _ (parts .0) ∙ pick-true _ _ _ (parts .1)
 
-  pub root-room : 0 + countAt (drop 0 (nodesIn table)) ≤ 1024
-  root-room = omega (arith, leb-true (countAt (nodesIn table)) 1024 (parts .0))
+  pub root-fit : {c : ℕ} → c ≡ countAt (drop 0 (nodesIn table)) → (0 + c ≤ 1024) × (isFit (within Items table text store 32 1 c 0) ≡ true)
+  root-fit {c} ec = (omega (arith, root-count ec .0), root-within table text store 32 c ec (sym (ap isFit root-is) ∙ f))
 
-  pub root-fit : isFit (treeAt 32 text store (drop 0 (nodesIn table))) ≡ true
-  root-fit = sym (ap isFit root-is) ∙ f
-
-  pub root-put : {room o r : ℕ} {out new : List ℕ} → Put (treeText (treeAt 32 text store (drop 0 (nodesIn table)))) room o r out new
+  pub root-put : {c room o r : ℕ} {out new : List ℕ} → c ≡ countAt (drop 0 (nodesIn table)) → Put (bodyText true (within Items table text store 32 1 c 0)) room o r out new
       → Put (treeText (treeOf (nodesIn table) text store)) room o r out new
-  root-put w = put-as (ap treeText root-is) w
+  root-put {c} ec w = put-as (ap treeText root-is ∙ sym (root-text table text store 32 c ec (sym (ap isFit root-is) ∙ f))) w
 
 -- what writing answers and leaves
 abbrev Wrote-It : Maybe Tree → List ℕ → WroteTable → List ℕ → Type 0

@@ -1,19 +1,22 @@
 -- What the functions of the code promise each other: these speak of the code alone, and no rule cites them.
 -- Assumes nothing.
 use Prim.Native.Nat.{ℕ, _+_, _*_, _/_, _≤_, _<_}
-use mathlib.Core.Bool.{Bool, _&&_}
+use mathlib.Core.Bool.{Bool, false, _&&_}
 use mathlib.Core.List.{List, [], _++_}
 use mathlib.Core.Path.{_≡_}
 use lib.Dec.{leb, eqb}
 use lib.ListN.{length, getD, drop}
 use lib.Seq.{sets}
 use Rattle.json8.specs.declared.nodes.Sort.{Sort}
+use Rattle.json8.specs.declared.nodes.Sort.the-variants.{Items, Pairs}
+use Rattle.json8_write.specs.declared.nodes.Branch.{Branch}
+use Rattle.json8_write.specs.declared.nodes.Branch.the-variants.{Of, Leaf}
 use Rattle.prelude.specs.Pick.{pick}
 use Rattle.tokens.specs.Words.{nullWord, falseWord, trueWord}
 use Rattle.strings.specs.Write.{writeString}
 use Rattle.json8.specs.Nodes.{Node, node}
-use Rattle.trees.specs.Trees.{Label, Tree, Members, comma, render, renderLabel, renderMembers}
-use Rattle.trees.specs.Tables.{Maybe, just, unfit, labelSize, memberSize, TreeReader}
+use Rattle.trees.specs.Trees.{Label, Tree, Members, none, one, comma, render, renderLabel}
+use Rattle.trees.specs.Tables.{Maybe, just, unfit, nodesIn, labelSize, labelAt, memberSize, TreeReader, membersAt, treeAt}
 use Rattle.json8_write.specs.Write.{isFit}
 
 -- no buffer is longer
@@ -32,6 +35,14 @@ Inside table i = i < length table / 4
 pub record Put (text : List ℕ) (room o r : ℕ) (out new : List ℕ) : Type 0 where
   pub fits : o + length text ≤ room → (r ≡ o + length text) × (new ≡ sets out o text)
   pub over : room < o + length text → room < r
+
+-- so many members from node i on, which fill w nodes
+abbrev pub within : (b : Sort) (table text store : List ℕ) (left members w i : ℕ) → Maybe (Members b)
+within b table text store left members w i = membersAt b (labelAt b text store) (treeAt left text store) members w (drop i (nodesIn table))
+
+-- a list or a dict by its kind, or neither
+unfoldable pub branchOf : ℕ → Branch
+branchOf kind = pick (eqb kind 7) (Of Items) (pick (eqb kind 8) (Of Pairs) Leaf)
 
 -- the first member's nodes are among w, and it is fit
 abbrev pub memberFit : (b : Sort) → (List Node → Maybe (Label b)) → TreeReader → ℕ → List Node → Bool
@@ -54,9 +65,14 @@ abbrev pub labelText : (b : Sort) → Maybe (Label b) → List ℕ
 labelText b (just k) = renderLabel b k
 labelText b unfit = []
 
-abbrev pub membersText : {b : Sort} → Bool → Maybe (Members b) → List ℕ
-membersText first (just ms) = renderMembers first ms
-membersText first unfit = []
+-- members without their closing bracket
+unfoldable pub renderBody : {b : Sort} → Bool → Members b → List ℕ
+renderBody first none = []
+renderBody {b} first (one k t ms) = (comma first ++ (renderLabel b k ++ render t)) ++ renderBody false ms
+
+abbrev pub bodyText : {b : Sort} → Bool → Maybe (Members b) → List ℕ
+bodyText first (just ms) = renderBody first ms
+bodyText first unfit = []
 
 -- a member's comma, key and value
 abbrev pub memberText : (b : Sort) → (List Node → Maybe (Label b)) → TreeReader → Bool → List Node → List ℕ

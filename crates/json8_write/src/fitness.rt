@@ -7,9 +7,10 @@ ghost use lib.ListN.{length, drop};
 ghost use Rattle.json8.specs.declared.nodes.Sort.the-variants.{Pairs};
 ghost use Rattle.json8.specs.Nodes.{Node};
 ghost use Rattle.trees.specs.Tables.{nodesIn, countAt, stringOf, numberOf, leafOf, labelSize, labelAt, memberSize, treeAt, grouped, treeOf};
-ghost use Rattle.json8_write.specs.Steps.{Inside, nodeAt, memberFit};
+ghost use Rattle.json8_write.specs.Steps.{Inside, nodeAt, memberFit, within};
 ghost use Rattle.json8_write.specs.Write.{isFit};
 use crate::nodes;
+use crate::nodes::Branch;
 use json8::nodes::NODE_MAX;
 use json8::nodes::Sort;
 use json8::read;
@@ -86,14 +87,10 @@ fn is_value(table: &[u32], text: &[u8], store: &[u8], i: usize, left: usize) -> 
     if table.len() / 4 <= i {
         return false;
     }
-    let kind = table[4 * i];
-    if kind == 7 {
-        return is_group(table, text, store, i, left, Sort::Items);
+    match nodes::branch_of(table[4 * i]) {
+        Branch::Of(sort) => is_group(table, text, store, i, left, sort),
+        Branch::Leaf => is_leaf(table, text, store, i),
     }
-    if kind == 8 {
-        return is_group(table, text, store, i, left, Sort::Pairs);
-    }
-    is_leaf(table, text, store, i)
 }
 
 // A member in w nodes that are left.
@@ -118,7 +115,7 @@ fn is_member(
     is_value(table, text, store, i + nodes::label_size(sort), left)
 }
 
-// A list or a dict: so many members fill its nodes.
+// A list or a dict: its members fill its nodes.
 fn is_group(table: &[u32], text: &[u8], store: &[u8], i: usize, left: usize, sort: Sort) -> bool
     requires { ⌜ Inside (now table) i × (i + nodeAt i (now table) .count ≤ 1024) ⌝ }
     ensures { λ r. ⌜ r ≡ isFit (grouped left (now (text .entry)) (now (store .entry)) sort (nodeAt i (now (table .entry))) (drop (i + 1) (nodesIn (now (table .entry))))) ⌝ }
@@ -130,22 +127,49 @@ fn is_group(table: &[u32], text: &[u8], store: &[u8], i: usize, left: usize, sor
     if count == 0 {
         return false;
     }
-    let mut members = nodes::number_in(table, 4 * i + 3);
-    let mut w = count - 1;
-    let mut at = i + 1;
-    while 0 < members {
-        if !is_member(table, text, store, at, w, left - 1, sort) {
+    let members = nodes::number_in(table, 4 * i + 3);
+    are_members(
+        table,
+        text,
+        store,
+        i + 1,
+        members,
+        count - 1,
+        left - 1,
+        sort,
+    )
+}
+
+// So many members from node i on, which fill w nodes.
+fn are_members(
+    table: &[u32],
+    text: &[u8],
+    store: &[u8],
+    i: usize,
+    members: usize,
+    w: usize,
+    left: usize,
+    sort: Sort,
+) -> bool
+    requires { ⌜ i + w ≤ 1024 ⌝ }
+    ensures { λ r. ⌜ r ≡ isFit (within sort (now (table .entry)) (now (text .entry)) (now (store .entry)) left members w i) ⌝ }
+{
+    let mut more = members;
+    let mut free = w;
+    let mut at = i;
+    while 0 < more {
+        if !is_member(table, text, store, at, free, left, sort) {
             return false;
         }
         let size = nodes::member_size(table, at, sort);
         at += size;
-        w -= size;
-        members -= 1;
+        free -= size;
+        more -= 1;
     }
-    w == 0
+    free == 0
 }
 
-// Whether a table is fit to be written.
+// Whether a table is fit to be written: its root is the one member of its nodes.
 pub fn fit(table: &[u32], text: &[u8], store: &[u8]) -> bool
     ensures { λ r. ⌜ r ≡ isFit (treeOf (nodesIn (now (table .entry))) (now (text .entry)) (now (store .entry))) ⌝ }
 {
@@ -156,5 +180,14 @@ pub fn fit(table: &[u32], text: &[u8], store: &[u8]) -> bool
     if table.len() / 4 < count {
         return false;
     }
-    is_value(table, text, store, 0, read::DEPTH_MAX)
+    are_members(
+        table,
+        text,
+        store,
+        0,
+        1,
+        count,
+        read::DEPTH_MAX,
+        Sort::Items,
+    )
 }

@@ -5,9 +5,28 @@ ghost use lib.Dec.{eqb};
 ghost use lib.ListN.{length, getD, drop, take};
 ghost use Rattle.tokens.specs.Numbers.{numberKind};
 ghost use Rattle.trees.specs.Tables.{nodesIn, countAt, labelSize, memberSize};
+ghost use Rattle.json8_write.specs.Steps.{branchOf};
 use json8::nodes::Sort;
 use tokens::numbers;
 use tokens::numbers::Number;
+
+// A list or a dict, or neither.
+pub enum Branch {
+    Of(Sort),
+    Leaf,
+}
+
+pub fn branch_of(kind: u32) -> Branch
+    ensures { λ r. ⌜ r ≡ branchOf kind ⌝ }
+{
+    if kind == 7 {
+        return Branch::Of(Sort::Items);
+    }
+    if kind == 8 {
+        return Branch::Of(Sort::Pairs);
+    }
+    Branch::Leaf
+}
 
 pub fn label_size(sort: Sort) -> usize
     ensures { λ r. ⌜ (r ≡ labelSize sort) × (r ≤ 1) ⌝ }

@@ -9,8 +9,9 @@ ghost use Rattle.json8.specs.declared.nodes.Sort.the-variants.{Pairs};
 ghost use Rattle.json8.specs.Nodes.{Node};
 ghost use Rattle.trees.specs.Tables.{nodesIn, countAt, stringOf, numberOf, leafOf, labelSize, labelAt, memberSize, treeAt, grouped};
 ghost use Rattle.json8_write.specs.Write.{isFit};
-ghost use Rattle.json8_write.specs.Steps.{roomMax, Put, Inside, nodeAt, treeText, stringText, labelText, memberText};
+ghost use Rattle.json8_write.specs.Steps.{roomMax, Put, Inside, nodeAt, within, treeText, stringText, labelText, memberText, bodyText};
 use crate::nodes;
+use crate::nodes::Branch;
 use crate::texts;
 use json8::nodes::Sort;
 use json8::show;
@@ -114,7 +115,7 @@ fn label_text(
 }
 
 // A value, with so many brackets left.
-pub fn value_text(
+fn value_text(
     t: &[u8; 256],
     table: &[u32],
     text: &[u8],
@@ -128,14 +129,10 @@ pub fn value_text(
     requires { ⌜ IsTable (now t) × (i + countAt (drop i (nodesIn (now table))) ≤ 1024) × (isFit (treeAt left (now text) (now store) (drop i (nodesIn (now table)))) ≡ true) × (room ≤ roomMax) ⌝ }
     ensures { λ r. ⌜ Put (treeText (treeAt left (now (text .entry)) (now (store .entry)) (drop i (nodesIn (now (table .entry)))))) room o r (now (out .entry)) (now (out .exit)) ⌝ }
 {
-    let kind = table[4 * i];
-    if kind == 7 {
-        return group_text(t, table, text, store, i, left, Sort::Items, room, o, out);
+    match nodes::branch_of(table[4 * i]) {
+        Branch::Of(sort) => { group_text(t, table, text, store, i, left, sort, room, o, out) }
+        Branch::Leaf => leaf_text(t, table, text, store, i, room, o, out),
     }
-    if kind == 8 {
-        return group_text(t, table, text, store, i, left, Sort::Pairs, room, o, out);
-    }
-    leaf_text(t, table, text, store, i, room, o, out)
 }
 
 // A member: its comma, its key and its value.
@@ -170,7 +167,7 @@ fn member_text(
     )
 }
 
-// A list or a dict.
+// A list or a dict: its members in brackets.
 fn group_text(
     t: &[u8; 256],
     table: &[u32],
@@ -186,27 +183,53 @@ fn group_text(
     requires { ⌜ IsTable (now t) × Inside (now table) i × (i + nodeAt i (now table) .count ≤ 1024) × (isFit (grouped left (now text) (now store) sort (nodeAt i (now table)) (drop (i + 1) (nodesIn (now table)))) ≡ true) × (room ≤ roomMax) ⌝ }
     ensures { λ r. ⌜ Put (treeText (grouped left (now (text .entry)) (now (store .entry)) sort (nodeAt i (now (table .entry))) (drop (i + 1) (nodesIn (now (table .entry)))))) room o r (now (out .entry)) (now (out .exit)) ⌝ }
 {
-    let mut members = nodes::number_in(table, 4 * i + 3);
-    let mut at = i + 1;
+    let count = nodes::number_in(table, 4 * i + 1);
+    let members = nodes::number_in(table, 4 * i + 3);
+    let p = texts::put_open(sort, room, o, out);
+    let q = members_text(
+        t,
+        table,
+        text,
+        store,
+        i + 1,
+        members,
+        count - 1,
+        left - 1,
+        sort,
+        room,
+        p,
+        out,
+    );
+    texts::put_close(sort, room, q, out)
+}
+
+// So many members from node i on, which fill w nodes. A table is written as its one root, so that only lists and dicts call this again.
+pub fn members_text(
+    t: &[u8; 256],
+    table: &[u32],
+    text: &[u8],
+    store: &[u8],
+    i: usize,
+    members: usize,
+    w: usize,
+    left: usize,
+    sort: Sort,
+    room: usize,
+    o: usize,
+    out: &mut [u8],
+) -> usize
+    requires { ⌜ IsTable (now t) × (i + w ≤ 1024) × (isFit (within sort (now table) (now text) (now store) left members w i) ≡ true) × (room ≤ roomMax) ⌝ }
+    ensures { λ r. ⌜ Put (bodyText true (within sort (now (table .entry)) (now (text .entry)) (now (store .entry)) left members w i)) room o r (now (out .entry)) (now (out .exit)) ⌝ }
+{
+    let mut more = members;
+    let mut at = i;
     let mut first = true;
-    let mut p = texts::put_open(sort, room, o, out);
-    while 0 < members {
-        p = member_text(
-            t,
-            table,
-            text,
-            store,
-            at,
-            left - 1,
-            sort,
-            first,
-            room,
-            p,
-            out,
-        );
+    let mut p = o;
+    while 0 < more {
+        p = member_text(t, table, text, store, at, left, sort, first, room, p, out);
         at += nodes::member_size(table, at, sort);
-        members -= 1;
+        more -= 1;
         first = false;
     }
-    texts::put_close(sort, room, p, out)
+    p
 }

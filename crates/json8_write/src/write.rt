@@ -12,11 +12,12 @@ use crate::fitness;
 use crate::nodes;
 use crate::rooms;
 use crate::values;
+use json8::nodes::Sort;
 use json8::read;
 use prelude::refusals;
 use utf8::classes;
 
-// One pass over a fit table: its text is put as far as the buffer reaches.
+// One pass over a fit table: the text of its root is put as far as the buffer reaches.
 fn pass(
     t: &[u8; 256],
     table: &[u32],
@@ -28,7 +29,21 @@ fn pass(
     requires { ⌜ IsTable (now t) × (isFit (treeOf (nodesIn (now table)) (now text) (now store)) ≡ true) × (room ≤ roomMax) ⌝ }
     ensures { λ r. ⌜ Put (treeText (treeOf (nodesIn (now (table .entry))) (now (text .entry)) (now (store .entry)))) room 0 r (now (out .entry)) (now (out .exit)) ⌝ }
 {
-    values::value_text(t, table, text, store, 0, read::DEPTH_MAX, room, 0, out)
+    let count = nodes::count_at(table, 0);
+    values::members_text(
+        t,
+        table,
+        text,
+        store,
+        0,
+        1,
+        count,
+        read::DEPTH_MAX,
+        Sort::Items,
+        room,
+        0,
+        out,
+    )
 }
 
 // Writes a table: its text in front of out, or a refusal and out as it was. It is judged first; then one pass over no buffer measures its

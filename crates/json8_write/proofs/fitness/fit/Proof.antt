@@ -1,4 +1,4 @@
--- The root's count, and then its value (WholeTables).
+-- The root's count, and then the root as the one member of its nodes (WholeTables).
 -- Assumes nothing.
 use borrow.Author.Needs.{needs}
 use Rattle.json8_write.proofs.fitness.fit.Statement.{statement}
@@ -18,13 +18,13 @@ returns-2 : tie.Need-returns-2
 returns-2 c =
     whole-outside (now (c .before .before .before .before .before .before .args .table)) (now (c .before .before .before .before .before .before .args .text)) (now (c .before .before .before .before .before .before .args .store)) _ (c .before .before .count-at .ensures .0) (c .before .if1 .left) (c .if2 .taken)
 
-is-value-requires : tie.Need-is-value-requires
-is-value-requires c κs =
-    omega (arith, c .before .before .count-at .ensures .0, c .before .if1 .left)
+are-members-requires : tie.Need-are-members-requires
+are-members-requires c κs =
+    omega (arith, c .before .if1 .left)
 
 returns-3 : tie.Need-returns-3
 returns-3 c =
-    whole-value (now (c .before .before .before .before .before .before .before .args .table)) (now (c .before .before .before .before .before .before .before .args .text)) (now (c .before .before .before .before .before .before .before .args .store)) _ (c .before .before .before .count-at .ensures .0) (c .before .before .if1 .left) (c .before .if2 .left) (c .is-value .ensures)
+    whole-value (now (c .before .before .before .before .before .before .before .args .table)) (now (c .before .before .before .before .before .before .before .args .text)) (now (c .before .before .before .before .before .before .before .args .store)) _ (c .before .before .before .count-at .ensures .0) (c .before .before .if1 .left) (c .before .if2 .left) (c .are-members .ensures)
 
 pub fit-spec : {M : Type 1} → statement M
-fit-spec = tie.close (tie.spec count-at-requires returns returns-2 is-value-requires returns-3)
+fit-spec = tie.close (tie.spec count-at-requires returns returns-2 are-members-requires returns-3)
