@@ -8,6 +8,7 @@ ghost use Rattle.json8.specs.Read.{readAll, readOf, parsedOf, tableAfter
 ghost use Rattle.json8.specs.Told.{Told};
 use crate::answers::Parsed;
 use crate::leaves;
+use crate::nodes;
 use crate::nodes::Out;
 use crate::nodes::Step;
 use crate::values;
@@ -52,7 +53,8 @@ fn pass(t: &[u8; 256], text: &[u8], table: &mut [u32], store: &mut [u8]) -> Out
 }
 
 // Reads a JSON8 text: its nodes in front of the table and the bytes of its strings with escapes in front of the store, or a refusal
-// and both as they were. The first pass is lent no room, so it only judges.
+// and both as they were. The first pass judges: it has a table of its own and no room in the store. Where no string has an escape its
+// nodes are copied, and the text is passed once only.
 pub fn read(text: &[u8], table: &mut [u32], store: &mut [u8]) -> Parsed
     ensures answer { λ r. ⌜ r ≡ parsedOf (readOf (length (now (table .entry)) / 4) (length (now (store .entry))) (now (text .entry))) ⌝ }
     ensures nodes { λ r. ⌜ now (table .exit) ≡ tableAfter (readOf (length (now (table .entry)) / 4) (length (now (store .entry))) (now (text .entry))) (now (table .entry)) ⌝ }
@@ -62,7 +64,8 @@ pub fn read(text: &[u8], table: &mut [u32], store: &mut [u8]) -> Parsed
         return Parsed::Refused(refusals::TOO_LONG, 0);
     }
     let t = classes::table();
-    match pass(&t, text, &mut table[..0], &mut store[..0]) {
+    let mut judged = [0u32; 4096];
+    match pass(&t, text, &mut judged, &mut store[..0]) {
         Out::Refused(number, q) => {
             return Parsed::Refused(number, q);
         }
@@ -72,6 +75,10 @@ pub fn read(text: &[u8], table: &mut [u32], store: &mut [u8]) -> Parsed
             }
             if store.len() < j {
                 return Parsed::Refused(refusals::NO_ROOM, 0);
+            }
+            if j == 0 {
+                nodes::copy(4 * i, &judged, table);
+                return Parsed::Done(i, 0);
             }
             pass(&t, text, table, store);
             return Parsed::Done(i, j);
