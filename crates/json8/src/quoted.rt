@@ -87,7 +87,7 @@ fn marked_node(
     ensures { λ r. ⌜ Told (string at n m (drop at (now (text .entry)))) at n m r (now (table .entry)) (now (table .exit)) (now (store .entry)) (now (store .exit)) ⌝ }
 {
     let from = at + k;
-    let e = literals::short_run(t, text, from, style);
+    let e = literals::inner_run(t, text, from, style);
     if slices::byte_at(text, e, 0) == styles::quote_of(style) {
         nodes::put_node(n, 5, 1, from, e - from, table);
         return Out::Got(e + 1, n + 1, m, 0);

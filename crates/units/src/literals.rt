@@ -181,9 +181,9 @@ fn run_on(t: &[u8; 256], s: &[u8], from: usize, style: Style) -> usize
     at
 }
 
-// The same where few are likely, as inside a longer text or behind an escape. The first block is tried here, so that a run that ends in
-// it needs no call.
-pub fn short_run(t: &[u8; 256], s: &[u8], from: usize, style: Style) -> usize
+// The same inside a longer text, where a run is likely to end soon. The first block is tried here, so that a run that ends in it needs no
+// call.
+pub fn inner_run(t: &[u8; 256], s: &[u8], from: usize, style: Style) -> usize
     requires { ⌜ IsTable (now t) × (from ≤ length (now s)) ⌝ }
     ensures { λ r. ⌜ r ≡ from + literalRun style 0 (drop from (now (s .entry))) ⌝ }
 {
@@ -196,4 +196,17 @@ pub fn short_run(t: &[u8; 256], s: &[u8], from: usize, style: Style) -> usize
         return run_on(t, s, from + k, style);
     }
     run_on(t, s, from + n, style)
+}
+
+// The same where few are likely, as behind an escape: blocks come only behind the first sixteen bytes.
+pub fn short_run(t: &[u8; 256], s: &[u8], from: usize, style: Style) -> usize
+    requires { ⌜ IsTable (now t) × (from ≤ length (now s)) ⌝ }
+    ensures { λ r. ⌜ r ≡ from + literalRun style 0 (drop from (now (s .entry))) ⌝ }
+{
+    let end = soon(s, from, 16);
+    let at = chars_before(t, s, from, style, end);
+    if at < end {
+        return at;
+    }
+    run_on(t, s, at, style)
 }

@@ -12,8 +12,8 @@ add-from : tie.Need-add-from
 add-from c =
     let h = mark-in (c .before .before .before .args .text .now) (c .before .before .before .args .at) (c .before .before .before .args .n) (c .before .before .before .args .m) (c .before .before .before .args .k) (c .before .before .before .args .style) (c .before .before .before .pre .3) in record { fits = omega (arith, h, c .before .before .before .pre .1 .short) }
 
-short-run-requires : tie.Need-short-run-requires
-short-run-requires c κs =
+inner-run-requires : tie.Need-inner-run-requires
+inner-run-requires c κs =
     (c .before .before .before .pre .0, mark-in (c .before .before .before .args .text .now) (c .before .before .before .args .at) (c .before .before .before .args .n) (c .before .before .before .args .m) (c .before .before .before .args .k) (c .before .before .before .args .style) (c .before .before .before .pre .3))
 
 byte-at-requires : tie.Need-byte-at-requires
@@ -28,12 +28,12 @@ sub-put-node c = search needs
 put-node-requires : tie.Need-put-node-requires
 put-node-requires c κs =
     let h = mark-in (c .before .before .before .before .before .before .before .before .args .text .now) (c .before .before .before .before .before .before .before .before .args .at) (c .before .before .before .before .before .before .before .before .args .n) (c .before .before .before .before .before .before .before .before .args .m) (c .before .before .before .before .before .before .before .before .args .k) (c .before .before .before .before .before .before .before .before .args .style) (c .before .before .before .before .before .before .before .before .pre .3) in
-    let q = quote-inside (c .before .before .before .before .before .before .before .before .args .text .now) (c .before .before .before .before .before .before .before .before .args .at) (c .before .before .before .before .before .before .before .before .args .k) (c .before .before .before .before .before .before .before .before .args .style) (c .before .before .before .before .before .before .before .before .pre .3) _ (c .before .before .before .before .short-run .ensures) (sym (c .before .before .before .byte-at .ensures) ∙ c .before .if1 .taken ∙ c .before .before .quote-of .ensures) in
+    let q = quote-inside (c .before .before .before .before .before .before .before .before .args .text .now) (c .before .before .before .before .before .before .before .before .args .at) (c .before .before .before .before .before .before .before .before .args .k) (c .before .before .before .before .before .before .before .before .args .style) (c .before .before .before .before .before .before .before .before .pre .3) _ (c .before .before .before .before .inner-run .ensures) (sym (c .before .before .before .byte-at .ensures) ∙ c .before .if1 .taken ∙ c .before .before .quote-of .ensures) in
     (omega (arith, c .before .before .before .before .before .before .before .before .pre .2), omega arith, omega (arith, h, c .before .before .before .before .before .before .before .before .pre .1 .short), omega (arith, q, c .before .before .before .before .before .before .before .before .pre .1 .short))
 
 add-t16 : tie.Need-add-t16
 add-t16 c =
-    let q = quote-inside (c .before .before .before .before .before .before .before .before .before .before .before .args .text .now) (c .before .before .before .before .before .before .before .before .before .before .before .args .at) (c .before .before .before .before .before .before .before .before .before .before .before .args .k) (c .before .before .before .before .before .before .before .before .before .before .before .args .style) (c .before .before .before .before .before .before .before .before .before .before .before .pre .3) _ (c .before .before .before .before .before .before .before .short-run .ensures) (sym (c .before .before .before .before .before .before .byte-at .ensures) ∙ c .before .before .before .before .if1 .taken ∙ c .before .before .before .before .before .quote-of .ensures) in
+    let q = quote-inside (c .before .before .before .before .before .before .before .before .before .before .before .args .text .now) (c .before .before .before .before .before .before .before .before .before .before .before .args .at) (c .before .before .before .before .before .before .before .before .before .before .before .args .k) (c .before .before .before .before .before .before .before .before .before .before .before .args .style) (c .before .before .before .before .before .before .before .before .before .before .before .pre .3) _ (c .before .before .before .before .before .before .before .inner-run .ensures) (sym (c .before .before .before .before .before .before .byte-at .ensures) ∙ c .before .before .before .before .if1 .taken ∙ c .before .before .before .before .before .quote-of .ensures) in
     record { fits = omega (arith, q, c .before .before .before .before .before .before .before .before .before .before .before .pre .1 .short) }
 
 add-t19 : tie.Need-add-t19
@@ -44,11 +44,11 @@ same-length c = search needs
 
 returns : tie.Need-returns
 returns c =
-    run-told _ _ _ _ _ _ (c .before .before .before .before .before .before .before .before .before .before .before .pre .3) _ (c .before .before .before .before .before .before .before .short-run .ensures) _ _ _ (sym (c .before .before .before .before .before .before .byte-at .ensures) ∙ c .before .before .before .before .if1 .taken ∙ c .before .before .before .before .before .quote-of .ensures) (c .before .before .put-node .ensures)
+    run-told _ _ _ _ _ _ (c .before .before .before .before .before .before .before .before .before .before .before .pre .3) _ (c .before .before .before .before .before .before .before .inner-run .ensures) _ _ _ (sym (c .before .before .before .before .before .before .byte-at .ensures) ∙ c .before .before .before .before .if1 .taken ∙ c .before .before .before .before .before .quote-of .ensures) (c .before .before .put-node .ensures)
 
 escaped-node-requires : tie.Need-escaped-node-requires
 escaped-node-requires c κs =
-    (c .before .before .before .before .before .before .before .before .before .pre .0, c .before .before .before .before .before .before .before .before .before .pre .1, c .before .before .before .before .before .before .before .before .before .pre .2, slash-behind _ _ _ _ (c .before .before .before .before .before .before .before .before .before .pre .3) _ (c .before .before .before .before .before .short-run .ensures) (λ z. c .before .before .if1 .left (c .before .before .before .before .byte-at .ensures ∙ z ∙ sym (c .before .before .before .quote-of .ensures))), c .before .before .before .before .before .before .before .before .before .pre .3, c .before .before .before .before .before .short-run .ensures)
+    (c .before .before .before .before .before .before .before .before .before .pre .0, c .before .before .before .before .before .before .before .before .before .pre .1, c .before .before .before .before .before .before .before .before .before .pre .2, slash-behind _ _ _ _ (c .before .before .before .before .before .before .before .before .before .pre .3) _ (c .before .before .before .before .before .inner-run .ensures) (λ z. c .before .before .if1 .left (c .before .before .before .before .byte-at .ensures ∙ z ∙ sym (c .before .before .before .quote-of .ensures))), c .before .before .before .before .before .before .before .before .before .pre .3, c .before .before .before .before .before .inner-run .ensures)
 
 same-length-2 : tie.Need-same-length-2
 same-length-2 c = search needs
@@ -64,7 +64,7 @@ marked-node-spec =
     tie.close
     (tie.spec
     add-from
-    short-run-requires
+    inner-run-requires
     byte-at-requires
     quote-of-requires
     sub-put-node
