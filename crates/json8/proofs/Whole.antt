@@ -20,7 +20,7 @@ use Rattle.json8.specs.Nodes.{Node, Read, got, refused, Reader, seq, fla
 use Rattle.json8.specs.Leaves.{spaces}
 use Rattle.json8.specs.Values.{value}
 use Rattle.json8.specs.Read.{finish, readAll, depthMax, readOf, parsedOf, tableAfter, storeAfter}
-use Rattle.json8.specs.Told.{Place, Took, Told, ToldBy}
+use Rattle.json8.specs.Told.{Place, Took, Told, ToldBy, Answered}
 use Rattle.json8.proofs.Joined.{took, stopped, flat-length}
 
 pub from-start : (text : List ℕ) → length text ≤ textMax → Place text 0 0 0
@@ -50,12 +50,6 @@ take-front (x ∷ xs) ys = ap (λ (l : List ℕ). x ∷ l) (take-front xs ys)
 front-of : (xs l l' : List ℕ) (n : ℕ) → l' ≡ sets l 0 xs → n ≡ length xs → length xs ≤ length l' → take n l' ≡ xs
 front-of xs l l' n e f g =
     let z : length xs ≤ length l = omega (arith, g, ap length e ∙ length-sets l 0 xs) in rw (f, e, sets-over xs l z) (take-front xs _)
-
--- the answer, the table and the store afterwards
-abbrev pub Answered : List ℕ → List ℕ → List ℕ → Parsed → List ℕ → List ℕ → Type 0
-Answered text t s r t' s' =
-    (r ≡ parsedOf (readOf (length t / 4) (length s) text)) × ((t' ≡ tableAfter (readOf (length t / 4) (length s) text) t)
-    × (s' ≡ storeAfter (readOf (length t / 4) (length s) text) s))
 
 module _ (text t s : List ℕ) where
   answered : (v : Read) {r : Parsed} {t' s' : List ℕ} → readOf (length t / 4) (length s) text ≡ v → r ≡ parsedOf v → t' ≡ tableAfter v t → s' ≡ storeAfter v s

@@ -5,7 +5,7 @@ ghost use lib.ListN.{length};
 ghost use Rattle.utf8.specs.Class.{IsTable};
 ghost use Rattle.strings.specs.Read.{textMax};
 ghost use Rattle.json8.specs.Read.{readAll, readOf, parsedOf, tableAfter, storeAfter};
-ghost use Rattle.json8.specs.Told.{Told};
+ghost use Rattle.json8.specs.Told.{Told, Answered};
 use crate::answers::Parsed;
 use crate::leaves;
 use crate::nodes;
@@ -63,9 +63,7 @@ fn read_within(
     store: &mut [u8],
 ) -> Parsed
     requires { ⌜ length (now text) ≤ textMax ⌝ }
-    ensures answer { λ r. ⌜ r ≡ parsedOf (readOf (length (now (table .entry)) / 4) (length (now (store .entry))) (now (text .entry))) ⌝ }
-    ensures nodes { λ r. ⌜ now (table .exit) ≡ tableAfter (readOf (length (now (table .entry)) / 4) (length (now (store .entry))) (now (text .entry))) (now (table .entry)) ⌝ }
-    ensures bytes { λ r. ⌜ now (store .exit) ≡ storeAfter (readOf (length (now (table .entry)) / 4) (length (now (store .entry))) (now (text .entry))) (now (store .entry)) ⌝ }
+    ensures { λ r. ⌜ Answered (now (text .entry)) (now (table .entry)) (now (store .entry)) r (now (table .exit)) (now (store .exit)) ⌝ }
 {
     let t = classes::table();
     match pass(&t, text, judged, decoded) {
@@ -95,9 +93,7 @@ fn read_within(
 // Room for half the nodes and a quarter of the bytes that a text may hold: more takes time to make, which a short text would feel.
 fn read_short(text: &[u8], table: &mut [u32], store: &mut [u8]) -> Parsed
     requires { ⌜ length (now text) ≤ textMax ⌝ }
-    ensures answer { λ r. ⌜ r ≡ parsedOf (readOf (length (now (table .entry)) / 4) (length (now (store .entry))) (now (text .entry))) ⌝ }
-    ensures nodes { λ r. ⌜ now (table .exit) ≡ tableAfter (readOf (length (now (table .entry)) / 4) (length (now (store .entry))) (now (text .entry))) (now (table .entry)) ⌝ }
-    ensures bytes { λ r. ⌜ now (store .exit) ≡ storeAfter (readOf (length (now (table .entry)) / 4) (length (now (store .entry))) (now (text .entry))) (now (store .entry)) ⌝ }
+    ensures { λ r. ⌜ Answered (now (text .entry)) (now (table .entry)) (now (store .entry)) r (now (table .exit)) (now (store .exit)) ⌝ }
 {
     let mut judged = [0u32; 2048];
     let mut decoded = [0u8; 8192];
@@ -107,9 +103,7 @@ fn read_short(text: &[u8], table: &mut [u32], store: &mut [u8]) -> Parsed
 // Room for all that a text may hold.
 fn read_long(text: &[u8], table: &mut [u32], store: &mut [u8]) -> Parsed
     requires { ⌜ length (now text) ≤ textMax ⌝ }
-    ensures answer { λ r. ⌜ r ≡ parsedOf (readOf (length (now (table .entry)) / 4) (length (now (store .entry))) (now (text .entry))) ⌝ }
-    ensures nodes { λ r. ⌜ now (table .exit) ≡ tableAfter (readOf (length (now (table .entry)) / 4) (length (now (store .entry))) (now (text .entry))) (now (table .entry)) ⌝ }
-    ensures bytes { λ r. ⌜ now (store .exit) ≡ storeAfter (readOf (length (now (table .entry)) / 4) (length (now (store .entry))) (now (text .entry))) (now (store .entry)) ⌝ }
+    ensures { λ r. ⌜ Answered (now (text .entry)) (now (table .entry)) (now (store .entry)) r (now (table .exit)) (now (store .exit)) ⌝ }
 {
     let mut judged = [0u32; 4096];
     let mut decoded = [0u8; 32768];
