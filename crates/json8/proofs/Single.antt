@@ -7,7 +7,7 @@ use native.Mathlib.Omega.{arith}
 use native.Mathlib.Nat.{add-zero}
 use borrow.Author.Tests.{lt-ltb, le-ltb}
 use lib.ListN.{length, getD, take, drop, length-drop}
-use lib.Seq.{sets}
+use lib.Seq.{sets, drop-drop}
 use Rattle.prelude.specs.Pick.{pick}
 use Rattle.prelude.proofs.Cases.{never}
 use Rattle.prelude.proofs.Stores.{sets-part}
@@ -17,8 +17,9 @@ use Rattle.units.specs.Styles.{quote}
 use Rattle.units.specs.Units.{literalRun}
 use Rattle.strings.specs.declared.answers.Token.{Token}
 use Rattle.strings.specs.declared.answers.Token.the-variants.{Ended as TokenEnded, Failed}
-use Rattle.strings.specs.Read.{StringRead, accepted, refused as unread, readToken, opens, opening, tokenOf, Stored}
+use Rattle.strings.specs.Read.{StringRead, accepted, refused as unread, readUnits, readToken, opens, opening, tokenOf, Stored}
 use Rattle.strings.proofs.Places.{Inside, token-inside, Marked, opening-fits}
+use Rattle.strings.proofs.Steps.{read-skip}
 use Rattle.strings.proofs.Lengths.{Less, token-length}
 use Rattle.tokens.specs.declared.blanks.Blank.{Blank}
 use Rattle.tokens.specs.declared.blanks.Blank.the-variants.{Clear, Ill}
@@ -146,10 +147,34 @@ module _ (text : List ℕ) (at n m : ℕ) (v : Number) (ev : v ≡ numberAt (dro
   number-malformed t f s = told-stop (rw (sym ev ∙ f))
 
 -- a string's token behind the store's first m bytes
-pub stored-part : (v : StringRead) (m b : ℕ) (store new : List ℕ) → (m ≤ length store → b ≡ m) → (length store ≤ m → b ≡ length store)
+stored-part : (v : StringRead) (m b : ℕ) (store new : List ℕ) → (m ≤ length store → b ≡ m) → (length store ≤ m → b ≡ length store)
     → Stored v (take (length store - b) (drop b store)) new → StoredAt m v store (putMid b (length store - b) store new)
 stored-part (accepted bs e) m b store new f g h = ap (putMid b (length store - b) store) h ∙ sets-part store bs m b f g
 stored-part (unread number at) m b store new f g h = tt
+
+-- behind a mark the string is the units
+token-units : (s : List ℕ) (st : Style) (k : ℕ) → opening s ≡ opens st k → readToken s ≡ readUnits st k 0 (drop k s)
+unfolding readToken
+token-units s st k o = rw o (read-skip st k k s)
+
+module _ (s : List ℕ) (st : Style) (k : ℕ) (o : opening s ≡ opens st k) where
+  pub mark-fits : k ≤ length s
+  mark-fits = let f : Marked s (opens st k) = rw o at (opening-fits s) in f .1
+
+  pub token-of : (r : Token) → r ≡ tokenOf (readUnits st k 0 (drop k s)) → r ≡ tokenOf (readToken s)
+  token-of r e = e ∙ ap tokenOf (sym (token-units s st k o))
+
+  pub token-part : (m b : ℕ) (store new : List ℕ) → (m ≤ length store → b ≡ m) → (length store ≤ m → b ≡ length store)
+      → Stored (readUnits st k 0 (drop k s)) (take (length store - b) (drop b store)) new → StoredAt m (readToken s) store (putMid b (length store - b) store new)
+  token-part m b store new f g h = rw (token-units s st k o) (stored-part (readUnits st k 0 (drop k s)) m b store new f g h)
+
+-- the mark and the run behind it, in the part of a text that starts at the mark
+module _ (text : List ℕ) (at k e : ℕ) (st : Style) where
+  pub mark-part : opening (drop at text) ≡ opens st k → opening (take (length text - at) (drop at text)) ≡ opens st k
+  mark-part o = rw (rest text at) o
+
+  pub run-part : e ≡ at + k + literalRun st 0 (drop (at + k) text) → e - at ≡ k + literalRun st 0 (drop k (take (length text - at) (drop at text)))
+  run-part h = rw (rest text at, drop-drop k at text) (omega arith)
 
 -- a string with an escape
 module _ (text : List ℕ) (at n m : ℕ) (r : Token) (er : r ≡ tokenOf (readToken (take (length text - at) (drop at text)))) where

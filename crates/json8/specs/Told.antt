@@ -1,6 +1,6 @@
 -- What the readers of the code promise each other: these speak of the code alone, and no rule cites them.
 -- Assumes nothing.
-use Prim.Native.Nat.{ℕ, _+_, _*_, _≤_}
+use Prim.Native.Nat.{ℕ, _+_, _*_, _/_, _≤_}
 use mathlib.Core.Bool.{true}
 use mathlib.Core.List.{List, []}
 use mathlib.Core.Path.{_≡_}
@@ -9,6 +9,8 @@ use lib.Seq.{sets}
 use Rattle.strings.specs.Read.{StringRead, accepted, refused as unread, readToken, textMax}
 use Rattle.json8.specs.Nodes.{Node, Read, got, refused, Reader, seq, flat, nodeMax}
 use Rattle.json8.specs.Leaves.{spaces, colon, slashed, key}
+use Rattle.json8.specs.Read.{readOf, parsedOf, tableAfter, storeAfter}
+use Rattle.json8.specs.declared.answers.Parsed.{Parsed}
 use Rattle.json8.specs.declared.nodes.Out.{Out}
 use Rattle.json8.specs.declared.nodes.Out.the-variants.{Got, Refused}
 use Rattle.json8.specs.declared.nodes.Step.{Step}
@@ -34,7 +36,7 @@ pub record Took (want : Read) (at n m p i j tag : ℕ) (t t' s s' : List ℕ) : 
   pub table : t' ≡ sets t (4 * n) (flat ns)
   pub stored : s' ≡ sets s m bs
 
--- of a refused text nothing is promised: it is read into parts without room
+-- of a refused text nothing is promised: it is read into a table and a store that are thrown away
 abbrev pub ToldBy : Read → (at n m : ℕ) → Out → (t t' s s' : List ℕ) → Type 0
 ToldBy want at n m (Got p i j tag) t t' s s' = Took want at n m p i j tag t t' s s'
 ToldBy want at n m (Refused number p) t t' s s' = want ≡ refused number p
@@ -67,3 +69,9 @@ Slashed s = (bs : List ℕ) (e : ℕ) → readToken s ≡ accepted bs e → slas
 -- a key, its colon, and the blanks on both sides of that
 abbrev pub labelled : Reader
 labelled = seq key (seq spaces (seq colon spaces))
+
+-- what reading a text answers, and what the caller's table and store hold afterwards
+abbrev pub Answered : List ℕ → List ℕ → List ℕ → Parsed → List ℕ → List ℕ → Type 0
+Answered text t s r t' s' =
+    (r ≡ parsedOf (readOf (length t / 4) (length s) text)) × ((t' ≡ tableAfter (readOf (length t / 4) (length s) text) t)
+    × (s' ≡ storeAfter (readOf (length t / 4) (length s) text) s))

@@ -2,7 +2,7 @@
 ghost use mathlib.Core.List.{[], _∷_};
 ghost use mathlib.Core.Path.{_≡_};
 ghost use Prim.Native.Nat.{_*_, _≤_, _<_};
-ghost use lib.ListN.{set};
+ghost use lib.ListN.{length, take, set};
 ghost use lib.Seq.{sets};
 
 // A list or a dict, by its members.
@@ -52,4 +52,16 @@ pub fn put_node(n: usize, kind: u32, count: usize, place: usize, size: usize, ta
     put(narrow(count), i + 1, table);
     put(narrow(place), i + 2, table);
     put(narrow(size), i + 3, table);
+}
+
+// Stores the first n numbers of a table in front of another.
+pub fn copy(n: usize, from: &[u32], table: &mut [u32])
+    requires { ⌜ (n ≤ length (now from)) × (n ≤ length (now table)) ⌝ }
+    ensures { λ r. ⌜ now (table .exit) ≡ sets (now (table .entry)) 0 (take n (now (from .entry))) ⌝ }
+{
+    let mut i: usize = 0;
+    while i < n {
+        table[i] = from[i];
+        i += 1;
+    }
 }

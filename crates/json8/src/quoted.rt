@@ -26,30 +26,42 @@ use units::literals;
 use units::styles;
 use units::styles::Style;
 
-// The string that a text begins with, its bytes behind the store's first m, as far as there is room.
-fn token_at(t: &[u8; 256], s: &[u8], m: usize, store: &mut [u8]) -> Token
-    requires { ⌜ IsTable (now t) ⌝ }
+// The string that a text begins with, behind its mark of k bytes and a first run of literal characters; its bytes behind the store's
+// first m, as far as there is room.
+fn token_at(
+    t: &[u8; 256],
+    s: &[u8],
+    k: usize,
+    first: usize,
+    style: Style,
+    m: usize,
+    store: &mut [u8],
+) -> Token
+    requires { ⌜ IsTable (now t) × (opening (now s) ≡ opens style k) × (first ≡ k + literalRun style 0 (drop k (now s))) ⌝ }
     ensures is { λ r. ⌜ r ≡ tokenOf (readToken (now (s .entry))) ⌝ }
     ensures stored { λ r. ⌜ StoredAt m (readToken (now (s .entry))) (now (store .entry)) (now (store .exit)) ⌝ }
 {
     let b = slices::least(m, store.len());
-    read::token(t, s, &mut store[b..])
+    read::units_from(t, s, k, first, style, &mut store[b..])
 }
 
-// A string with an escape, or a refusal.
+// A string with an escape, or a refusal: its first run of literal characters ends at e.
 fn escaped_node(
     t: &[u8; 256],
     text: &[u8],
     at: usize,
+    k: usize,
+    e: usize,
+    style: Style,
     n: usize,
     m: usize,
     table: &mut [u32],
     store: &mut [u8],
 ) -> Out
-    requires { ⌜ IsTable (now t) × Place (now text) at n m × (n < nodeMax) × Slashed (drop at (now text)) ⌝ }
+    requires { ⌜ IsTable (now t) × Place (now text) at n m × (n < nodeMax) × Slashed (drop at (now text)) × (opening (drop at (now text)) ≡ opens style k) × (e ≡ at + k + literalRun style 0 (drop (at + k) (now text))) ⌝ }
     ensures { λ r. ⌜ Told (string at n m (drop at (now (text .entry)))) at n m r (now (table .entry)) (now (table .exit)) (now (store .entry)) (now (store .exit)) ⌝ }
 {
-    let token = token_at(t, &text[at..], m, store);
+    let token = token_at(t, &text[at..], k, e - at, style, m, store);
     match token {
         Token::Ended(len, count) => {
             nodes::put_node(n, 6, 1, m, count, table);
@@ -80,7 +92,7 @@ fn marked_node(
         nodes::put_node(n, 5, 1, from, e - from, table);
         return Out::Got(e + 1, n + 1, m, 0);
     }
-    escaped_node(t, text, at, n, m, table, store)
+    escaped_node(t, text, at, k, e, style, n, m, table, store)
 }
 
 pub fn string_node(

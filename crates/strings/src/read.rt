@@ -1,13 +1,13 @@
 // The token reader and the string reader.
 ghost use mathlib.Core.Bool.{true};
 ghost use mathlib.Core.Path.{_≡_};
-ghost use Prim.Native.Nat.{_≤_};
+ghost use Prim.Native.Nat.{_+_, _≤_};
 ghost use lib.ListN.{length, drop};
 ghost use lib.Seq.{sets};
 ghost use Rattle.utf8.specs.Class.{IsTable};
 ghost use Rattle.utf8.specs.Utf8.{fewOf};
 ghost use Rattle.units.specs.Blocks.{Running};
-ghost use Rattle.units.specs.Units.{unitAt};
+ghost use Rattle.units.specs.Units.{unitAt, literalRun};
 ghost use Rattle.strings.specs.Read.{opening, readUnits, readToken, readString, readText, fitted, decodedOf, tokenOf, readInto, Stored};
 ghost use Rattle.strings.specs.Turns.{openingOf, readBehind, stepOf, bytesOf, turnOf, turnBytes, Closed};
 use crate::answers::Decoded;
@@ -61,13 +61,17 @@ pub fn mark_at(s: &[u8]) -> Mark
     Mark::Unopened
 }
 
-// Stores up to four bytes, each if there is room for it.
+// Stores up to four bytes, each if there is room for it. Most escapes are one byte, which needs no copy.
 fn put_few(few: Few, o: usize, out: &mut [u8])
     requires { ⌜ few .count ≤ 4 ⌝ }
     ensures { λ r. ⌜ now (out .exit) ≡ sets (now (out .entry)) o (fewOf few) ⌝ }
 {
-    let bytes = [few.a, few.b, few.c, few.d];
     let n = few.count;
+    if n == 1 {
+        slices::put(few.a, o, out);
+        return;
+    }
+    let bytes = [few.a, few.b, few.c, few.d];
     slices::copy_run(&bytes, 0, n, o, out);
 }
 
@@ -89,32 +93,49 @@ fn unit_turn(t: &[u8; 256], s: &[u8], at: usize, style: Style, o: usize, out: &m
     }
 }
 
-// A run of literal characters, copied at once, and then one unit.
-fn turn(t: &[u8; 256], s: &[u8], at: usize, style: Style, o: usize, out: &mut [u8]) -> Step
-    requires { ⌜ IsTable (now t) × (at ≤ length (now s)) × (o ≤ at) ⌝ }
+// A run of literal characters that ends at a place, copied at once, and then one unit.
+fn turn(
+    t: &[u8; 256],
+    s: &[u8],
+    at: usize,
+    e: usize,
+    style: Style,
+    o: usize,
+    out: &mut [u8],
+) -> Step
+    requires { ⌜ IsTable (now t) × (at ≤ length (now s)) × (o ≤ at) × (e ≡ at + literalRun style 0 (drop at (now s))) ⌝ }
     ensures is { λ r. ⌜ r ≡ turnOf style (drop at (now (s .entry))) at o ⌝ }
     ensures stored { λ r. ⌜ now (out .exit) ≡ sets (now (out .entry)) o (turnBytes style (drop at (now (s .entry)))) ⌝ }
 {
-    let e = literals::short_run(t, s, at, style);
     let n = e - at;
     slices::copy_run(s, at, n, o, out);
     unit_turn(t, s, e, style, o + n, out)
 }
 
-// The units from a place on, up to the closing quote; their bytes are stored as far as there is room.
-fn read_units(t: &[u8; 256], s: &[u8], from: usize, style: Style, out: &mut [u8]) -> Token
-    requires { ⌜ IsTable (now t) × (from ≤ length (now s)) ⌝ }
+// The units from a place on, up to the closing quote, where it is known that the first run of literal characters ends at `first`; their
+// bytes are stored as far as there is room.
+pub fn units_from(
+    t: &[u8; 256],
+    s: &[u8],
+    from: usize,
+    first: usize,
+    style: Style,
+    out: &mut [u8],
+) -> Token
+    requires { ⌜ IsTable (now t) × (from ≤ length (now s)) × (first ≡ from + literalRun style 0 (drop from (now s))) ⌝ }
     ensures is { λ r. ⌜ r ≡ tokenOf (readUnits style from 0 (drop from (now (s .entry)))) ⌝ }
     ensures stored { λ r. ⌜ Stored (readUnits style from 0 (drop from (now (s .entry)))) (now (out .entry)) (now (out .exit)) ⌝ }
 {
     let mut at = from;
+    let mut e = first;
     let mut o: usize = 0;
     loop {
-        let step = turn(t, s, at, style, o, out);
+        let step = turn(t, s, at, e, style, o, out);
         match step {
             Step::On(next, count) => {
                 at = next;
                 o = count;
+                e = literals::short_run(t, s, next, style);
             }
             Step::Ended(end, count) => {
                 return Token::Ended(end, count);
@@ -124,6 +145,16 @@ fn read_units(t: &[u8; 256], s: &[u8], from: usize, style: Style, out: &mut [u8]
             }
         }
     }
+}
+
+// The units from a place on.
+fn read_units(t: &[u8; 256], s: &[u8], from: usize, style: Style, out: &mut [u8]) -> Token
+    requires { ⌜ IsTable (now t) × (from ≤ length (now s)) ⌝ }
+    ensures is { λ r. ⌜ r ≡ tokenOf (readUnits style from 0 (drop from (now (s .entry)))) ⌝ }
+    ensures stored { λ r. ⌜ Stored (readUnits style from 0 (drop from (now (s .entry)))) (now (out .entry)) (now (out .exit)) ⌝ }
+{
+    let first = literals::short_run(t, s, from, style);
+    units_from(t, s, from, first, style, out)
 }
 
 // The string that a text begins with, whatever follows its closing quote. It stores as far as there is room: lend it a part without

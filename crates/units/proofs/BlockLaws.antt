@@ -10,9 +10,9 @@ use lib.Dec.{ltb, leb, eqb}
 use lib.ListN.{length, getD, drop}
 use lib.Seq.{drop-cons, getD-drop}
 use borrow.Author.Count.{below-more}
-use borrow.Author.Tests.{ltb-true, ltb-false, leb-false, eqb-false, le-ltb, lt-ltb, ne-eqb, le-leb, lt-leb}
+use borrow.Author.Tests.{ltb-true, ltb-false, leb-true, leb-false, eqb-false, le-ltb, lt-ltb, ne-eqb, le-leb, lt-leb}
 use Rattle.prelude.specs.Pick.{pick}
-use Rattle.prelude.proofs.Cases.{split}
+use Rattle.prelude.proofs.Cases.{split, never}
 use Rattle.utf8.specs.Class.{classOf}
 use Rattle.utf8.specs.Utf8.{tail, twoBytes, longLen, lenBy, charLen}
 use Rattle.utf8.proofs.Characters.{ascii-len}
@@ -74,6 +74,19 @@ pub one-more : (P : ℕ → Type 0) (a b : Bool) (n : ℕ) → (a ≡ false → 
     → (k : ℕ) → k < n + 1 → P k
 one-more P a b n f g e = below-more P n (f (or-left a b e)) (g (or-right a b e))
 
+-- one byte more before the first that is found
+pub first-more : (q : ℕ) (s : List ℕ) (at k first place next : ℕ) (found : Bool) → ((j : ℕ) → j < k → j < first → Alone q (getD s (at + j) 0))
+    → (found ≡ false → Alone q (getD s (at + k) 0)) → (found ≡ true → place ≡ k) → next ≤ first → next ≤ place
+    → (j : ℕ) → j < k + 1 → j < next → Alone q (getD s (at + j) 0)
+first-more q s at k first place next found f g e a b =
+    below-more (λ j. j < next → Alone q (getD s (at + j) 0)) k (λ j h l. f j h (omega arith))
+    (λ l. split found (λ y. let z : place ≡ k = e y in let x : ⊥ = omega arith in absurd x) g)
+
+-- the least of two numbers above 0
+pub least-some : (n a b : ℕ) → (a ≤ b → n ≡ a) → (b ≤ a → n ≡ b) → 0 < a → 0 < b → 0 < n
+least-some n a b f g h i =
+    split (leb a b) (λ e. omega (arith, f (leb-true a b e))) (λ e. let l : b < a = leb-false a b e in omega (arith, g (omega arith)))
+
 tail-ascii : (b : ℕ) → b < 0x80 → tail b ≡ false
 tail-ascii b h = rw (lt-leb 0x80 b h) refl
 
@@ -106,6 +119,18 @@ module _ (st : Style) (s : List ℕ) where
       → charLen (getD s at 0 ∷ drop (suc at) s) ≡ literalLen st (drop at s)
   unfolding literalLen pick
   char-at at h p b q = rw (drop-cons s at 0 h) (simp (ne-eqb _ _ q, ne-eqb _ _ b, le-ltb _ _ p))
+
+  -- a byte at which a run ends
+  pub stop-byte : (at q : ℕ) → at < length s → q ≡ quote st → ltb (getD s at 0) 32 || (eqb (getD s at 0) 92 || eqb (getD s at 0) q) ≡ true
+      → 0 ≡ literalLen st (drop at s)
+  unfolding literalLen pick
+  stop-byte at q h eq e =
+      let b : ℕ = getD s at 0 in
+      let f : ltb b 32 || (eqb b 92 || eqb b (quote st)) ≡ true = rw eq at e in
+      rw (drop-cons s at 0 h)
+      (split (eqb b (quote st)) (λ x. simp x)
+      (λ x. split (eqb b 92) (λ y. simp (x, y))
+      (λ y. split (ltb b 32) (λ z. simp (x, y, z)) (λ z. let u : _≡_ {A = Bool} false true = simp (x, y, z) at f in never cc))))
 
   pub one-char : (at : ℕ) → at < length s → Alone (quote st) (getD s at 0) → 1 ≡ literalLen st (drop at s)
   one-char at h a = sym (ascii-len _ _ (a .ascii)) ∙ char-at at h (a .printed) (a .no-slash) (a .no-quote)

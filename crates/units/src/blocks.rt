@@ -1,12 +1,14 @@
 // Literal characters by whole blocks of bytes. A block is tested without an early end, so that its bytes are compared at once.
 ghost use mathlib.Core.Path.{_≡_};
-ghost use mathlib.Core.Bool.{false};
-ghost use Prim.Native.Nat.{_+_, _<_, _≤_};
-ghost use lib.ListN.{length, getD};
+ghost use mathlib.Core.Bool.{true, false};
+ghost use Prim.Native.Nat.{ℕ, _+_, _<_, _≤_};
+ghost use lib.ListN.{length, getD, drop};
 ghost use Rattle.utf8.specs.Utf8.{tail};
+ghost use Rattle.units.specs.Units.{literalLen};
 ghost use Rattle.units.specs.Blocks.{Alone, Paired, AllAlone, AllPaired, Running, taken};
 use crate::styles;
 use crate::styles::Style;
+use prelude::slices;
 
 // A control, the backslash, the closing quote, or a byte that is not ASCII.
 fn odd(q: u8, b: u8) -> bool
@@ -44,6 +46,46 @@ fn any_odd(q: u8, s: &[u8], at: usize, n: usize) -> bool
         k += 1;
     }
     found
+}
+
+fn narrow(k: usize) -> u8
+    requires { ⌜ k < 16 ⌝ }
+    ensures { λ r. ⌜ r ≡ k ⌝ }
+{
+    k as u8
+}
+
+fn wide(k: u8) -> usize
+    ensures { λ r. ⌜ r ≡ k ⌝ }
+{
+    k as usize
+}
+
+// A place where something was found, and past all places else.
+fn place_of(found: bool, k: u8) -> u8
+    ensures { λ r. ⌜ (found ≡ true → r ≡ k) ⌝ }
+{
+    if found { k } else { 16 }
+}
+
+fn lesser(a: u8, b: u8) -> u8
+    ensures { λ r. ⌜ (r ≤ a) × (r ≤ b) ⌝ }
+{
+    if a < b { a } else { b }
+}
+
+// The first odd one of up to sixteen bytes, 16 where none is: the least of their places, so that all are compared at once.
+pub fn first_odd(q: u8, s: &[u8], at: usize, n: usize) -> usize
+    requires { ⌜ (at + n ≤ length (now s)) × (n ≤ 16) ⌝ }
+    ensures { λ r. ⌜ ((k : ℕ) → k < n → k < r → Alone q (getD (now (s .entry)) (at + k) 0)) ⌝ }
+{
+    let mut first: u8 = 16;
+    let mut k: usize = 0;
+    while k < n {
+        first = lesser(first, place_of(odd(q, s[at + k]), narrow(k)));
+        k += 1;
+    }
+    wide(first)
 }
 
 // Whether one of 32 bytes is odd beside the next.
@@ -91,7 +133,27 @@ pub fn sixteens(s: &[u8], from: usize, style: Style) -> usize
     requires { ⌜ from ≤ length (now s) ⌝ }
     ensures { λ r. ⌜ Running style (now (s .entry)) from r ⌝ }
 {
-    alone_blocks(s, from, style, 16)
+    let mut at = from;
+    while at < s.len() {
+        let n = slices::least(16, s.len() - at);
+        let k = first_odd(styles::quote_of(style), s, at, n);
+        if k < n {
+            return at + k;
+        }
+        at += n;
+    }
+    at
+}
+
+// Whether a byte stands at a place that is no part of a literal character.
+pub fn ends(s: &[u8], at: usize, style: Style) -> bool
+    ensures { λ r. ⌜ (r ≡ true → 0 ≡ literalLen style (drop at (now (s .entry)))) ⌝ }
+{
+    if s.len() <= at {
+        return false;
+    }
+    let b = s[at];
+    (b < 32) | ((b == 92) | (b == styles::quote_of(style)))
 }
 
 // Blocks of ASCII and characters of two bytes.

@@ -10,7 +10,9 @@ ghost use Rattle.units.specs.Styles.{bareClass};
 ghost use Rattle.units.specs.Units.{literalLen, literalRun};
 ghost use Rattle.units.specs.Blocks.{Running, Ran};
 use crate::blocks;
+use crate::styles;
 use crate::styles::Style;
+use prelude::slices;
 use utf8::chars;
 use utf8::classes;
 
@@ -126,30 +128,27 @@ fn chars_before(t: &[u8; 256], s: &[u8], from: usize, style: Style, end: usize) 
     at
 }
 
-// Several literal characters at a time: by blocks of sixteen, or by the longer ones, or by eights where less than a block is left.
-fn several(t: &[u8; 256], s: &[u8], from: usize, style: Style, width: usize) -> usize
+// Several literal characters at a time: by blocks, or by eights where less than a block is left.
+fn several(t: &[u8; 256], s: &[u8], from: usize, style: Style) -> usize
     requires { ⌜ IsTable (now t) × (from ≤ length (now s)) ⌝ }
     ensures { λ r. ⌜ Running style (now (s .entry)) from r ⌝ }
 {
-    if width == 16 {
-        return blocks::sixteens(s, from, style);
-    }
     if s.len() - from < 33 {
         return classes::eights(t, s, from);
     }
     blocks::strides(s, from, style)
 }
 
-// The place behind the literal characters from a place on. What ends the blocks is passed one by one, as many bytes as the width says, and
-// then they are tried again.
-fn run_by(t: &[u8; 256], s: &[u8], from: usize, style: Style, width: usize) -> usize
-    requires { ⌜ IsTable (now t) × (from ≤ length (now s)) × (0 < width) ⌝ }
+// The place behind the literal characters from a place on, in a text most of which is likely to be one run. What ends the blocks is
+// passed one by one, 64 bytes of it, and then they are tried again.
+pub fn literal_run(t: &[u8; 256], s: &[u8], from: usize, style: Style) -> usize
+    requires { ⌜ IsTable (now t) × (from ≤ length (now s)) ⌝ }
     ensures { λ r. ⌜ r ≡ from + literalRun style 0 (drop from (now (s .entry))) ⌝ }
 {
     let mut at = from;
     while at < s.len() {
-        let mid = several(t, s, at, style, width);
-        let end = soon(s, mid, width);
+        let mid = several(t, s, at, style);
+        let end = soon(s, mid, 64);
         let most = common_before(t, s, mid, end);
         let next = chars_before(t, s, most, style, end);
         if next < end {
@@ -160,20 +159,43 @@ fn run_by(t: &[u8; 256], s: &[u8], from: usize, style: Style, width: usize) -> u
     at
 }
 
-// The literal characters of a text, most of which is likely to be one run.
-pub fn literal_run(t: &[u8; 256], s: &[u8], from: usize, style: Style) -> usize
+// The same by blocks of sixteen, which tell where they end.
+fn run_on(t: &[u8; 256], s: &[u8], from: usize, style: Style) -> usize
     requires { ⌜ IsTable (now t) × (from ≤ length (now s)) ⌝ }
     ensures { λ r. ⌜ r ≡ from + literalRun style 0 (drop from (now (s .entry))) ⌝ }
 {
-    run_by(t, s, from, style, 64)
+    let mut at = from;
+    while at < s.len() {
+        let mid = blocks::sixteens(s, at, style);
+        if blocks::ends(s, mid, style) {
+            return mid;
+        }
+        let end = soon(s, mid, 16);
+        let most = common_before(t, s, mid, end);
+        let next = chars_before(t, s, most, style, end);
+        if next < end {
+            return next;
+        }
+        at = next;
+    }
+    at
 }
 
-// The same inside a longer text, where a run is likely to end before a long block does.
+// The same inside a longer text, where a run is likely to end soon. The first block is tried here, so that a run that ends in it needs no
+// call.
 pub fn inner_run(t: &[u8; 256], s: &[u8], from: usize, style: Style) -> usize
     requires { ⌜ IsTable (now t) × (from ≤ length (now s)) ⌝ }
     ensures { λ r. ⌜ r ≡ from + literalRun style 0 (drop from (now (s .entry))) ⌝ }
 {
-    run_by(t, s, from, style, 16)
+    let n = slices::least(16, s.len() - from);
+    let k = blocks::first_odd(styles::quote_of(style), s, from, n);
+    if k < n {
+        if blocks::ends(s, from + k, style) {
+            return from + k;
+        }
+        return run_on(t, s, from + k, style);
+    }
+    run_on(t, s, from + n, style)
 }
 
 // The same where few are likely, as behind an escape: blocks come only behind the first sixteen bytes.
@@ -186,5 +208,5 @@ pub fn short_run(t: &[u8; 256], s: &[u8], from: usize, style: Style) -> usize
     if at < end {
         return at;
     }
-    literal_run(t, s, at, style)
+    run_on(t, s, at, style)
 }

@@ -5,7 +5,7 @@ use Rattle.json8.proofs.quoted.escaped_node.Statement.{statement}
 use Rattle.json8.proofs.quoted.escaped_node.Tie as tie
 use native.Mathlib.Omega.{arith}
 use lib.ListN.{length-drop}
-use Rattle.json8.proofs.Single.{token-in, failed-in, escaped-told, token-stop}
+use Rattle.json8.proofs.Single.{mark-part, run-part, token-in, failed-in, escaped-told, token-stop}
 
 sub-token-at : tie.Need-sub-token-at
 sub-token-at c = search needs
@@ -16,8 +16,12 @@ part-token-at-start c = search needs
 part-token-at-end : tie.Need-part-token-at-end
 part-token-at-end c = search needs
 
+sub-token-at-2 : tie.Need-sub-token-at-2
+sub-token-at-2 c = search needs
+
 token-at-requires : tie.Need-token-at-requires
-token-at-requires c κs = search needs
+token-at-requires c κs =
+    (c .before .before .before .before .before .pre .0, mark-part (c .before .before .before .before .before .args .text .now) (c .before .before .before .before .before .args .at) (c .before .before .before .before .before .args .k) (c .before .before .before .before .before .args .e) (c .before .before .before .before .before .args .style) (c .before .before .before .before .before .pre .4), run-part (c .before .before .before .before .before .args .text .now) (c .before .before .before .before .before .args .at) (c .before .before .before .before .before .args .k) (c .before .before .before .before .before .args .e) (c .before .before .before .before .before .args .style) (c .before .before .before .before .before .pre .5))
 
 enum-known-token : tie.Need-enum-known-token
 enum-known-token c = search needs
@@ -27,24 +31,24 @@ put-node-requires c κs =
     let g = token-in (c .before .before .before .before .before .before .before .before .before .before .before .before .args .text .now) (c .before .before .before .before .before .before .before .before .before .before .before .before .args .at) (c .before .before .before .before .before .before .before .before .before .before .before .before .args .n) (c .before .before .before .before .before .before .before .before .before .before .before .before .args .m) _ (c .before .before .before .before .before .before .token-at .ensures .0) _ _ (c .before .before .token .given .1) in
     (omega (arith, c .before .before .before .before .before .before .before .before .before .before .before .before .pre .2), omega arith, omega (arith, c .before .before .before .before .before .before .before .before .before .before .before .before .pre .1 .less, c .before .before .before .before .before .before .before .before .before .before .before .before .pre .1 .inside, c .before .before .before .before .before .before .before .before .before .before .before .before .pre .1 .short), omega (arith, g .0, g .1, length-drop (c .before .before .before .before .before .before .before .before .before .before .before .before .args .at) (c .before .before .before .before .before .before .before .before .before .before .before .before .args .text .now), c .before .before .before .before .before .before .before .before .before .before .before .before .pre .1 .short))
 
-add-t23 : tie.Need-add-t23
-add-t23 c =
+add-t27 : tie.Need-add-t27
+add-t27 c =
     let g = token-in (c .before .before .before .before .before .before .before .before .before .before .before .before .before .before .before .args .text .now) (c .before .before .before .before .before .before .before .before .before .before .before .before .before .before .before .args .at) (c .before .before .before .before .before .before .before .before .before .before .before .before .before .before .before .args .n) (c .before .before .before .before .before .before .before .before .before .before .before .before .before .before .before .args .m) _ (c .before .before .before .before .before .before .before .before .before .token-at .ensures .0) _ _ (c .before .before .before .before .before .token .given .1) in
     record { fits = omega (arith, g .0, length-drop (c .before .before .before .before .before .before .before .before .before .before .before .before .before .before .before .args .at) (c .before .before .before .before .before .before .before .before .before .before .before .before .before .before .before .args .text .now), c .before .before .before .before .before .before .before .before .before .before .before .before .before .before .before .pre .1 .short, c .before .before .before .before .before .before .before .before .before .before .before .before .before .before .before .pre .1 .inside) }
 
-add-t24 : tie.Need-add-t24
-add-t24 c = search needs
+add-t28 : tie.Need-add-t28
+add-t28 c = search needs
 
-add-t25 : tie.Need-add-t25
-add-t25 c =
+add-t29 : tie.Need-add-t29
+add-t29 c =
     let g = token-in (c .before .before .before .before .before .before .before .before .before .before .before .before .before .before .before .args .text .now) (c .before .before .before .before .before .before .before .before .before .before .before .before .before .before .before .args .at) (c .before .before .before .before .before .before .before .before .before .before .before .before .before .before .before .args .n) (c .before .before .before .before .before .before .before .before .before .before .before .before .before .before .before .args .m) _ (c .before .before .before .before .before .before .before .before .before .token-at .ensures .0) _ _ (c .before .before .before .before .before .token .given .1) in
     record { fits = omega (arith, g .0, g .1, length-drop (c .before .before .before .before .before .before .before .before .before .before .before .before .before .before .before .args .at) (c .before .before .before .before .before .before .before .before .before .before .before .before .before .before .before .args .text .now), c .before .before .before .before .before .before .before .before .before .before .before .before .before .before .before .pre .1 .short, c .before .before .before .before .before .before .before .before .before .before .before .before .before .before .before .pre .1 .inside, c .before .before .before .before .before .before .before .before .before .before .before .before .before .before .before .pre .1 .less) }
 
 enum-known-token-2 : tie.Need-enum-known-token-2
 enum-known-token-2 c = search needs
 
-add-t26 : tie.Need-add-t26
-add-t26 c =
+add-t30 : tie.Need-add-t30
+add-t30 c =
     let g = failed-in (c .before .before .before .before .before .before .before .before .before .before .before .args .text .now) (c .before .before .before .before .before .before .before .before .before .before .before .args .at) (c .before .before .before .before .before .before .before .before .before .before .before .args .n) (c .before .before .before .before .before .before .before .before .before .before .before .args .m) _ (c .before .before .before .before .before .token-at .ensures .0) _ _ (c .before .token2 .given .1) in
     record { fits = omega (arith, g, length-drop (c .before .before .before .before .before .before .before .before .before .before .before .args .at) (c .before .before .before .before .before .before .before .before .before .before .before .args .text .now), c .before .before .before .before .before .before .before .before .before .before .before .pre .1 .short, c .before .before .before .before .before .before .before .before .before .before .before .pre .1 .inside) }
 
@@ -72,14 +76,15 @@ escaped-node-spec =
     sub-token-at
     part-token-at-start
     part-token-at-end
+    sub-token-at-2
     token-at-requires
     enum-known-token
     put-node-requires
-    add-t23
-    add-t24
-    add-t25
+    add-t27
+    add-t28
+    add-t29
     enum-known-token-2
-    add-t26
+    add-t30
     same-length
     same-length-2
     returns

@@ -48,7 +48,7 @@ returns c =
 
 escaped-node-requires : tie.Need-escaped-node-requires
 escaped-node-requires c κs =
-    (c .before .before .before .before .before .before .before .before .before .pre .0, c .before .before .before .before .before .before .before .before .before .pre .1, c .before .before .before .before .before .before .before .before .before .pre .2, slash-behind _ _ _ _ (c .before .before .before .before .before .before .before .before .before .pre .3) _ (c .before .before .before .before .before .inner-run .ensures) (λ z. c .before .before .if1 .left (c .before .before .before .before .byte-at .ensures ∙ z ∙ sym (c .before .before .before .quote-of .ensures))))
+    (c .before .before .before .before .before .before .before .before .before .pre .0, c .before .before .before .before .before .before .before .before .before .pre .1, c .before .before .before .before .before .before .before .before .before .pre .2, slash-behind _ _ _ _ (c .before .before .before .before .before .before .before .before .before .pre .3) _ (c .before .before .before .before .before .inner-run .ensures) (λ z. c .before .before .if1 .left (c .before .before .before .before .byte-at .ensures ∙ z ∙ sym (c .before .before .before .quote-of .ensures))), c .before .before .before .before .before .before .before .before .before .pre .3, c .before .before .before .before .before .inner-run .ensures)
 
 same-length-2 : tie.Need-same-length-2
 same-length-2 c = search needs

@@ -5,41 +5,30 @@ use Rattle.strings.proofs.read.turn.Statement.{statement}
 use Rattle.strings.proofs.read.turn.Tie as tie
 use denote.Ref.{now}
 use native.Mathlib.Omega.{arith}
-use mathlib.Core.Path.{sym, _∙_}
 use Rattle.strings.proofs.Reading.{run-inside, run-turned}
-
-short-run-requires : tie.Need-short-run-requires
-short-run-requires c κs = search needs
 
 sub-n : tie.Need-sub-n
 sub-n c = search needs
 
 copy-run-requires : tie.Need-copy-run-requires
 copy-run-requires c κs =
-    omega (arith, c .before .short-run .ensures, run-inside (c .before .before .before .before .args .style) (now (c .before .before .before .before .args .s)) (c .before .before .before .before .args .at) (c .before .before .before .before .args .o) (c .before .short-run .result) (now (c .before .before .before .before .args .out)) (now (c .before .before .before .before .args .out)) (c .before .before .before .before .pre .1) (c .before .short-run .ensures))
+    omega (arith, c .before .before .before .pre .3, run-inside (c .before .before .before .args .style) (now (c .before .before .before .args .s)) (c .before .before .before .args .at) (c .before .before .before .args .o) (c .before .before .before .args .e) (now (c .before .before .before .args .out)) (now (c .before .before .before .args .out)) (c .before .before .before .pre .1) (c .before .before .before .pre .3))
 
 add-unit-turn : tie.Need-add-unit-turn
 add-unit-turn c = search needs
 
 unit-turn-requires : tie.Need-unit-turn-requires
 unit-turn-requires c κs =
-    (c .before .before .before .before .before .before .before .before .pre .0, run-inside (c .before .before .before .before .before .before .before .before .args .style) (now (c .before .before .before .before .before .before .before .before .args .s)) (c .before .before .before .before .before .before .before .before .args .at) (c .before .before .before .before .before .before .before .before .args .o) (c .before .before .before .before .before .short-run .result) (now (c .before .before .before .before .before .before .before .before .args .out)) (now (c .before .before .before .before .before .before .before .before .args .out)) (c .before .before .before .before .before .before .before .before .pre .1) (c .before .before .before .before .before .short-run .ensures), omega (arith, c .before .before .before .before .before .short-run .ensures))
+    (c .before .before .before .before .before .before .before .pre .0, run-inside (c .before .before .before .before .before .before .before .args .style) (now (c .before .before .before .before .before .before .before .args .s)) (c .before .before .before .before .before .before .before .args .at) (c .before .before .before .before .before .before .before .args .o) (c .before .before .before .before .before .before .before .args .e) (now (c .before .before .before .before .before .before .before .args .out)) (now (c .before .before .before .before .before .before .before .args .out)) (c .before .before .before .before .before .before .before .pre .1) (c .before .before .before .before .before .before .before .pre .3), omega (arith, c .before .before .before .before .before .before .before .pre .3))
 
 same-length : tie.Need-same-length
 same-length c = search needs
 
 returns : tie.Need-returns
 returns c =
-    run-turned (c .before .before .before .before .before .before .before .before .before .before .before .args .style) (now (c .before .before .before .before .before .before .before .before .before .before .before .args .s)) (c .before .before .before .before .before .before .before .before .before .before .before .args .at) (c .before .before .before .before .before .before .before .before .before .before .before .args .o) (c .before .before .before .before .before .before .before .before .short-run .result) (now (c .before .before .before .before .before .before .before .before .before .before .before .args .out)) _ (c .before .before .before .before .before .before .before .before .before .before .before .pre .1) (c .before .before .before .before .before .before .before .before .short-run .ensures) _ _ (c .before .before .before .before .before .before .copy-run .ensures) (c .before .before .unit-turn .ensures)
+    run-turned (c .before .before .before .before .before .before .before .before .before .before .args .style) (now (c .before .before .before .before .before .before .before .before .before .before .args .s)) (c .before .before .before .before .before .before .before .before .before .before .args .at) (c .before .before .before .before .before .before .before .before .before .before .args .o) (c .before .before .before .before .before .before .before .before .before .before .args .e) (now (c .before .before .before .before .before .before .before .before .before .before .args .out)) _ (c .before .before .before .before .before .before .before .before .before .before .pre .1) (c .before .before .before .before .before .before .before .before .before .before .pre .3) _ _ (c .before .before .before .before .before .before .copy-run .ensures) (c .before .before .unit-turn .ensures)
 
 pub turn-spec : {M : Type 1} → statement M
 turn-spec =
     tie.close
-    (tie.spec
-    short-run-requires
-    sub-n
-    copy-run-requires
-    add-unit-turn
-    unit-turn-requires
-    same-length
-    returns)
+    (tie.spec sub-n copy-run-requires add-unit-turn unit-turn-requires same-length returns)

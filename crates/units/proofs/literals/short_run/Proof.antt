@@ -1,4 +1,4 @@
--- The run ends among the first bytes, or where `literal_run` says.
+-- The run ends among the first bytes, or where `run_on` says.
 -- Assumes nothing.
 use Rattle.units.proofs.literals.short_run.Statement.{statement}
 use Rattle.units.proofs.literals.short_run.Tie as tie
@@ -18,14 +18,14 @@ returns : tie.Need-returns
 returns c =
     stopped _ _ _ _ (c .before .chars-before .ensures .run) (c .before .chars-before .ensures .stop (c .if1 .taken))
 
-literal-run-requires : tie.Need-literal-run-requires
-literal-run-requires c κs =
+run-on-requires : tie.Need-run-on-requires
+run-on-requires c κs =
     (c .before .before .before .before .pre .0, c .before .chars-before .ensures .run .inside)
 
 returns-2 : tie.Need-returns-2
 returns-2 c =
-    c .literal-run .ensures ∙ c .before .before .chars-before .ensures .run .same
+    c .run-on .ensures ∙ c .before .before .chars-before .ensures .run .same
 
 pub short-run-spec : {M : Type 1} → statement M
 short-run-spec =
-    tie.close (tie.spec soon-requires chars-before-requires returns literal-run-requires returns-2)
+    tie.close (tie.spec soon-requires chars-before-requires returns run-on-requires returns-2)

@@ -1,7 +1,7 @@
 -- Blocks and characters each leave the run's end where it was, until a character that isn't literal or the text's end is reached (LiteralRuns).
 -- Assumes nothing.
-use Rattle.units.proofs.literals.run_by.Statement.{statement}
-use Rattle.units.proofs.literals.run_by.Tie as tie
+use Rattle.units.proofs.literals.literal_run.Statement.{statement}
+use Rattle.units.proofs.literals.literal_run.Tie as tie
 use Prim.Native.Nat.{_-_}
 use native.Mathlib.Omega.{arith}
 use lib.ListN.{length}
@@ -9,11 +9,11 @@ use Rattle.units.specs.Blocks.{Running}
 use Rattle.units.proofs.LiteralRuns.{here, further, stopped, at-end, advances}
 
 abbrev Inv-loop : tie.InvT-loop
-Inv-loop t s from style width at₀ at =
+Inv-loop t s from style at₀ at =
     Running style s from at
 
 abbrev μ-loop : tie.MeasureT-loop
-μ-loop t s from style width at₀ at =
+μ-loop t s from style at₀ at =
     length s - at
 
 loop-holds : tie.Need-loop-holds Inv-loop μ-loop
@@ -26,7 +26,7 @@ several-requires c κs =
 
 soon-requires : tie.Need-soon-requires Inv-loop μ-loop
 soon-requires c κs =
-    (c .several .ensures .inside, c .before .before .before .before .pre .2)
+    (c .several .ensures .inside, omega arith)
 
 common-before-requires : tie.Need-common-before-requires Inv-loop μ-loop
 common-before-requires c κs =
@@ -52,8 +52,8 @@ returns-2 : tie.Need-returns-2 Inv-loop μ-loop
 returns-2 c =
     at-end _ _ _ _ (c .before .loop .inv) (omega arith)
 
-pub run-by-spec : {M : Type 1} → statement M
-run-by-spec =
+pub literal-run-spec : {M : Type 1} → statement M
+literal-run-spec =
     tie.close
     (tie.spec
     Inv-loop
