@@ -1,8 +1,13 @@
-// Lists of cases: a name, `=`, the table's notation; behind each stands `|`.
+// Lists of cases: a name, `=`, the table's notation; behind each stands `|`. Where there is no `=`, it is a heading.
 use crate::lines;
 use crate::tables;
 use report::show;
 use report::slices;
+
+fn heading(name: &[u8]) {
+    show::print_text(name);
+    show::end_line();
+}
 
 fn case(name: &[u8], table: &[u32], text: &[u8], store: &[u8]) {
     show::print_text(name);
@@ -12,7 +17,7 @@ fn case(name: &[u8], table: &[u32], text: &[u8], store: &[u8]) {
 fn case_of(pattern: &[u8], text: &[u8], store: &[u8], rooms: bool) {
     let mark = slices::find(pattern, 0, b'=', true);
     if mark == pattern.len() {
-        return;
+        return heading(pattern);
     }
     let mut table = [0u32; 64];
     let size = tables::build(&pattern[mark + 1..], &mut table);

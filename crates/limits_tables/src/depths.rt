@@ -55,27 +55,10 @@ fn each(kind: u32, other: u32) {
     case(40, kind, other, 0);
 }
 
-// Two nests beside each other: the first is closed where the second opens.
-fn beside(levels: usize, deep: usize) {
-    show::print_number(levels);
-    show::print_named(b" lists and beside them ", deep);
-    let mut table = [0u32; 400];
-    let second = nest(deep, LIST, LIST, 0, 400, &mut table);
-    let first = nest(levels, LIST, LIST, 0, second, &mut table);
-    let at = tables::put_group(LIST, 2, 400, first, &mut table);
-    if at > 400 {
-        return;
-    }
-    lines::end(&table[at..], b"", b"");
-}
-
 pub fn run() {
     show::print(b"depths\n");
     each(LIST, LIST);
     each(DICT, DICT);
     each(LIST, DICT);
     each(DICT, LIST);
-    beside(31, 31);
-    beside(31, 32);
-    beside(32, 31);
 }

@@ -1,10 +1,10 @@
-// A case is a table with its text and store, written into the first bytes of a buffer that was filled with aa. It is a line: its name, whether
-// the table is fit, what writing answers, the text, and a word if another byte of the buffer was touched.
+// A case is a table with its text and store, written into the first bytes of a buffer that was filled with aa. It is a line: its name,
+// whether the table is fit, what writing answers, the text, and a word if another byte of the buffer was touched.
 use json8_write::answers::WroteTable;
 use report::show;
 use report::slices;
 
-pub const FILL: u8 = 0xaa;
+const FILL: u8 = 0xaa;
 
 fn print_fit(fit: bool) {
     if fit {
@@ -12,15 +12,6 @@ fn print_fit(fit: bool) {
     } else {
         show::print(b": unfit, ");
     }
-}
-
-// A text of one long run is printed by runs.
-fn print_written(text: &[u8]) {
-    if text.len() > 4096 {
-        return show::print_runs(text);
-    }
-    show::blank();
-    show::print_text(text);
 }
 
 fn print_rest(rest: &[u8]) {
@@ -35,7 +26,8 @@ fn print_wrote(n: usize, out: &[u8]) {
     if out.len() < n {
         return show::print(b", more than the buffer");
     }
-    print_written(&out[..n]);
+    show::blank();
+    show::print_text(&out[..n]);
     print_rest(&out[n..]);
 }
 
@@ -50,7 +42,7 @@ fn print_answer(answer: WroteTable, out: &[u8]) {
 }
 
 // The line behind its name. Writing is lent so much of the buffer as the room says.
-pub fn end_in(table: &[u32], text: &[u8], store: &[u8], room: usize, out: &mut [u8]) {
+fn end_in(table: &[u32], text: &[u8], store: &[u8], room: usize, out: &mut [u8]) {
     if out.len() < room {
         return;
     }
@@ -65,7 +57,7 @@ fn end_in_room(table: &[u32], text: &[u8], store: &[u8], room: usize) {
     end_in(table, text, store, room, &mut out);
 }
 
-// The line behind its name, with room for any text but the long ones.
+// The line behind its name, with room for any text.
 pub fn end(table: &[u32], text: &[u8], store: &[u8]) {
     end_in_room(table, text, store, 4096);
 }

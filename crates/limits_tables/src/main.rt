@@ -3,6 +3,7 @@ mod cases;
 mod counts;
 mod depths;
 mod kinds;
+mod lengths;
 mod lines;
 mod many;
 mod numbers;
@@ -14,6 +15,7 @@ mod texts;
 
 fn main() {
     counts::run();
+    lengths::run();
     kinds::run();
     ranges::run();
     numbers::run();

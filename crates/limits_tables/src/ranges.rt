@@ -1,77 +1,57 @@
 // Ranges of strings and numbers: inside, up to the end, one past it, and with a sum past 32 bits.
-use crate::lines;
-use report::show;
+use crate::cases;
 
-fn print_node(kind: u32, place: u32, size: u32) {
-    show::print_named(b"kind ", kind as usize);
-    show::print_named(b", place ", place as usize);
-    show::print_named(b", length ", size as usize);
+// The other buffer is longer.
+fn strings() {
+    cases::each(
+        b"abcd",
+        b"uvwxyz",
+        b"ranges of strings in the text|\
+          all = 5,1,0,4|to the end = 5,1,3,1|inside = 5,1,1,1|empty = 5,1,0,0|empty at the end = 5,1,4,0|\
+          empty past it = 5,1,5,0|all and one more = 5,1,0,5|one past it = 5,1,3,2|from the end = 5,1,4,1|\
+          length 2^32 - 1 = 5,1,1,4294967295|empty at 2^32 - 1 = 5,1,4294967295,0|at 2^32 - 1 = 5,1,4294967295,1|\
+          sum 2^32 + 4 = 5,1,4294967295,5|sum 2^32 = 5,1,2147483648,2147483648|",
+    );
+    cases::each(
+        b"abcdef",
+        b"wxyz",
+        b"ranges of strings in the store|\
+          all = 6,1,0,4|to the end = 6,1,3,1|inside = 6,1,1,1|empty = 6,1,0,0|empty at the end = 6,1,4,0|\
+          empty past it = 6,1,5,0|all and one more = 6,1,0,5|one past it = 6,1,3,2|from the end = 6,1,4,1|\
+          length 2^32 - 1 = 6,1,1,4294967295|empty at 2^32 - 1 = 6,1,4294967295,0|at 2^32 - 1 = 6,1,4294967295,1|\
+          sum 2^32 + 4 = 6,1,4294967295,5|sum 2^32 = 6,1,2147483648,2147483648|",
+    );
 }
 
-fn case(kind: u32, place: u32, size: u32, text: &[u8], store: &[u8]) {
-    print_node(kind, place, size);
-    let table = [kind, 1, place, size];
-    lines::end(&table, text, store);
-}
-
-// The buffer of the kind has four bytes, the other has another length.
-fn each(kind: u32, text: &[u8], store: &[u8]) {
-    case(kind, 0, 4, text, store);
-    case(kind, 1, 3, text, store);
-    case(kind, 1, 2, text, store);
-    case(kind, 0, 0, text, store);
-    case(kind, 4, 0, text, store);
-    case(kind, 5, 0, text, store);
-    case(kind, 0, 5, text, store);
-    case(kind, 1, 4, text, store);
-    case(kind, 4, 1, text, store);
-    case(kind, 1, 4294967295, text, store);
-    case(kind, 4294967295, 0, text, store);
-    case(kind, 4294967295, 1, text, store);
-    case(kind, 4294967295, 5, text, store);
-    case(kind, 4294967292, 8, text, store);
-    case(kind, 2147483648, 2147483648, text, store);
-    case(kind, 4294967295, 4294967295, text, store);
+fn numbers() {
+    cases::each(
+        b"11e2",
+        b"33e456",
+        b"ranges of whole numbers|\
+          all = 3,1,0,4|to the end = 3,1,3,1|inside = 3,1,1,1|empty = 3,1,0,0|empty at the end = 3,1,4,0|\
+          empty past it = 3,1,5,0|all and one more = 3,1,0,5|one past it = 3,1,3,2|from the end = 3,1,4,1|\
+          length 2^32 - 1 = 3,1,1,4294967295|empty at 2^32 - 1 = 3,1,4294967295,0|at 2^32 - 1 = 3,1,4294967295,1|\
+          sum 2^32 + 4 = 3,1,4294967295,5|sum 2^32 = 3,1,2147483648,2147483648|\
+          ranges of other numbers|\
+          all = 4,1,0,4|to the end = 4,1,1,3|inside = 4,1,1,1|empty = 4,1,0,0|empty at the end = 4,1,4,0|\
+          empty past it = 4,1,5,0|all and one more = 4,1,0,5|one past it = 4,1,3,2|from the end = 4,1,4,1|\
+          length 2^32 - 1 = 4,1,1,4294967295|empty at 2^32 - 1 = 4,1,4294967295,0|at 2^32 - 1 = 4,1,4294967295,1|\
+          sum 2^32 + 4 = 4,1,4294967295,5|sum 2^32 = 4,1,2147483648,2147483648|",
+    );
 }
 
 fn empty() {
-    show::print(b"ranges of empty buffers\n");
-    case(3, 0, 0, b"", b"");
-    case(4, 0, 0, b"", b"");
-    case(5, 0, 0, b"", b"");
-    case(6, 0, 0, b"", b"");
-    case(5, 0, 1, b"", b"z");
-    case(6, 0, 1, b"a", b"");
-    case(5, 1, 0, b"", b"z");
-    case(6, 1, 0, b"a", b"");
-}
-
-fn long_case(place: u32, size: u32, room: usize) {
-    print_node(5, place, size);
-    show::print_named(b" in ", room);
-    let table = [5, 1, place, size];
-    let text = [b'a'; 33000];
-    let mut out = [lines::FILL; 33010];
-    lines::end_in(&table, &text, b"", room, &mut out);
-}
-
-// A text that is written from may be longer than one that is read, and so may the one that is written.
-fn long() {
-    show::print(b"ranges of a long text\n");
-    long_case(32767, 1, 3);
-    long_case(32999, 1, 3);
-    long_case(33000, 1, 3);
-    long_case(0, 33000, 33002);
-    long_case(0, 33000, 33001);
-    long_case(0, 33001, 33010);
+    cases::each(
+        b"",
+        b"",
+        b"ranges of empty buffers|\
+          whole number = 3,1,0,0|other number = 4,1,0,0|in the text = 5,1,0,0|in the store = 6,1,0,0|\
+          one past the text = 5,1,0,1|one past the store = 6,1,0,1|empty past the text = 5,1,1,0|empty past the store = 6,1,1,0|",
+    );
 }
 
 pub fn run() {
-    show::print(b"ranges\n");
-    each(5, b"abcd", b"uvwxyz");
-    each(6, b"abcdef", b"wxyz");
-    each(3, b"1234", b"567890");
-    each(4, b"11e2", b"33e456");
+    strings();
+    numbers();
     empty();
-    long();
 }

@@ -10,6 +10,9 @@ use lib.Seq.{length-take-le}
 find-requires : tie.Need-find-requires
 find-requires c κs = search needs
 
+heading-requires : tie.Need-heading-requires
+heading-requires c κs = search needs
+
 returns : tie.Need-returns
 returns c = search needs
 
@@ -72,6 +75,7 @@ case-of-spec =
     tie.close
     (tie.spec
     find-requires
+    heading-requires
     returns
     add-build
     sub-build

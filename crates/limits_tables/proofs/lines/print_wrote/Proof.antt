@@ -21,12 +21,15 @@ print-requires c κs = search needs
 returns : tie.Need-returns
 returns c = search needs
 
-slice-aggregate-print-written : tie.Need-slice-aggregate-print-written
-slice-aggregate-print-written c =
-    sym (length-take-le _ _ (c .before .if1 .left))
+blank-requires : tie.Need-blank-requires
+blank-requires c κs = search needs
 
-print-written-requires : tie.Need-print-written-requires
-print-written-requires c κs = search needs
+slice-aggregate-print-text : tie.Need-slice-aggregate-print-text
+slice-aggregate-print-text c =
+    sym (length-take-le _ _ (c .before .before .if1 .left))
+
+print-text-requires : tie.Need-print-text-requires
+print-text-requires c κs = search needs
 
 sub-print-rest : tie.Need-sub-print-rest
 sub-print-rest c = search needs
@@ -52,8 +55,9 @@ print-wrote-spec =
     slice-aggregate-print
     print-requires
     returns
-    slice-aggregate-print-written
-    print-written-requires
+    blank-requires
+    slice-aggregate-print-text
+    print-text-requires
     sub-print-rest
     part-print-rest-start
     part-print-rest-end
