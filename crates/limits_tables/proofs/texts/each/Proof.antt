@@ -1,0 +1,92 @@
+-- A text ends between its start and the end of the list, and the next one starts behind it.
+-- Assumes nothing.
+use Rattle.limits_tables.proofs.texts.each.Statement.{statement}
+use Rattle.limits_tables.proofs.texts.each.Tie as tie
+use Prim.Native.Nat.{_+_, _-_, _≤_}
+use native.Mathlib.Omega.{arith}
+use lib.ListN.{length}
+
+abbrev Inv-loop : tie.InvT-loop
+Inv-loop texts kind other at₀ at =
+    at ≤ length texts + 1
+
+abbrev μ-loop : tie.MeasureT-loop
+μ-loop texts kind other at₀ at =
+    length texts - at
+
+loop-holds : tie.Need-loop-holds Inv-loop μ-loop
+loop-holds c =
+    omega arith
+
+find-requires : tie.Need-find-requires Inv-loop μ-loop
+find-requires c κs =
+    omega arith
+
+sub-case-of : tie.Need-sub-case-of Inv-loop μ-loop
+sub-case-of c =
+    c .find .ensures .0
+
+part-case-of-start : tie.Need-part-case-of-start Inv-loop μ-loop
+part-case-of-start c =
+    c .find .ensures .0
+
+part-case-of-end : tie.Need-part-case-of-end Inv-loop μ-loop
+part-case-of-end c =
+    c .find .ensures .1
+
+case-of-requires : tie.Need-case-of-requires Inv-loop μ-loop
+case-of-requires c κs =
+    tt
+
+sub-case-of-2 : tie.Need-sub-case-of-2 Inv-loop μ-loop
+sub-case-of-2 c =
+    c .before .before .find .ensures .0
+
+part-case-of-start-2 : tie.Need-part-case-of-start-2 Inv-loop μ-loop
+part-case-of-start-2 c =
+    c .before .before .find .ensures .0
+
+part-case-of-end-2 : tie.Need-part-case-of-end-2 Inv-loop μ-loop
+part-case-of-end-2 c =
+    c .before .before .find .ensures .1
+
+case-of-requires-2 : tie.Need-case-of-requires-2 Inv-loop μ-loop
+case-of-requires-2 c κs =
+    tt
+
+add-at : tie.Need-add-at Inv-loop μ-loop
+add-at c =
+    omega (arith, c .before .before .before .before .find .ensures .1)
+
+loop-less : tie.Need-loop-less Inv-loop μ-loop
+loop-less c =
+    omega (arith, c .before .before .before .before .find .ensures .0, c .before .before .before .before .find .ensures .1)
+
+loop-again : tie.Need-loop-again Inv-loop μ-loop
+loop-again c =
+    omega (arith, c .before .before .before .before .find .ensures .1)
+
+returns : tie.Need-returns Inv-loop μ-loop
+returns c =
+    tt
+
+pub each-spec : {M : Type 1} → statement M
+each-spec =
+    tie.close
+    (tie.spec
+    Inv-loop
+    μ-loop
+    loop-holds
+    find-requires
+    sub-case-of
+    part-case-of-start
+    part-case-of-end
+    case-of-requires
+    sub-case-of-2
+    part-case-of-start-2
+    part-case-of-end-2
+    case-of-requires-2
+    add-at
+    loop-less
+    loop-again
+    returns)
