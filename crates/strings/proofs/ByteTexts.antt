@@ -7,7 +7,7 @@ use Prim.Native.Nat.{ℕ, zero, suc, pred, _+_, _-_, _*_, _≤_, _<_}
 use native.Mathlib.Omega.{arith}
 use native.Mathlib.Nat.{add-zero}
 use borrow.Author.Count.{below-more}
-use borrow.Author.Tests.{eqb-true, eqb-false, ltb-true, lt-ltb, le-ltb, ne-eqb, leb-true}
+use borrow.Author.Tests.{eqb-true, ltb-true, lt-ltb, le-ltb, ne-eqb, leb-true}
 use lib.Dec.{ltb, leb, eqb, lit≤}
 use lib.ListN.{length, getD, take, drop, set, length-append, length-drop, length-take}
 use lib.Seq.{sets, length-sets, set-set, drop-cons, drop-drop, take-add, take-suc, length-take-le, getD-drop}
@@ -17,11 +17,11 @@ use Rattle.prelude.proofs.Picks.{pick-case}
 use Rattle.prelude.proofs.Stores.{sets-append, copied}
 use Rattle.prelude.proofs.Suffix.{by-suffix}
 use Rattle.utf8.specs.Utf8.{between, charLen, validFrom, positive}
-use Rattle.utf8.proofs.Characters.{tails, low-bound, char-tails, valid-skip, ascii-len}
+use Rattle.utf8.proofs.Characters.{tails, low-bound, char-tails, valid-skip}
 use Rattle.units.specs.declared.styles.Style.the-variants.{Json}
 use Rattle.units.specs.Escapes.{lookup}
 use Rattle.units.specs.Units.{literalLen}
-use Rattle.units.specs.Written.{escapeByte, byNumber, escaped, written}
+use Rattle.units.specs.Written.{escapeByte, byNumber, escaped}
 use Rattle.units.proofs.LiteralLaws.{literal-char, literal-written}
 use Rattle.units.proofs.EscapeStores.{escape-written}
 use Rattle.strings.specs.Write.{writeUnits}

@@ -3,12 +3,10 @@
 -- Assumes nothing.
 use mathlib.Core.Path.{_≡_, refl, sym, ap, _∙_, subst}
 use mathlib.Core.List.{List, [], _∷_, _++_}
-use Prim.Native.Nat.{ℕ, zero, suc, _+_, _-_, _≤_, _<_}
+use Prim.Native.Nat.{ℕ, suc, _+_, _-_, _≤_, _<_}
 use native.Mathlib.Omega.{arith}
-use native.Mathlib.Numerals.{add-one}
-use native.Mathlib.Nat.{zero-add}
 use lib.ListN.{length, getD, take, drop, set, length-drop}
-use lib.Seq.{sets, set-set, set-comm, drop-cons, drop-drop, take-add, take-length, length-take-le}
+use lib.Seq.{sets, set-set, set-comm, drop-cons, drop-drop, take-add, length-take-le}
 use Rattle.prelude.proofs.Stores.{sets-append}
 use Rattle.units.specs.declared.styles.Style.the-variants.{Json}
 use Rattle.units.specs.Blocks.{Running, Alone, AllAlone}

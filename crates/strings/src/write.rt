@@ -101,14 +101,14 @@ fn literal_part(s: &[u8], room: usize, out: &mut [u8]) -> usize
     requires { ⌜ literalRun Json 0 (now s) ≡ length (now s) ⌝ }
     ensures { λ r. ⌜ Passed (writeString (now (s .entry))) room r (now (out .entry)) (now (out .exit)) ⌝ }
 {
-    let n = s.len();
-    if room < n + 2 {
+    let size = s.len();
+    if room < size + 2 {
         return 0;
     }
     slices::put(34, 0, out);
-    slices::copy_run(s, 0, n, 1, out);
-    slices::put(34, n + 1, out);
-    n + 2
+    slices::copy_run(s, 0, size, 1, out);
+    slices::put(34, size + 1, out);
+    size + 2
 }
 
 // The same for any data: one run to the end needs no other look, and is valid so far where it ends before.

@@ -1,8 +1,7 @@
+-- The invariant: if nothing was found, the first k bytes stand as they are.
+-- Assumes nothing.
 use Rattle.strings.proofs.bytewise.any_marked.Statement.{statement}
 use Rattle.strings.proofs.bytewise.any_marked.Tie as tie
-use Rattle.strings.proofs.bytewise.any_marked.Reads as reads
-use Rattle.strings.proofs.bytewise.any_marked.Lts as lts
-use Rattle.strings.proofs.bytewise.marked.Reads as marked-reads
 use Prim.Native.Nat.{_+_, _-_, _≤_}
 use mathlib.Core.Bool.{false}
 use mathlib.Core.List.{_∷_, []}
@@ -21,42 +20,34 @@ abbrev μ-loop : tie.MeasureT-loop
 μ-loop s at found₀ k₀ found k =
     8 - k
 
--- src/bytewise.rt:28:5
 loop-holds : tie.Need-loop-holds Inv-loop μ-loop
 loop-holds c =
     (omega arith, λ e k h. absurd (omega arith))
 
--- src/bytewise.rt:29:34
 add-marked : tie.Need-add-marked Inv-loop μ-loop
 add-marked c =
     omega arith
 
--- src/bytewise.rt:29:32
 shared-slice-read-marked : tie.Need-shared-slice-read-marked Inv-loop μ-loop
 shared-slice-read-marked c =
     omega arith
 
--- src/bytewise.rt:29:25
 marked-requires : tie.Need-marked-requires Inv-loop μ-loop
 marked-requires c κs =
     tt
 
--- src/bytewise.rt:30:9
 add-k : tie.Need-add-k Inv-loop μ-loop
 add-k c =
     omega arith
 
--- src/bytewise.rt:28:5
 loop-less : tie.Need-loop-less Inv-loop μ-loop
 loop-less c =
     omega arith
 
--- src/bytewise.rt:28:5
 loop-again : tie.Need-loop-again Inv-loop μ-loop
 loop-again c =
     (omega arith, one-more (λ k. byteText (getD (now (c .before .before .before .before .before .args .s)) (c .before .before .before .before .before .args .at + k) 0) ≡ getD (now (c .before .before .before .before .before .args .s)) (c .before .before .before .before .before .args .at + k) 0 ∷ []) _ _ _ (c .before .before .before .loop .inv .1) (c .marked .ensures))
 
--- src/bytewise.rt:22:1
 returns : tie.Need-returns Inv-loop μ-loop
 returns c =
     λ e k h. c .before .loop .inv .1 e k (omega arith)

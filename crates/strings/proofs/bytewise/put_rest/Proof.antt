@@ -1,14 +1,9 @@
+-- The invariant: the text of the bytes before a place is stored, eight bytes or single ones at a turn (ByteTexts).
+-- Assumes nothing.
 use Rattle.strings.proofs.bytewise.put_rest.Statement.{statement}
 use Rattle.strings.proofs.bytewise.put_rest.Tie as tie
-use Rattle.strings.proofs.bytewise.put_rest.Reads as reads
-use Rattle.strings.proofs.bytewise.put_rest.Lts as lts
-use Rattle.strings.proofs.bytewise.clean_eight.Reads as clean-eight-reads
-use Rattle.strings.proofs.bytewise.copy_eight.Reads as copy-eight-reads
-use Rattle.strings.proofs.bytewise.eight_on.Reads as eight-on-reads
-use Rattle.strings.proofs.bytewise.put_texts.Reads as put-texts-reads
 use native.Mathlib.Omega.{arith}
-use denote.Ref.{now}
-use Prim.Native.Nat.{_+_, _-_, _≤_}
+use Prim.Native.Nat.{_-_, _≤_}
 use lib.ListN.{length}
 use Rattle.strings.specs.Bytewise.{Texted}
 use Rattle.strings.proofs.ByteTexts.{texted-none, texted-same, texted-then, texted-length, texted-bound, texted-end}
@@ -21,71 +16,58 @@ abbrev μ-loop : tie.MeasureT-loop
 μ-loop s from start out₀ at₀ o₀ out at o =
     length s - at
 
--- src/bytewise.rt:127:5
 loop-holds : tie.Need-loop-holds Inv-loop μ-loop
 loop-holds c =
     (omega arith, omega (arith, c .before .before .pre), texted-none _ _ _ _)
 
--- src/bytewise.rt:128:12
 clean-eight-requires : tie.Need-clean-eight-requires Inv-loop μ-loop
 clean-eight-requires c κs =
     c .before .loop .inv .1
 
--- src/bytewise.rt:129:13
 copy-eight-requires : tie.Need-copy-eight-requires Inv-loop μ-loop
 copy-eight-requires c κs =
     let e = c .before .before .clean-eight .ensures (c .before .if1 .taken) .0 in
     (e, omega (arith, c .before .before .before .before .before .before .before .pre, c .before .before .before .before .loop .inv .0, texted-bound _ _ _ _ _ _ _ (c .before .before .before .before .loop .inv .2), texted-length _ _ _ _ _ _ _ (c .before .before .before .before .loop .inv .2)))
 
--- src/bytewise.rt:130:13
 add-at : tie.Need-add-at Inv-loop μ-loop
 add-at c =
     omega (arith, c .before .before .before .before .before .clean-eight .ensures (c .before .before .before .before .if1 .taken) .0)
 
--- src/bytewise.rt:131:13
 add-o : tie.Need-add-o Inv-loop μ-loop
 add-o c =
     omega (arith, c .before .before .before .before .before .before .before .before .before .before .pre, c .before .before .before .before .before .clean-eight .ensures (c .before .before .before .before .if1 .taken) .0, texted-bound _ _ _ _ _ _ _ (c .before .before .before .before .before .before .before .loop .inv .2))
 
--- src/bytewise.rt:127:5
 loop-less : tie.Need-loop-less Inv-loop μ-loop
 loop-less c =
     omega (arith, c .before .before .before .before .before .clean-eight .ensures (c .before .before .before .before .if1 .taken) .0)
 
--- src/bytewise.rt:127:5
 loop-again : tie.Need-loop-again Inv-loop μ-loop
 loop-again c =
     let e = c .before .before .before .before .before .clean-eight .ensures (c .before .before .before .before .if1 .taken) in
     (omega (arith, c .before .before .before .before .before .before .before .loop .inv .0), e .0, texted-then _ _ _ _ _ _ _ _ _ _ (c .before .before .before .before .before .before .before .loop .inv .0) (omega arith) (c .before .before .before .before .before .before .before .loop .inv .2) (texted-same _ _ _ _ _ _ (e .0) (e .1) (c .before .before .copy-eight .ensures)))
 
--- src/bytewise.rt:134:13
 eight-on-requires : tie.Need-eight-on-requires Inv-loop μ-loop
 eight-on-requires c κs =
     c .before .before .before .loop .inv .1
 
--- src/bytewise.rt:135:9
 put-texts-requires : tie.Need-put-texts-requires Inv-loop μ-loop
 put-texts-requires c κs =
     let e = c .before .eight-on .ensures in
     (e .2, e .0, omega (arith, c .before .before .before .before .before .before .before .before .pre, e, c .before .before .before .before .before .loop .inv .0, texted-bound _ _ _ _ _ _ _ (c .before .before .before .before .before .loop .inv .2), texted-length _ _ _ _ _ _ _ (c .before .before .before .before .before .loop .inv .2)))
 
--- src/bytewise.rt:127:5
 loop-less-2 : tie.Need-loop-less-2 Inv-loop μ-loop
 loop-less-2 c =
     omega (arith, c .before .before .before .before .eight-on .ensures .0, c .before .before .before .before .eight-on .ensures .1 (c .before .before .before .before .before .before .before .loop-test .taken))
 
--- src/bytewise.rt:127:5
 loop-again-2 : tie.Need-loop-again-2 Inv-loop μ-loop
 loop-again-2 c =
     let e = c .before .before .before .before .eight-on .ensures in
     (omega (arith, c .before .before .before .before .before .before .before .before .loop .inv .0, e .2), e .0, texted-then _ _ _ _ _ _ _ _ _ _ (c .before .before .before .before .before .before .before .before .loop .inv .0) (e .2) (c .before .before .before .before .before .before .before .before .loop .inv .2) (c .before .before .put-texts .ensures))
 
--- src/bytewise.rt:121:1
 same-length : tie.Need-same-length Inv-loop μ-loop
 same-length c =
     texted-length _ _ _ _ _ _ _ (c .before .loop .inv .2)
 
--- src/bytewise.rt:121:1
 returns : tie.Need-returns Inv-loop μ-loop
 returns c =
     texted-end _ _ _ _ _ _ _ _ (c .before .loop .inv .1) (omega arith) (c .before .loop .inv .2)

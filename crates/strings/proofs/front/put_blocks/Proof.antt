@@ -1,15 +1,11 @@
+-- The invariant: the front goes on to a place, and the buffer keeps its length (Fronts).
+-- Assumes nothing.
 use Rattle.strings.proofs.front.put_blocks.Statement.{statement}
 use Rattle.strings.proofs.front.put_blocks.Tie as tie
-use Rattle.strings.proofs.front.put_blocks.Reads as reads
-use Rattle.strings.proofs.front.put_blocks.Lts as lts
-use Rattle.strings.proofs.front.put_sixteen.Reads as put-sixteen-reads
-use Rattle.units.proofs.blocks.any_odd.Reads as any-odd-reads
 use native.Mathlib.Omega.{arith}
-use denote.Ref.{now}
-use Prim.Native.Nat.{_+_, _-_, _≤_}
-use mathlib.Core.Path.{_≡_, refl, sym, ap, _∙_}
+use Prim.Native.Nat.{_-_, _≤_}
+use mathlib.Core.Path.{_≡_, refl, _∙_}
 use lib.ListN.{length}
-use lib.Seq.{length-sets}
 use Rattle.strings.specs.Bytewise.{Onward}
 use Rattle.strings.proofs.Fronts.{front-block, onward-then}
 
@@ -21,57 +17,46 @@ abbrev μ-loop : tie.MeasureT-loop
 μ-loop s out₀ at₀ out at =
     length s - at
 
--- src/front.rt:25:5
 loop-holds : tie.Need-loop-holds Inv-loop μ-loop
 loop-holds c =
     (omega arith, refl, λ o f. f)
 
--- src/front.rt:25:17
 sub-loop : tie.Need-sub-loop Inv-loop μ-loop
 sub-loop c =
     omega arith
 
--- src/front.rt:26:12
 any-odd-requires : tie.Need-any-odd-requires Inv-loop μ-loop
 any-odd-requires c κs =
     omega arith
 
--- src/front.rt:27:13
 same-length : tie.Need-same-length Inv-loop μ-loop
 same-length c =
     c .before .before .before .loop .inv .1
 
--- src/front.rt:27:13
 returns : tie.Need-returns Inv-loop μ-loop
 returns c =
     (c .before .before .before .loop .inv .0, c .before .before .before .loop .inv .2)
 
--- src/front.rt:29:9
 put-sixteen-requires : tie.Need-put-sixteen-requires Inv-loop μ-loop
 put-sixteen-requires c κs =
     (omega arith, omega (arith, c .before .before .before .before .before .before .before .pre, c .before .before .before .before .loop .inv .1))
 
--- src/front.rt:30:9
 add-at : tie.Need-add-at Inv-loop μ-loop
 add-at c =
     omega arith
 
--- src/front.rt:25:5
 loop-less : tie.Need-loop-less Inv-loop μ-loop
 loop-less c =
     omega arith
 
--- src/front.rt:25:5
 loop-again : tie.Need-loop-again Inv-loop μ-loop
 loop-again c =
     (omega arith, c .before .before .put-sixteen .kept .1 .1 .0 ∙ c .before .before .before .before .before .before .before .loop .inv .1, onward-then _ _ _ _ _ _ _ (c .before .before .before .before .before .before .before .loop .inv .2) (front-block _ _ 16 _ _ (omega arith) (c .before .before .before .before .before .any-odd .ensures (c .before .before .before .before .if1 .left)) (c .before .before .put-sixteen .ensures)))
 
--- src/front.rt:20:1
 same-length-2 : tie.Need-same-length-2 Inv-loop μ-loop
 same-length-2 c =
     c .before .loop .inv .1
 
--- src/front.rt:20:1
 returns-2 : tie.Need-returns-2 Inv-loop μ-loop
 returns-2 c =
     (c .before .loop .inv .0, c .before .loop .inv .2)

@@ -1,12 +1,10 @@
+-- The invariant: the front goes on to a place, and the buffer keeps its length (Fronts).
+-- Assumes nothing.
 use Rattle.strings.proofs.front.put_singles.Statement.{statement}
 use Rattle.strings.proofs.front.put_singles.Tie as tie
-use Rattle.strings.proofs.front.put_singles.Reads as reads
-use Rattle.strings.proofs.front.put_singles.Lts as lts
-use Rattle.units.proofs.blocks.odd.Reads as odd-reads
 use native.Mathlib.Omega.{arith}
-use denote.Ref.{now}
-use Prim.Native.Nat.{_+_, _-_, _≤_}
-use mathlib.Core.Path.{_≡_, refl, sym, ap, _∙_}
+use Prim.Native.Nat.{_-_, _≤_}
+use mathlib.Core.Path.{_≡_, refl}
 use lib.ListN.{length, length-set}
 use Rattle.strings.specs.Bytewise.{Onward}
 use Rattle.strings.proofs.Fronts.{front-one, onward-then}
@@ -19,62 +17,50 @@ abbrev μ-loop : tie.MeasureT-loop
 μ-loop s from out₀ at₀ out at =
     length s - at
 
--- src/front.rt:60:5
 loop-holds : tie.Need-loop-holds Inv-loop μ-loop
 loop-holds c =
     (c .before .before .pre .0, refl, λ o f. f)
 
--- src/front.rt:61:17
 shared-slice-read-b : tie.Need-shared-slice-read-b Inv-loop μ-loop
 shared-slice-read-b c =
     omega arith
 
--- src/front.rt:62:12
 odd-requires : tie.Need-odd-requires Inv-loop μ-loop
 odd-requires c κs =
     tt
 
--- src/front.rt:63:13
 same-length : tie.Need-same-length Inv-loop μ-loop
 same-length c =
     c .before .before .before .before .loop .inv .1
 
--- src/front.rt:63:13
 returns : tie.Need-returns Inv-loop μ-loop
 returns c =
     (c .before .before .before .before .loop .inv .0, c .before .before .before .before .loop .inv .2)
 
--- src/front.rt:65:13
 add-out : tie.Need-add-out Inv-loop μ-loop
 add-out c =
     omega arith
 
--- src/front.rt:65:9
 slice-write-out : tie.Need-slice-write-out Inv-loop μ-loop
 slice-write-out c =
     omega (arith, c .before .before .before .before .before .before .before .pre, c .before .before .before .before .loop .inv .1)
 
--- src/front.rt:66:9
 add-at : tie.Need-add-at Inv-loop μ-loop
 add-at c =
     omega arith
 
--- src/front.rt:60:5
 loop-less : tie.Need-loop-less Inv-loop μ-loop
 loop-less c =
     omega arith
 
--- src/front.rt:60:5
 loop-again : tie.Need-loop-again Inv-loop μ-loop
 loop-again c =
     (omega arith, simp length-set (c .before .before .before .before .loop .inv .1), onward-then _ _ _ _ _ _ _ (c .before .before .before .before .loop .inv .2) (front-one _ _ _ (omega arith) (c .before .odd .ensures (c .if1 .left))))
 
--- src/front.rt:55:1
 same-length-2 : tie.Need-same-length-2 Inv-loop μ-loop
 same-length-2 c =
     c .before .loop .inv .1
 
--- src/front.rt:55:1
 returns-2 : tie.Need-returns-2 Inv-loop μ-loop
 returns-2 c =
     (c .before .loop .inv .0, c .before .loop .inv .2)
