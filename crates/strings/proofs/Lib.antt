@@ -1,5 +1,8 @@
+pub mod AmpleRoom
+pub mod ByteTexts
 pub mod Claims
 pub mod Ends
+pub mod Fronts
 pub mod Lengths
 pub mod Places
 pub mod Plain

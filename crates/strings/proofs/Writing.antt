@@ -202,7 +202,7 @@ pub stored-mark : (st to : Style) (out new : List ℕ) → st ≡ to → new ≡
 stored-mark st to out new e w = rw e (refl, w)
 
 -- valid data takes the `""` form
-valid-text : (s : List ℕ) → validUtf8 s ≡ true → writeString s ≡ quoted Json s
+pub valid-text : (s : List ℕ) → validUtf8 s ≡ true → writeString s ≡ quoted Json s
 unfolding writeString pick
 valid-text s e = rw e
 
@@ -240,7 +240,7 @@ module _ (s out : List ℕ) (e : literalRun Json 0 s ≡ length s) where
   literal-part h p q r = rw (valid-text s (all-literal Json s e)) (finished (omega (arith, text-length)) text-length (literal-stored p q r))
 
 -- the form that the data takes
-other-text : (s : List ℕ) → validUtf8 s ≡ false → writeString s ≡ quoted Bytes s
+pub other-text : (s : List ℕ) → validUtf8 s ≡ false → writeString s ≡ quoted Bytes s
 unfolding writeString pick
 other-text s e = rw e
 

@@ -1,4 +1,5 @@
 pub mod Read
 pub mod Turns
 pub mod Write
+pub mod Bytewise
 pub mod Claims

@@ -2,7 +2,7 @@
 ghost use mathlib.Core.Bool.{true};
 ghost use mathlib.Core.List.{List};
 ghost use mathlib.Core.Path.{_≡_};
-ghost use Prim.Native.Nat.{ℕ, _≤_};
+ghost use Prim.Native.Nat.{ℕ, _+_, _*_, _≤_};
 ghost use lib.ListN.{length};
 ghost use lib.Seq.{sets};
 ghost use Rattle.utf8.specs.Class.{IsTable};
@@ -11,7 +11,10 @@ ghost use Rattle.units.specs.declared.styles.Style.the-variants.{Json};
 ghost use Rattle.units.specs.Blocks.{Running};
 ghost use Rattle.units.specs.Units.{literalRun};
 ghost use Rattle.strings.specs.Write.{mark, quoted, writeBytes, writeString, writtenIn, wroteInto, Passed};
+ghost use Rattle.strings.specs.Bytewise.{Fronted};
 use crate::answers::Written;
+use crate::bytewise;
+use crate::front;
 use prelude::refusals;
 use prelude::slices;
 use units::blocks;
@@ -98,18 +101,18 @@ fn literal_part(s: &[u8], room: usize, out: &mut [u8]) -> usize
     requires { ⌜ literalRun Json 0 (now s) ≡ length (now s) ⌝ }
     ensures { λ r. ⌜ Passed (writeString (now (s .entry))) room r (now (out .entry)) (now (out .exit)) ⌝ }
 {
-    let n = s.len();
-    if room < n + 2 {
+    let size = s.len();
+    if room < size + 2 {
         return 0;
     }
     slices::put(34, 0, out);
-    slices::copy_run(s, 0, n, 1, out);
-    slices::put(34, n + 1, out);
-    n + 2
+    slices::copy_run(s, 0, size, 1, out);
+    slices::put(34, size + 1, out);
+    size + 2
 }
 
 // The same for any data: one run to the end needs no other look, and is valid so far where it ends before.
-pub fn write_run(t: &[u8; 256], s: &[u8], room: usize, out: &mut [u8]) -> usize
+fn write_tight(t: &[u8; 256], s: &[u8], room: usize, out: &mut [u8]) -> usize
     requires { ⌜ IsTable (now t) ⌝ }
     ensures { λ r. ⌜ Passed (writeString (now (s .entry))) room r (now (out .entry)) (now (out .exit)) ⌝ }
 {
@@ -119,6 +122,45 @@ pub fn write_run(t: &[u8; 256], s: &[u8], room: usize, out: &mut [u8]) -> usize
     }
     let valid = chars::valid_in(t, &s[e..]);
     write_part(t, valid, s, room, out)
+}
+
+// Whether a room holds every text of n bytes of data, and a buffer the room.
+fn ample(n: usize, room: usize, buffer: usize) -> bool
+    ensures { λ r. ⌜ (r ≡ true → (6 * n + 2 ≤ room) × (room ≤ buffer)) ⌝ }
+{
+    if room / 8 <= n {
+        return false;
+    }
+    room <= buffer
+}
+
+// The same in an ample room, where the front of the data is stored already.
+fn write_behind(t: &[u8; 256], s: &[u8], at: usize, room: usize, out: &mut [u8]) -> usize
+    requires { ⌜ IsTable (now t) × (at ≤ length (now s)) × (6 * length (now s) + 2 ≤ room) × (room ≤ length (now out)) ⌝ }
+    ensures { λ r. ⌜ ((o : List ℕ) → Fronted (now (s .entry)) o at (now (out .entry)) → Passed (writeString (now (s .entry))) room r o (now (out .exit))) ⌝ }
+{
+    if chars::valid_in(t, &s[at..]) {
+        let o = bytewise::put_rest(s, at, at + 1, out);
+        out[o] = 34;
+        return o + 1;
+    }
+    pass(t, Style::Bytes, s, room, out)
+}
+
+// The same for any data. In an ample room what stands as it is is stored as it is tested, and nothing is measured.
+pub fn write_run(t: &[u8; 256], s: &[u8], room: usize, out: &mut [u8]) -> usize
+    requires { ⌜ IsTable (now t) ⌝ }
+    ensures { λ r. ⌜ Passed (writeString (now (s .entry))) room r (now (out .entry)) (now (out .exit)) ⌝ }
+{
+    if !ample(s.len(), room, out.len()) {
+        return write_tight(t, s, room, out);
+    }
+    let e = front::put_front(s, out);
+    if e == s.len() {
+        out[e + 1] = 34;
+        return e + 2;
+    }
+    write_behind(t, s, e, room, out)
 }
 
 // Whether every text of n bytes of data in a style fits a room.

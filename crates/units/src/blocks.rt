@@ -11,7 +11,7 @@ use crate::styles::Style;
 use prelude::slices;
 
 // A control, the backslash, the closing quote, or a byte that is not ASCII.
-fn odd(q: u8, b: u8) -> bool
+pub fn odd(q: u8, b: u8) -> bool
     ensures { λ r. ⌜ (r ≡ false → Alone q b) ⌝ }
 {
     (b < 32) | ((b >= 128) | ((b == 92) | (b == q)))
@@ -35,7 +35,7 @@ fn odd_pair(q: u8, b: u8, c: u8) -> bool
 }
 
 // Whether one of n bytes is odd.
-fn any_odd(q: u8, s: &[u8], at: usize, n: usize) -> bool
+pub fn any_odd(q: u8, s: &[u8], at: usize, n: usize) -> bool
     requires { ⌜ at + n ≤ length (now s) ⌝ }
     ensures { λ r. ⌜ (r ≡ false → AllAlone q (now (s .entry)) at n) ⌝ }
 {

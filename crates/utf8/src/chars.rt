@@ -1,9 +1,11 @@
 // The character check, and validity of a whole text.
 ghost use mathlib.Core.Path.{_≡_};
-ghost use Prim.Native.Nat.{_≤_};
+ghost use mathlib.Core.Bool.{false};
+ghost use Prim.Native.Nat.{_+_, _<_, _≤_};
 ghost use lib.ListN.{length, getD, drop};
 ghost use Rattle.utf8.specs.Class.{IsTable};
 ghost use Rattle.utf8.specs.Utf8.{between, lowOf, highOf, twoBytes, threeBytes, fourBytes, longLen, charAt, validUtf8};
+ghost use Rattle.utf8.specs.Checks.{AllAscii, Checked, CheckedUntil};
 use crate::classes;
 use prelude::refusals;
 use prelude::slices;
@@ -127,26 +129,97 @@ pub fn char_at(t: &[u8; 256], s: &[u8], at: usize) -> Char
     Char::Good(n)
 }
 
-// Whether a text is valid UTF-8, with the table lent.
-pub fn valid_in(t: &[u8; 256], s: &[u8]) -> bool
-    requires { ⌜ IsTable (now t) ⌝ }
-    ensures { λ r. ⌜ r ≡ validUtf8 (now (s .entry)) ⌝ }
+// Whether one of sixteen bytes isn't ASCII; without an early end, so that they are compared at once.
+fn any_high(s: &[u8], at: usize) -> bool
+    requires { ⌜ at + 16 ≤ length (now s) ⌝ }
+    ensures { λ r. ⌜ (r ≡ false → AllAscii (now (s .entry)) at 16) ⌝ }
 {
-    let mut at = classes::eights(t, s, 0);
-    while at < s.len() {
+    let mut found = false;
+    let mut k: usize = 0;
+    while k < 16 {
+        found = found | (s[at + k] >= 128);
+        k += 1;
+    }
+    found
+}
+
+// A place behind blocks of ASCII.
+fn ascii_blocks(s: &[u8], from: usize) -> usize
+    requires { ⌜ from ≤ length (now s) ⌝ }
+    ensures { λ r. ⌜ Checked (now (s .entry)) from r ⌝ }
+{
+    let mut at = from;
+    while 16 <= s.len() - at {
+        if any_high(s, at) {
+            return at;
+        }
+        at += 16;
+    }
+    at
+}
+
+// The same as `long_len`, with the common lengths at hand: a call costs more than they do.
+fn near_len(s: &[u8], at: usize, k: u8) -> usize
+    ensures { λ r. ⌜ r ≡ longLen k (getD (drop at (now (s .entry))) 1 0) (getD (drop at (now (s .entry))) 2 0) (getD (drop at (now (s .entry))) 3 0) ⌝ }
+{
+    if k < 7 {
+        return two_bytes(slices::byte_at(s, at, 1));
+    }
+    if k < 10 {
+        return three_bytes(k, slices::byte_at(s, at, 1), slices::byte_at(s, at, 2));
+    }
+    long_len(s, at, k)
+}
+
+// The place behind the characters from a place on, one by one until an end is reached, or where none stands.
+fn chars_until(t: &[u8; 256], s: &[u8], from: usize, end: usize) -> usize
+    requires { ⌜ IsTable (now t) × (from ≤ length (now s)) × (end ≤ length (now s)) ⌝ }
+    ensures { λ r. ⌜ CheckedUntil (now (s .entry)) from end r ⌝ }
+{
+    let mut at = from;
+    while at < end {
         let k = classes::class_in(t, s[at]);
         if k < 5 {
             at += 1;
             continue;
         }
         if k < 6 {
-            return false;
+            return at;
         }
-        let n = long_len(s, at, k);
+        let n = near_len(s, at, k);
         if n == 0 {
-            return false;
+            return at;
         }
         at += n;
+    }
+    at
+}
+
+// A place sixteen bytes on, or the end.
+fn sixteen_on(n: usize, at: usize) -> usize
+    requires { ⌜ at ≤ n ⌝ }
+    ensures { λ r. ⌜ (r ≤ n) × (at < n → at < r) ⌝ }
+{
+    if n - at < 16 {
+        return n;
+    }
+    at + 16
+}
+
+// Whether a text is valid UTF-8, with the table lent. What ends the blocks is passed one by one, and then they are tried again.
+pub fn valid_in(t: &[u8; 256], s: &[u8]) -> bool
+    requires { ⌜ IsTable (now t) ⌝ }
+    ensures { λ r. ⌜ r ≡ validUtf8 (now (s .entry)) ⌝ }
+{
+    let mut at = 0;
+    while at < s.len() {
+        let mid = ascii_blocks(s, at);
+        let end = sixteen_on(s.len(), mid);
+        let next = chars_until(t, s, mid, end);
+        if next < end {
+            return false;
+        }
+        at = next;
     }
     true
 }

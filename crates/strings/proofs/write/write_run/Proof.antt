@@ -1,25 +1,17 @@
--- One run to the end, or validity behind it decides the form (Writing).
+-- The front is all of the data, or the rest is written behind it (AmpleRoom).
 -- Assumes nothing.
 use borrow.Author.Needs.{needs}
 use Rattle.strings.proofs.write.write_run.Statement.{statement}
 use Rattle.strings.proofs.write.write_run.Tie as tie
-use denote.Ref.{now}
-use mathlib.Core.Path.{_≡_, sym, _∙_}
 use native.Mathlib.Omega.{arith}
-use Prim.Native.Nat.{_≤_}
-use lib.ListN.{length}
-use Rattle.units.specs.declared.styles.Style.the-variants.{Json}
-use native.Mathlib.Nat.{zero-add}
-use Rattle.units.specs.Units.{literalRun}
-use Rattle.units.proofs.LiteralRuns.{here, through}
-use Rattle.strings.proofs.Writing.{valid-behind}
+use borrow.Author.Tests.{not-false}
+use Rattle.strings.proofs.AmpleRoom.{all-front}
 
-inner-run-requires : tie.Need-inner-run-requires
-inner-run-requires c κs = search needs
+ample-requires : tie.Need-ample-requires
+ample-requires c κs = search needs
 
-literal-part-requires : tie.Need-literal-part-requires
-literal-part-requires c κs =
-    let e : literalRun Json 0 (now (c .before .before .before .before .before .args .s)) ≡ length (now (c .before .before .before .before .before .args .s)) = sym (zero-add _) ∙ sym (c .before .before .inner-run .ensures) ∙ c .before .if1 .taken in e
+write-tight-requires : tie.Need-write-tight-requires
+write-tight-requires c κs = search needs
 
 same-length : tie.Need-same-length
 same-length c = search needs
@@ -27,42 +19,52 @@ same-length c = search needs
 returns : tie.Need-returns
 returns c = search needs
 
-sub-valid-in : tie.Need-sub-valid-in
-sub-valid-in c =
-    through Json _ _ _ _ (here Json _ 0 (omega arith)) (c .before .inner-run .ensures) .inside
+put-front-requires : tie.Need-put-front-requires
+put-front-requires c κs =
+    omega (arith, c .before .before .ample .ensures (not-false _ (c .before .if1 .left)))
 
-part-valid-in-start : tie.Need-part-valid-in-start
-part-valid-in-start c =
-    let h : c .before .inner-run .result ≤ length (now (c .before .before .before .before .args .s)) = through Json _ _ _ _ (here Json _ 0 (omega arith)) (c .before .inner-run .ensures) .inside in omega arith
+add-out : tie.Need-add-out
+add-out c = search needs
 
-part-valid-in-end : tie.Need-part-valid-in-end
-part-valid-in-end c = search needs
+slice-write-out : tie.Need-slice-write-out
+slice-write-out c =
+    let a = c .before .before .before .before .before .before .ample .ensures (not-false _ (c .before .before .before .before .before .if1 .left)) in omega (arith, a .0, a .1, c .before .before .before .put-front .kept .1 .0)
 
-valid-in-requires : tie.Need-valid-in-requires
-valid-in-requires c κs = search needs
-
-write-part-requires : tie.Need-write-part-requires
-write-part-requires c κs =
-    (c .before .before .before .before .before .before .before .pre, valid-behind _ 0 _ _ (here Json _ 0 (omega arith)) (c .before .before .before .before .inner-run .ensures) (c .before .valid-in .ensures))
+add-result : tie.Need-add-result
+add-result c = search needs
 
 same-length-2 : tie.Need-same-length-2
 same-length-2 c = search needs
 
 returns-2 : tie.Need-returns-2
-returns-2 c = search needs
+returns-2 c =
+    all-front _ _ _ _ _ (c .before .before .before .put-front .ensures) (c .if2 .taken) (c .before .before .before .before .before .before .ample .ensures (not-false _ (c .before .before .before .before .before .if1 .left)) .0)
+
+write-behind-requires : tie.Need-write-behind-requires
+write-behind-requires c κs =
+    let a = c .before .before .before .before .before .before .before .ample .ensures (not-false _ (c .before .before .before .before .before .before .if1 .left)) in (c .before .before .before .before .before .before .before .before .before .before .pre, c .before .before .before .before .put-front .ensures .run .inside, a .0, omega (arith, a .1, c .before .before .before .before .put-front .kept .1 .0))
+
+same-length-3 : tie.Need-same-length-3
+same-length-3 c = search needs
+
+returns-3 : tie.Need-returns-3
+returns-3 c =
+    c .before .before .write-behind .ensures _ (c .before .before .before .before .before .before .before .put-front .ensures)
 
 pub write-run-spec : {M : Type 1} → statement M
 write-run-spec =
     tie.close
     (tie.spec
-    inner-run-requires
-    literal-part-requires
+    ample-requires
+    write-tight-requires
     same-length
     returns
-    sub-valid-in
-    part-valid-in-start
-    part-valid-in-end
-    valid-in-requires
-    write-part-requires
+    put-front-requires
+    add-out
+    slice-write-out
+    add-result
     same-length-2
-    returns-2)
+    returns-2
+    write-behind-requires
+    same-length-3
+    returns-3)

@@ -1,76 +1,52 @@
--- The invariant `Checked`: what is left is valid exactly if the whole is (Validity).
+-- The invariant `Checked`: what is left is valid exactly if the whole is; blocks and single characters bring it on (Validity).
 -- Assumes nothing.
 use Rattle.utf8.proofs.chars.valid_in.Statement.{statement}
 use Rattle.utf8.proofs.chars.valid_in.Tie as tie
-use denote.Ref.{now}
 use native.Mathlib.Omega.{arith}
-use Prim.Native.Nat.{_+_, _-_}
+use Prim.Native.Nat.{_-_}
 use lib.ListN.{length}
-use Rattle.utf8.proofs.Validity.{Checked, begun, one-on, lone-stop, cut-stop, long-on, ended}
+use Rattle.utf8.specs.Checks.{Checked}
+use Rattle.utf8.proofs.Validity.{here, further, stuck, ended, advances}
 
 abbrev Inv-loop : tie.InvT-loop
 Inv-loop t s at₀ at =
-    Checked s at
+    Checked s 0 at
 
 abbrev μ-loop : tie.MeasureT-loop
 μ-loop t s at₀ at =
     length s - at
 
-eights-requires : tie.Need-eights-requires Inv-loop μ-loop
-eights-requires c κs =
-    (c .before .pre, omega arith)
-
 loop-holds : tie.Need-loop-holds Inv-loop μ-loop
 loop-holds c =
-    search begun
+    here _ _ (omega arith)
 
-shared-slice-read-class-in : tie.Need-shared-slice-read-class-in Inv-loop μ-loop
-shared-slice-read-class-in c =
-    omega arith
+ascii-blocks-requires : tie.Need-ascii-blocks-requires Inv-loop μ-loop
+ascii-blocks-requires c κs =
+    c .before .loop .inv .inside
 
-class-in-requires : tie.Need-class-in-requires Inv-loop μ-loop
-class-in-requires c κs =
-    c .before .before .before .before .before .pre
+sixteen-on-requires : tie.Need-sixteen-on-requires Inv-loop μ-loop
+sixteen-on-requires c κs =
+    c .ascii-blocks .ensures .inside
 
-add-at : tie.Need-add-at Inv-loop μ-loop
-add-at c =
-    omega arith
-
-loop-less : tie.Need-loop-less Inv-loop μ-loop
-loop-less c =
-    omega arith
-
-loop-again : tie.Need-loop-again Inv-loop μ-loop
-loop-again c =
-    search one-on
+chars-until-requires : tie.Need-chars-until-requires Inv-loop μ-loop
+chars-until-requires c κs =
+    (c .before .before .before .before .before .pre, c .before .ascii-blocks .ensures .inside, c .sixteen-on .ensures .0)
 
 returns : tie.Need-returns Inv-loop μ-loop
 returns c =
-    search lone-stop
+    stuck _ _ (further _ _ _ _ (further _ _ _ _ (c .before .before .before .before .before .loop .inv) (c .before .before .before .ascii-blocks .ensures)) (c .before .chars-until .ensures .checked)) (omega (arith, c .before .before .sixteen-on .ensures .0)) (c .before .chars-until .ensures .stop (c .if1 .taken))
 
-long-len-requires : tie.Need-long-len-requires Inv-loop μ-loop
-long-len-requires c κs =
-    tt
+loop-less : tie.Need-loop-less Inv-loop μ-loop
+loop-less c =
+    advances _ _ _ _ _ (c .before .before .before .before .loop-test .taken) (c .before .before .before .ascii-blocks .ensures .onward) (c .before .before .sixteen-on .ensures .1) (c .before .chars-until .ensures .checked .onward) (c .if1 .left) (c .before .chars-until .ensures .checked .inside)
+
+loop-again : tie.Need-loop-again Inv-loop μ-loop
+loop-again c =
+    further _ _ _ _ (further _ _ _ _ (c .before .before .before .before .before .loop .inv) (c .before .before .before .ascii-blocks .ensures)) (c .before .chars-until .ensures .checked)
 
 returns-2 : tie.Need-returns-2 Inv-loop μ-loop
 returns-2 c =
-    search cut-stop
-
-add-at-2 : tie.Need-add-at-2 Inv-loop μ-loop
-add-at-2 c =
-    let m : Checked (now (c .before .before .before .before .before .before .before .before .before .before .args .s)) (c .before .before .before .before .before .before .before .loop .at + c .before .long-len .result) = search long-on in omega (arith, m .inside)
-
-loop-less-2 : tie.Need-loop-less-2 Inv-loop μ-loop
-loop-less-2 c =
-    let m : Checked (now (c .before .before .before .before .before .before .before .before .before .before .args .s)) (c .before .before .before .before .before .before .before .loop .at + c .before .long-len .result) = search long-on in omega (arith, m .inside)
-
-loop-again-2 : tie.Need-loop-again-2 Inv-loop μ-loop
-loop-again-2 c =
-    search long-on
-
-returns-3 : tie.Need-returns-3 Inv-loop μ-loop
-returns-3 c =
-    search ended
+    ended _ _ (c .before .loop .inv) (omega arith)
 
 pub valid-in-spec : {M : Type 1} → statement M
 valid-in-spec =
@@ -78,17 +54,11 @@ valid-in-spec =
     (tie.spec
     Inv-loop
     μ-loop
-    eights-requires
     loop-holds
-    shared-slice-read-class-in
-    class-in-requires
-    add-at
+    ascii-blocks-requires
+    sixteen-on-requires
+    chars-until-requires
+    returns
     loop-less
     loop-again
-    returns
-    long-len-requires
-    returns-2
-    add-at-2
-    loop-less-2
-    loop-again-2
-    returns-3)
+    returns-2)

@@ -1,0 +1,61 @@
+-- The invariant: if nothing was found, the first k bytes are ASCII.
+-- Assumes nothing.
+use Rattle.utf8.proofs.chars.any_high.Statement.{statement}
+use Rattle.utf8.proofs.chars.any_high.Tie as tie
+use Prim.Native.Nat.{_-_, _≤_}
+use mathlib.Core.Bool.{false}
+use mathlib.Core.Path.{_≡_}
+use native.Mathlib.Omega.{arith}
+use denote.Ref.{now}
+use Rattle.utf8.specs.Checks.{AllAscii}
+use Rattle.utf8.proofs.Validity.{ascii-more}
+
+abbrev Inv-loop : tie.InvT-loop
+Inv-loop s at found₀ k₀ found k =
+    (k ≤ 16) × (found ≡ false → AllAscii s at k)
+
+abbrev μ-loop : tie.MeasureT-loop
+μ-loop s at found₀ k₀ found k =
+    16 - k
+
+loop-holds : tie.Need-loop-holds Inv-loop μ-loop
+loop-holds c =
+    (omega arith, λ e k h. absurd (omega arith))
+
+add-found : tie.Need-add-found Inv-loop μ-loop
+add-found c =
+    omega arith
+
+shared-slice-read-found : tie.Need-shared-slice-read-found Inv-loop μ-loop
+shared-slice-read-found c =
+    omega arith
+
+add-k : tie.Need-add-k Inv-loop μ-loop
+add-k c =
+    omega arith
+
+loop-less : tie.Need-loop-less Inv-loop μ-loop
+loop-less c =
+    omega arith
+
+loop-again : tie.Need-loop-again Inv-loop μ-loop
+loop-again c =
+    (omega arith, ascii-more (now (c .before .before .before .args .s)) (c .before .before .before .args .at) _ _ (c .before .before .loop .inv .1))
+
+returns : tie.Need-returns Inv-loop μ-loop
+returns c =
+    λ e k h. c .before .loop .inv .1 e k (omega arith)
+
+pub any-high-spec : {M : Type 1} → statement M
+any-high-spec =
+    tie.close
+    (tie.spec
+    Inv-loop
+    μ-loop
+    loop-holds
+    add-found
+    shared-slice-read-found
+    add-k
+    loop-less
+    loop-again
+    returns)

@@ -1,0 +1,21 @@
+-- What the scans of the validity check promise each other: these speak of the code alone, and no rule cites them.
+-- Assumes nothing.
+use Prim.Native.Nat.{ℕ, _+_, _<_, _≤_}
+use mathlib.Core.List.{List}
+use mathlib.Core.Path.{_≡_}
+use lib.ListN.{length, getD, drop}
+use Rattle.utf8.specs.Utf8.{charLen, validFrom}
+
+abbrev pub AllAscii : List ℕ → ℕ → ℕ → Type 0
+AllAscii s at n = (k : ℕ) → k < n → getD s (at + k) 0 < 0x80
+
+-- what is left from a place on is valid exactly if it is from another on
+pub record Checked (s : List ℕ) (from at : ℕ) : Type 0 where
+  pub onward : from ≤ at
+  pub inside : at ≤ length s
+  pub same : validFrom 0 (drop at s) ≡ validFrom 0 (drop from s)
+
+-- the same, and if that place is before the end, no character stands there
+pub record CheckedUntil (s : List ℕ) (from end at : ℕ) : Type 0 where
+  pub checked : Checked s from at
+  pub stop : at < end → charLen (drop at s) ≡ 0
