@@ -14,11 +14,11 @@ use Rattle.units.specs.Units.{literalRun}
 use Rattle.units.specs.Blocks.{Running}
 use Rattle.units.proofs.LiteralLaws.{run-fits, run-valid}
 use Rattle.strings.specs.Write.{writeUnits, quoted, writeString, Passed}
-use Rattle.strings.specs.Bytewise.{bytesText, textOf, Texted, Fronted}
+use Rattle.bytewise.specs.Bytewise.{bytesText, textOf, Texted, Fronted}
 use Rattle.strings.proofs.Lengths.{quoted-length, quoted-least}
 use Rattle.strings.proofs.Runs.{write-run}
-use Rattle.strings.proofs.Fronts.{sets-again}
-use Rattle.strings.proofs.ByteTexts.{bytewise}
+use Rattle.bytewise.proofs.Fronts.{sets-again}
+use Rattle.strings.proofs.ValidTexts.{bytewise}
 use Rattle.strings.proofs.Writing.{valid-text, other-text, finished, literal-part}
 
 module _ (s : List ℕ) (at : ℕ) (k : Running Json s 0 at) where

@@ -1,8 +1,6 @@
 pub mod AmpleRoom
-pub mod ByteTexts
 pub mod Claims
 pub mod Ends
-pub mod Fronts
 pub mod Lengths
 pub mod Places
 pub mod Plain
@@ -11,6 +9,7 @@ pub mod RoundTrip
 pub mod Runs
 pub mod Steps
 pub mod Utf8Denoted
+pub mod ValidTexts
 pub mod WholeTexts
 pub mod Writing
 pub mod Tokens

@@ -1,5 +1,4 @@
 pub mod Read
 pub mod Turns
 pub mod Write
-pub mod Bytewise
 pub mod Claims

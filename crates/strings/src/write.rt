@@ -11,10 +11,10 @@ ghost use Rattle.units.specs.declared.styles.Style.the-variants.{Json};
 ghost use Rattle.units.specs.Blocks.{Running};
 ghost use Rattle.units.specs.Units.{literalRun};
 ghost use Rattle.strings.specs.Write.{mark, quoted, writeBytes, writeString, writtenIn, wroteInto, Passed};
-ghost use Rattle.strings.specs.Bytewise.{Fronted};
+ghost use Rattle.bytewise.specs.Bytewise.{Fronted};
 use crate::answers::Written;
-use crate::bytewise;
-use crate::front;
+use bytewise::front;
+use bytewise::texts;
 use prelude::refusals;
 use prelude::slices;
 use units::blocks;
@@ -140,7 +140,7 @@ fn write_behind(t: &[u8; 256], s: &[u8], at: usize, room: usize, out: &mut [u8])
     ensures { λ r. ⌜ ((o : List ℕ) → Fronted (now (s .entry)) o at (now (out .entry)) → Passed (writeString (now (s .entry))) room r o (now (out .exit))) ⌝ }
 {
     if chars::valid_in(t, &s[at..]) {
-        let o = bytewise::put_rest(s, at, at + 1, out);
+        let o = texts::put_rest(s, at, at + 1, out);
         out[o] = 34;
         return o + 1;
     }

@@ -6,7 +6,7 @@ use Rattle.strings.proofs.write.write_behind.Tie as tie
 use native.Mathlib.Omega.{arith}
 use mathlib.Core.Path.{sym, _∙_}
 use Rattle.strings.proofs.AmpleRoom.{valid-text-behind, other-text-over}
-use Rattle.strings.proofs.ByteTexts.{texted-bound, texted-length}
+use Rattle.bytewise.proofs.ByteTexts.{texted-bound, texted-length}
 
 sub-valid-in : tie.Need-sub-valid-in
 sub-valid-in c = search needs

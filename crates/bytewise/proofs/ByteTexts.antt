@@ -1,0 +1,177 @@
+-- The texts of bytes: one by one, eight that stand as they are, and one part behind another.
+-- Assumes nothing.
+use mathlib.Core.Path.{_≡_, refl, sym, ap, _∙_, subst}
+use mathlib.Core.Bool.{Bool, true, false, _||_, not}
+use mathlib.Core.List.{List, [], _∷_, _++_, append-assoc, append-nil}
+use Prim.Native.Nat.{ℕ, zero, suc, _+_, _-_, _*_, _≤_, _<_}
+use native.Mathlib.Omega.{arith}
+use native.Mathlib.Nat.{add-zero}
+use borrow.Author.Count.{below-more}
+use borrow.Author.Tests.{lt-ltb, le-ltb}
+use lib.Dec.{ltb, eqb, lit≤}
+use lib.ListN.{length, getD, take, drop, set, length-append, length-drop, length-take}
+use lib.Seq.{sets, length-sets, set-set, drop-cons, drop-drop, take-add, take-suc, length-take-le, getD-drop}
+use Rattle.prelude.specs.Pick.{pick}
+use Rattle.prelude.proofs.Cases.{split, never}
+use Rattle.prelude.proofs.Picks.{pick-case}
+use Rattle.prelude.proofs.Stores.{sets-append, copied}
+use Rattle.units.specs.declared.styles.Style.the-variants.{Json}
+use Rattle.units.specs.Escapes.{lookup}
+use Rattle.units.specs.Written.{escapeByte, byNumber, escaped}
+use Rattle.bytewise.specs.Bytewise.{byteText, bytesText, textOf, Unmarked, Texted}
+
+pub or-none : (a b : Bool) → a ≡ false → b ≡ false → a || b ≡ false
+or-none a b e f = rw (e, f)
+
+or-left : (a b : Bool) → a || b ≡ false → a ≡ false
+or-left true b e = e
+or-left false b e = refl
+
+or-right : (a b : Bool) → a || b ≡ false → b ≡ false
+or-right true b e = let z : _≡_ {A = Bool} true false = e in cc
+or-right false b e = e
+
+-- one byte
+
+abbrev Short : List ℕ → Type 0
+Short l = length l ≤ 6
+
+escape-short : (x : ℕ) → length (escapeByte Json x) ≤ 6
+unfolding escapeByte byNumber
+escape-short x =
+    pick-case Short (eqb (lookup x (escaped Json)) 0) (byNumber Json x) (92 ∷ lookup x (escaped Json) ∷ [])
+    (λ a. lit≤ tt) (λ a. lit≤ tt)
+
+pub unmarked : (b : ℕ) → ltb b 32 || (eqb b 34 || eqb b 92) ≡ false → byteText b ≡ b ∷ []
+unfolding byteText pick
+unmarked b e = rw (or-left (ltb b 32) _ e, or-right (ltb b 32) _ e)
+
+-- one byte more of a block
+pub one-more : (P : ℕ → Type 0) (a b : Bool) (n : ℕ) → (a ≡ false → (k : ℕ) → k < n → P k) → (b ≡ false → P n) → a || b ≡ false
+    → (k : ℕ) → k < n + 1 → P k
+one-more P a b n f g e = below-more P n (f (or-left a b e)) (g (or-right a b e))
+
+pub none-found : {P : Type 0} (a : Bool) → (a ≡ false → P) → not a ≡ true → P
+none-found true f e = let z : _≡_ {A = Bool} false true = e in never cc
+none-found false f e = f refl
+
+-- a byte that is no control, stored over a backslash or behind it
+pub text-stored : (b n o : ℕ) (out : List ℕ) → 32 ≤ b → n ≡ pick (eqb b 34 || eqb b 92) 1 0
+    → (n + 1 ≡ length (byteText b)) × (set (set out o 92) (o + n) b ≡ sets out o (byteText b))
+unfolding byteText pick
+text-stored b n o out h e =
+    split (eqb b 34 || eqb b 92)
+    (λ t. let m : n ≡ 1 = e ∙ rw t in let a : o + 1 ≡ suc o = omega arith in simp (le-ltb b 32 h, t) (rw m refl, rw (m, a) refl))
+    (λ t. let m : n ≡ 0 = e ∙ rw t in simp (le-ltb b 32 h, t) (rw m refl, rw (m, add-zero o) (set-set out o 92 b)))
+
+pub slash-within : (t : Bool) (n : ℕ) → n ≡ pick t 1 0 → n ≤ 1
+unfolding pick
+slash-within true n e = omega arith
+slash-within false n e = omega arith
+
+pub control-text : (b : ℕ) → b < 32 → escapeByte Json b ≡ byteText b
+unfolding byteText pick
+control-text b h = rw (lt-ltb b 32 h)
+
+-- eight bytes stored one by one
+pub eight-stored : (s out : List ℕ) (at o : ℕ) → at + 8 ≤ length s
+    → set (set (set (set (set (set (set (set out o (getD s at 0)) (o + 1) (getD s (at + 1) 0)) (o + 2) (getD s (at + 2) 0)) (o + 3) (getD s (at + 3) 0)) (o + 4) (getD s (at + 4) 0)) (o + 5) (getD s (at + 5) 0)) (o + 6) (getD s (at + 6) 0)) (o + 7) (getD s (at + 7) 0)
+    ≡ sets out o (take 8 (drop at s))
+eight-stored s out at o h =
+    ap (λ (x : List ℕ). set x (o + 7) (getD s (at + 7) 0)) (
+    ap (λ (x : List ℕ). set x (o + 6) (getD s (at + 6) 0)) (
+    ap (λ (x : List ℕ). set x (o + 5) (getD s (at + 5) 0)) (
+    ap (λ (x : List ℕ). set x (o + 4) (getD s (at + 4) 0)) (
+    ap (λ (x : List ℕ). set x (o + 3) (getD s (at + 3) 0)) (
+    ap (λ (x : List ℕ). set x (o + 2) (getD s (at + 2) 0)) (
+    ap (λ (x : List ℕ). set x (o + 1) (getD s (at + 1) 0)) (one ∙ refl)
+    ∙ copied s out at o 1 (omega arith)) ∙ copied s out at o 2 (omega arith)) ∙ copied s out at o 3 (omega arith)) ∙ copied s out at o 4 (omega arith))
+    ∙ copied s out at o 5 (omega arith)) ∙ copied s out at o 6 (omega arith)) ∙ copied s out at o 7 (omega arith)
+  where
+    one : set out o (getD s at 0) ≡ sets out o (take 1 (drop at s))
+    one = rw (drop-cons s at 0 (omega arith)) refl
+
+-- all bytes
+
+pub bytes-append : (s t : List ℕ) → bytesText (s ++ t) ≡ bytesText s ++ bytesText t
+unfolding bytesText
+bytes-append [] t = refl
+bytes-append (x ∷ s) t = ap (λ (l : List ℕ). byteText x ++ l) (bytes-append s t) ∙ sym (append-assoc (byteText x) (bytesText s) (bytesText t))
+
+bytes-one : (x : ℕ) → bytesText (x ∷ []) ≡ byteText x
+unfolding bytesText
+bytes-one x = append-nil (byteText x)
+
+byte-length : (x : ℕ) → length (byteText x) ≤ 6
+unfolding byteText
+byte-length x =
+    pick-case Short (ltb x 32) (escapeByte Json x) _ (λ a. escape-short x)
+    (λ a. pick-case Short (eqb x 34 || eqb x 92) (92 ∷ x ∷ []) (x ∷ []) (λ b. lit≤ tt) (λ b. lit≤ tt))
+
+pub within-six : (x n : ℕ) → n ≡ length (byteText x) → n ≤ 6
+within-six x n e = omega (arith, byte-length x)
+
+bytes-length : (s : List ℕ) → length (bytesText s) ≤ 6 * length s
+unfolding bytesText
+bytes-length [] = omega arith
+bytes-length (x ∷ r) = omega (arith, length-append (byteText x) (bytesText r), byte-length x, bytes-length r)
+
+-- the text of a part, piece by piece
+
+module _ (s : List ℕ) where
+  text-then : (from mid at : ℕ) → from ≤ mid → mid ≤ at → textOf s from at ≡ textOf s from mid ++ textOf s mid at
+  text-then from mid at h l =
+      let e : at - from ≡ (mid - from) + (at - mid) = omega arith in
+      let d : from + (mid - from) ≡ mid = omega arith in
+      ap (λ (n : ℕ). bytesText (take n (drop from s))) e ∙ ap bytesText (take-add (mid - from) (at - mid) (drop from s))
+      ∙ bytes-append (take (mid - from) (drop from s)) (take (at - mid) (drop (mid - from) (drop from s)))
+      ∙ ap (λ (r : List ℕ). bytesText (take (mid - from) (drop from s)) ++ bytesText (take (at - mid) r)) (drop-drop (mid - from) from s ∙ ap (λ (n : ℕ). drop n s) d)
+
+  text-none : (at : ℕ) → textOf s at at ≡ []
+  unfolding bytesText
+  text-none at = let e : at - at ≡ 0 = omega arith in rw e
+
+  text-one : (at : ℕ) → at < length s → textOf s at (at + 1) ≡ byteText (getD s at 0)
+  text-one at h = let e : at + 1 - at ≡ 1 = omega arith in rw (e, drop-cons s at 0 h) (bytes-one (getD s at 0))
+
+  text-same : (n at : ℕ) → at + n ≤ length s → Unmarked s at n → textOf s at (at + n) ≡ take n (drop at s)
+  unfolding bytesText
+  text-same zero at h u = let e : at + 0 - at ≡ 0 = omega arith in rw e
+  text-same (suc n) at h u =
+      let e : at + suc n - at ≡ suc n = omega arith in
+      let f : at + n - at ≡ n = omega arith in
+      let a : bytesText (take n (drop at s)) ≡ take n (drop at s) = subst (λ (k : ℕ). bytesText (take k (drop at s)) ≡ take n (drop at s)) f (text-same n at (omega arith) (λ k l. u k (omega arith))) in
+      let b : take (suc n) (drop at s) ≡ take n (drop at s) ++ (getD s (at + n) 0 ∷ []) =
+      take-suc (drop at s) n 0 (rw (length-drop at s) (omega arith)) ∙ ap (λ (x : ℕ). take n (drop at s) ++ (x ∷ [])) (getD-drop at s n 0) in
+      rw e (ap bytesText b ∙ bytes-append (take n (drop at s)) (getD s (at + n) 0 ∷ []) ∙ (λ i. a i ++ (bytes-one (getD s (at + n) 0) ∙ u n (omega arith)) i) ∙ sym b)
+
+  module _ (o : ℕ) (out : List ℕ) where
+    pub texted-none : (at : ℕ) → Texted s at at o out o out
+    texted-none at = record { size = rw (text-none at) (omega arith); stored = rw (text-none at) refl }
+
+    pub texted-one : (at n : ℕ) (new : List ℕ) → at < length s → (n ≡ length (byteText (getD s at 0))) × (new ≡ sets out o (byteText (getD s at 0)))
+        → Texted s at (at + 1) o out (o + n) new
+    texted-one at n new h w = record { size = rw (text-one at h) (ap (λ (k : ℕ). o + k) (w .0)); stored = rw (text-one at h) (w .1) }
+
+    pub texted-same : (at n : ℕ) (new : List ℕ) → at + n ≤ length s → Unmarked s at n → new ≡ sets out o (take n (drop at s)) → Texted s at (at + n) o out (o + n) new
+    texted-same at n new h u w =
+        let e : length (take n (drop at s)) ≡ n = length-take-le n (drop at s) (rw (length-drop at s) (omega arith)) in
+        record { size = rw (text-same n at h u) (omega (arith, e)); stored = rw (text-same n at h u) w }
+
+    pub texted-then : (from mid at r1 r2 : ℕ) (new1 new2 : List ℕ) → from ≤ mid → mid ≤ at → Texted s from mid o out r1 new1 → Texted s mid at r1 new1 r2 new2
+        → Texted s from at o out r2 new2
+    texted-then from mid at r1 r2 new1 new2 h l a b = record {
+      size = rw (text-then from mid at h l) (omega (arith, a .size, b .size, length-append (textOf s from mid) (textOf s mid at)));
+      stored = rw (text-then from mid at h l)
+          (b .stored ∙ ap (λ (x : List ℕ). sets x r1 (textOf s mid at)) (a .stored) ∙ sets-append (textOf s from mid) (textOf s mid at) out o r1 (sym (a .size)));
+    }
+
+    pub texted-length : (from at r : ℕ) (new : List ℕ) → Texted s from at o out r new → length new ≡ length out
+    texted-length from at r new w = ap length (w .stored) ∙ length-sets out o (textOf s from at)
+
+    pub texted-bound : (from at r : ℕ) (new : List ℕ) → Texted s from at o out r new → r ≤ o + 6 * (at - from)
+    texted-bound from at r new w =
+        omega (arith, w .size, bytes-length (take (at - from) (drop from s)), length-take (at - from) (drop from s))
+
+    pub texted-end : (from at end r : ℕ) (new : List ℕ) → at ≤ end → end ≤ at → Texted s from at o out r new → Texted s from end o out r new
+    texted-end from at end r new h l w = subst (λ (i : ℕ). Texted s from i o out r new) (let e : at ≡ end = omega arith in e) w

@@ -1,0 +1,2 @@
+pub mod ByteTexts
+pub mod Fronts
