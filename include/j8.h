@@ -14,6 +14,9 @@
  *    the records of the good lines before a bad one.
  *  - Nothing is kept between calls: no global state, no allocation, no I/O.
  *    Every call is reentrant, and threads may call at the same time.
+ *  - Stack, as measured on x86-64 at 32 open brackets: j8_json8_read takes 70
+ *    KiB, most of it for a table and a store of its own, whatever the text;
+ *    j8_json8_write takes 11 KiB. Strings take less than 1 KiB.
  */
 #ifndef J8_H
 #define J8_H
