@@ -3,6 +3,6 @@ pub mod answers;
 pub mod fitness;
 mod nodes;
 mod rooms;
-mod texts;
+pub mod texts;
 mod values;
 pub mod write;

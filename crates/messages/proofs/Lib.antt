@@ -1,0 +1,6 @@
+mod Decimals
+mod Unknown
+mod Reading
+mod Lines
+mod OneLines
+mod Claims

@@ -1,0 +1,27 @@
+-- One part behind another (Puts).
+-- Assumes nothing.
+use borrow.Author.Needs.{needs}
+use Rattle.messages.proofs.messages.put_counted.Statement.{statement}
+use Rattle.messages.proofs.messages.put_counted.Tie as tie
+use Rattle.json8_write.proofs.Puts.{put-then}
+
+put-words-requires : tie.Need-put-words-requires
+put-words-requires c κs = search needs
+
+put-decimal-requires : tie.Need-put-decimal-requires
+put-decimal-requires c κs = search needs
+
+put-words-requires-2 : tie.Need-put-words-requires-2
+put-words-requires-2 c κs = search needs
+
+same-length : tie.Need-same-length
+same-length c = search needs
+
+returns : tie.Need-returns
+returns c =
+    put-then (c .before .before .before .before .before .before .before .before .before .before .put-words .ensures) (put-then (c .before .before .before .before .before .before .put-decimal .ensures) (c .before .before .put-words2 .ensures))
+
+pub put-counted-spec : {M : Type 1} → statement M
+put-counted-spec =
+    tie.close
+    (tie.spec put-words-requires put-decimal-requires put-words-requires-2 same-length returns)

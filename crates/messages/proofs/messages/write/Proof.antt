@@ -1,0 +1,47 @@
+-- Measured, and then stored (Lines).
+-- Assumes nothing.
+use borrow.Author.Needs.{needs}
+use Rattle.messages.proofs.messages.write.Statement.{statement}
+use Rattle.messages.proofs.messages.write.Tie as tie
+use denote.Ref.{now}
+use Rattle.messages.specs.Messages.{messageText}
+use Rattle.messages.proofs.Lines.{wrote-full, wrote-both}
+
+slice-relend-prefix-put-message : tie.Need-slice-relend-prefix-put-message
+slice-relend-prefix-put-message c = search needs
+
+slice-aggregate-put-message : tie.Need-slice-aggregate-put-message
+slice-aggregate-put-message c = search needs
+
+put-message-requires : tie.Need-put-message-requires
+put-message-requires c κs = search needs
+
+same-length : tie.Need-same-length
+same-length c = search needs
+
+returns : tie.Need-returns
+returns c =
+    wrote-full (c .before .before .before .put-message .last .1 .1 .0) _ (now (c .before .before .before .before .before .before .args .out)) (c .before .before .before .put-message .kept .1 .1 .0) (messageText (c .before .before .before .before .before .before .args .m)) _ (c .before .before .before .put-message .ensures) (c .if1 .taken)
+
+put-message-requires-2 : tie.Need-put-message-requires-2
+put-message-requires-2 c κs = search needs
+
+same-length-2 : tie.Need-same-length-2
+same-length-2 c = search needs
+
+returns-2 : tie.Need-returns-2
+returns-2 c =
+    wrote-both (c .before .before .before .before .before .before .before .put-message .last .1 .1 .0) _ (now (c .before .before .before .before .before .before .before .before .before .before .args .out)) (c .before .before .before .before .before .before .before .put-message .kept .1 .1 .0) (messageText (c .before .before .before .before .before .before .before .before .before .before .args .m)) _ (c .before .before .before .before .before .before .before .put-message .ensures) _ _ (c .before .before .before .before .if1 .left) (c .before .before .put-message2 .ensures)
+
+pub write-spec : {M : Type 1} → statement M
+write-spec =
+    tie.close
+    (tie.spec
+    slice-relend-prefix-put-message
+    slice-aggregate-put-message
+    put-message-requires
+    same-length
+    returns
+    put-message-requires-2
+    same-length-2
+    returns-2)

@@ -1,0 +1,32 @@
+-- What is claimed of the lines that are printed: each claim is a type, and proofs/Claims.antt has a term of it.
+-- Assumes nothing.
+use Prim.Native.Nat.{ℕ, _^_, _<_}
+use mathlib.Core.Bool.{Bool, true}
+use mathlib.Core.List.{List, [], _∷_}
+use mathlib.Core.Path.{_≡_}
+use lib.Dec.{eqb, leb}
+use Rattle.prelude.specs.Pick.{pick}
+use Rattle.messages.specs.declared.messages.Message.{Message}
+use Rattle.messages.specs.Texts.{decimal, denotes}
+use Rattle.messages.specs.Messages.{entryText, messageText}
+
+-- a number's digits denote it
+abbrev pub Decimals-Denote : Type 0
+Decimals-Denote = (n : ℕ) → n < 10 ^ 20 → denotes 0 (decimal n) ≡ n
+
+-- a byte that can stand inside a line: a tab, or no control byte
+unfoldable pub inLine : ℕ → Bool
+inLine x = pick (eqb x 9) true (leb 0x20 x)
+
+-- one line and nothing more: LF is its last byte, and no other is one
+abbrev pub OneLine : List ℕ → Type 0
+OneLine [] = ⊥
+OneLine (x ∷ []) = x ≡ 10
+OneLine (x ∷ y ∷ r) = (inLine x ≡ true) × OneLine (y ∷ r)
+
+-- so scripts can go by lines, whatever bytes a string has
+abbrev pub Entries-Are-Lines : Type 0
+Entries-Are-Lines = (n : ℕ) (s : List ℕ) → OneLine (entryText n s)
+
+abbrev pub Messages-Are-Lines : Type 0
+Messages-Are-Lines = (m : Message) → OneLine (messageText m)

@@ -1,0 +1,46 @@
+-- A plain sentence for each refusal number.
+-- Assumes nothing.
+use Prim.Native.Nat.{ℕ}
+use Prim.Native.String.{String}
+use mathlib.Core.List.{List, [], _∷_}
+use lib.Dec.{eqb}
+use Rattle.prelude.specs.Pick.{pick}
+use Rattle.prelude.specs.Refusals.{unfit, tooLong, noOpening, cutOff, illFormed, control, badEscape, surrogate, tooLarge, byteEscape, trailing, noRoom, misplaced, badNumber, tooDeep, tooMany, overLimit, ended}
+use Rattle.messages.specs.Texts.{words}
+
+-- a refusal's number, and what it says to someone who doesn't know the numbers
+pub record Row : Type 0 where
+  pub number : ℕ
+  pub says : String
+
+abbrev pub row : ℕ → String → Row
+row n s = record { number = n; says = s }
+
+abbrev pub rows : List Row
+rows =
+    row unfit "what was lent for this is unfit"
+    ∷ row tooLong "too long: a line may have 1,024 bytes, a string or JSON8 text 32,768"
+    ∷ row noOpening "a J8 string begins with \" or ' or u' or b'"
+    ∷ row cutOff "the text ends here, and more is needed: it may be cut off"
+    ∷ row illFormed "this byte isn't UTF-8: only b'' can hold it, written as \\yhh"
+    ∷ row control "a control byte can't stand here as it is: it has to be escaped"
+    ∷ row badEscape "no such escape, or it isn't whole"
+    ∷ row surrogate "\\u{d800} to \\u{dfff} are no characters"
+    ∷ row tooLarge "no character is above \\u{10ffff}"
+    ∷ row byteEscape "\\y can stand in b'' only"
+    ∷ row trailing "there is more behind the end of the string or value"
+    ∷ row noRoom "the result is longer than 32,768 bytes, and couldn't be read back"
+    ∷ row misplaced "this can't stand here"
+    ∷ row badNumber "not a number as JSON has it"
+    ∷ row tooDeep "more than 32 brackets are open"
+    ∷ row tooMany "more than 1,024 values and keys"
+    ∷ row overLimit "the backup is longer than 1,048,576 bytes"
+    ∷ row ended "the upload has ended already"
+    ∷ []
+
+unfoldable pub sentenceIn : List Row → ℕ → List ℕ
+sentenceIn [] n = words "no refusal has this number"
+sentenceIn (r ∷ rs) n = pick (eqb n (r .number)) (words (r .says)) (sentenceIn rs n)
+
+abbrev pub sentence : ℕ → List ℕ
+sentence n = sentenceIn rows n

@@ -1,0 +1,31 @@
+-- Words and numbers as they are printed, in ASCII.
+-- Assumes nothing.
+use Prim.Native.Nat.{ℕ, zero, suc, _+_, _-_, _*_, _/_, _%_}
+use Prim.Native.Char.{code}
+use Prim.Native.String.{String, len, charAt}
+use mathlib.Core.List.{List, [], _∷_, _++_}
+use lib.Dec.{ltb}
+use Rattle.prelude.specs.Pick.{pick}
+
+-- so many bytes of words from a place on: in ASCII each character is one
+abbrev pub codesFrom : ℕ → ℕ → String → List ℕ
+codesFrom zero i s = []
+codesFrom (suc k) i s = code (charAt s i) ∷ codesFrom k (suc i) s
+
+-- the bytes of words
+abbrev pub words : String → List ℕ
+words s = codesFrom (len s) 0 s
+
+-- a number in at most so many decimal digits: those before the last one, if there are any, and the last
+unfoldable pub decimalIn : ℕ → ℕ → List ℕ
+decimalIn zero n = []
+decimalIn (suc k) n = pick (ltb n 10) [] (decimalIn k (n / 10)) ++ ((48 + n % 10) ∷ [])
+
+-- a number of 64 bits has at most twenty digits
+abbrev pub decimal : ℕ → List ℕ
+decimal n = decimalIn 20 n
+
+-- the number that decimal digits denote behind those of a number already read
+abbrev pub denotes : ℕ → List ℕ → ℕ
+denotes n [] = n
+denotes n (x ∷ r) = denotes (10 * n + (x - 48)) r

@@ -1,0 +1,137 @@
+// One line for each thing that there is to say.
+ghost use mathlib.Core.List.{_++_};
+ghost use mathlib.Core.Path.{_≡_};
+ghost use Prim.Native.Nat.{_≤_};
+ghost use lib.ListN.{length};
+ghost use Rattle.strings.specs.Write.{writtenIn, wroteInto};
+ghost use Rattle.json8_write.specs.Steps.{roomMax, Put};
+ghost use Rattle.messages.specs.Texts.{decimal};
+ghost use Rattle.messages.specs.Messages.{numberText, lineText, columnText, placeText, verdictText, messageText};
+use crate::sentences::put_sentence;
+use crate::texts::put_decimal;
+use crate::texts::put_words;
+use prelude::refusals;
+use strings::answers::Written;
+
+pub enum Message {
+    // a refusal of a J8 Lines backup: number, line, place
+    Line(u32, usize, usize),
+    // of a JSON8 text: number, line, column, place
+    Text(u32, usize, usize, usize),
+    // of a J8 string: number, place
+    Quoted(u32, usize),
+    // how a run ended: a refusal's number, or 0
+    Verdict(u32),
+    // a run that couldn't read its input or write its output
+    Failed,
+    Empty,
+    // a text was written that is too long to be read: its length
+    Long(usize),
+}
+
+// A number between words.
+fn put_counted(
+    before: &[u8],
+    n: usize,
+    behind: &[u8],
+    room: usize,
+    o: usize,
+    out: &mut [u8],
+) -> usize
+    requires { ⌜ room ≤ roomMax ⌝ }
+    ensures { λ r. ⌜ Put (now (before .entry) ++ (decimal n ++ now (behind .entry))) room o r (now (out .entry)) (now (out .exit)) ⌝ }
+{
+    let p = put_words(before, room, o, out);
+    let q = put_decimal(n, room, p, out);
+    put_words(behind, room, q, out)
+}
+
+fn put_number(number: u32, room: usize, out: &mut [u8]) -> usize
+    requires { ⌜ room ≤ roomMax ⌝ }
+    ensures { λ r. ⌜ Put (numberText number) room 0 r (now (out .entry)) (now (out .exit)) ⌝ }
+{
+    put_counted(b"refused ", number as usize, b" at ", room, 0, out)
+}
+
+fn put_line(line: usize, room: usize, o: usize, out: &mut [u8]) -> usize
+    requires { ⌜ room ≤ roomMax ⌝ }
+    ensures { λ r. ⌜ Put (lineText line) room o r (now (out .entry)) (now (out .exit)) ⌝ }
+{
+    put_counted(b"line ", line, b", ", room, o, out)
+}
+
+fn put_column(column: usize, room: usize, o: usize, out: &mut [u8]) -> usize
+    requires { ⌜ room ≤ roomMax ⌝ }
+    ensures { λ r. ⌜ Put (columnText column) room o r (now (out .entry)) (now (out .exit)) ⌝ }
+{
+    put_counted(b"column ", column, b", ", room, o, out)
+}
+
+// The place, the sentence and the line's end.
+fn put_place(number: u32, place: usize, room: usize, o: usize, out: &mut [u8]) -> usize
+    requires { ⌜ room ≤ roomMax ⌝ }
+    ensures { λ r. ⌜ Put (placeText number place) room o r (now (out .entry)) (now (out .exit)) ⌝ }
+{
+    let p = put_counted(b"place ", place, b": ", room, o, out);
+    let q = put_sentence(number, room, p, out);
+    put_words(b"\n", room, q, out)
+}
+
+fn put_verdict(number: u32, room: usize, out: &mut [u8]) -> usize
+    requires { ⌜ room ≤ roomMax ⌝ }
+    ensures { λ r. ⌜ Put (verdictText number) room 0 r (now (out .entry)) (now (out .exit)) ⌝ }
+{
+    if number == 0 {
+        return put_words(b"j8: ok\n", room, 0, out);
+    }
+    put_counted(b"j8: refused ", number as usize, b"\n", room, 0, out)
+}
+
+// A message's line, as far as the buffer reaches.
+fn put_message(m: Message, room: usize, out: &mut [u8]) -> usize
+    requires { ⌜ room ≤ roomMax ⌝ }
+    ensures { λ r. ⌜ Put (messageText m) room 0 r (now (out .entry)) (now (out .exit)) ⌝ }
+{
+    match m {
+        Message::Line(number, line, place) => {
+            let p = put_number(number, room, out);
+            let q = put_line(line, room, p, out);
+            put_place(number, place, room, q, out)
+        }
+        Message::Text(number, line, column, place) => {
+            let p = put_number(number, room, out);
+            let q = put_line(line, room, p, out);
+            let u = put_column(column, room, q, out);
+            put_place(number, place, room, u, out)
+        }
+        Message::Quoted(number, place) => {
+            let p = put_number(number, room, out);
+            put_place(number, place, room, p, out)
+        }
+        Message::Verdict(number) => put_verdict(number, room, out),
+        Message::Failed => put_words(b"j8: failed\n", room, 0, out),
+        Message::Empty => put_words(b"the input is empty\n", room, 0, out),
+        Message::Long(n) => put_counted(
+            b"this form has ",
+            n,
+            b" bytes, more than the 32,768 that are read\n",
+            room,
+            0,
+            out,
+        ),
+    }
+}
+
+// Puts a message's line in front of out, or answers 12 and leaves out as it was: one pass over no buffer measures it, one stores it.
+pub fn write(m: Message, out: &mut [u8]) -> Written
+    ensures answer { λ r. ⌜ r ≡ writtenIn (length (now (out .entry))) (messageText m) ⌝ }
+    ensures stored { λ r. ⌜ now (out .exit) ≡ wroteInto (messageText m) (now (out .entry)) ⌝ }
+{
+    let room = out.len();
+    let n = put_message(m, room, &mut out[..0]);
+    if room < n {
+        return Written::Full(refusals::NO_ROOM);
+    }
+    put_message(m, room, out);
+    Written::Wrote(n)
+}

@@ -1,0 +1,21 @@
+// Words and numbers, put at a place as far as the buffer reaches (json8_write::texts).
+ghost use Prim.Native.Nat.{_≤_};
+ghost use Rattle.json8_write.specs.Steps.{roomMax, Put};
+ghost use Rattle.messages.specs.Texts.{decimal};
+use json8_write::texts;
+
+pub fn put_words(s: &[u8], room: usize, o: usize, out: &mut [u8]) -> usize
+    requires { ⌜ room ≤ roomMax ⌝ }
+    ensures { λ r. ⌜ Put (now (s .entry)) room o r (now (out .entry)) (now (out .exit)) ⌝ }
+{
+    texts::put_run(s, 0, s.len(), room, o, out)
+}
+
+pub fn put_decimal(n: usize, room: usize, o: usize, out: &mut [u8]) -> usize
+    requires { ⌜ room ≤ roomMax ⌝ }
+    ensures { λ r. ⌜ Put (decimal n) room o r (now (out .entry)) (now (out .exit)) ⌝ }
+{
+    let mut digits = [0u8; 20];
+    let k = io::decimal(n as u64, &mut digits);
+    put_words(&digits[..k], room, o, out)
+}
