@@ -43,17 +43,29 @@ pub fn fail() {
     os::fail(b"the input can't be read");
 }
 
+// One read of at most so many bytes: what libc::read answers.
+pub fn read_some(fd: i32, size: usize, buf: &mut [u8]) -> isize {
+    let n = outputs::within(size, buf);
+    libc::read(fd, &mut buf[..n])
+}
+
+// One read into a buffer from a place on: what libc::read answers.
+fn read_from(fd: i32, buf: &mut [u8], from: usize) -> isize
+    requires { ⌜ from ≤ length (now buf) ⌝ }
+{
+    libc::read(fd, &mut buf[from..])
+}
+
 // Reads until buf is full or the input ends.
 pub fn fill(fd: i32, buf: &mut [u8]) -> Filled {
     let mut n = 0;
     while n < buf.len() {
-        let part = &mut buf[n..];
-        let got = libc::read(fd, part);
+        let got = read_from(fd, buf, n);
         if got < 0 {
             fail();
             return Filled::Failed;
         }
-        let k = io::count(got, part);
+        let k = io::count(got, &buf[n..]);
         if k == 0 {
             return Filled::With(n);
         }

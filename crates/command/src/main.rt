@@ -22,9 +22,13 @@ fn run_text(command: Command, fd: i32) -> Outcome {
     }
 }
 
+// A subcommand whose file is argument i, the last one.
 fn run_file(command: Command, i: usize, size: usize) -> Outcome {
-    if os::arg_count() > i + 1 {
-        return help::misused();
+    let words = os::arg_count();
+    if words > i {
+        if words - i > 1 {
+            return help::misused();
+        }
     }
     let fd = inputs::open(i);
     if fd < 0 {

@@ -1,4 +1,5 @@
 // What is printed, and how a run ends.
+ghost use Rattle.io.specs.Counts.{Counts};
 use libc::STDERR_FILENO;
 use libc::STDOUT_FILENO;
 use messages::messages::Message;
@@ -11,9 +12,16 @@ pub enum Outcome {
     Failed,
 }
 
+// A number of a buffer's bytes: n, which is never more than it has.
+pub fn within(n: usize, buf: &[u8]) -> usize
+    ensures { λ r. ⌜ Counts r (now (buf .entry)) ⌝ }
+{
+    slices::least(n, buf.len())
+}
+
 // Prints the first n bytes of a buffer to standard output.
 pub fn print(buf: &[u8], n: usize) -> bool {
-    let m = slices::least(n, buf.len());
+    let m = within(n, buf);
     io::write_all(STDOUT_FILENO, &buf[..m])
 }
 
@@ -37,7 +45,7 @@ pub fn say(m: Message) {
     let written = messages::messages::write(m, &mut line);
     match written {
         Written::Wrote(n) => {
-            let k = slices::least(n, line.len());
+            let k = within(n, &line);
             io::write_all(STDERR_FILENO, &line[..k]);
         }
         Written::Full(_) => {}

@@ -35,6 +35,7 @@ pub fn quote(fd: i32) -> Outcome {
     match filled {
         Filled::With(n) => {
             inputs::note_empty(n);
+            let n = outputs::within(n, &data);
             quote_bytes(&data[..n])
         }
         Filled::Failed => Outcome::Failed,
@@ -77,7 +78,9 @@ pub fn unquote(fd: i32) -> Outcome {
     match filled {
         Filled::With(n) => {
             inputs::note_empty(n);
+            let n = outputs::within(n, &text);
             let k = without_end(&text[..n]);
+            let k = outputs::within(k, &text);
             unquote_text(&text[..k])
         }
         Filled::Failed => Outcome::Failed,

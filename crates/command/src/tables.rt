@@ -79,6 +79,7 @@ pub fn rewrite(fd: i32) -> Outcome {
     match filled {
         Filled::With(n) => {
             inputs::note_empty(n);
+            let n = outputs::within(n, &text);
             rewrite_text(&text[..n])
         }
         Filled::Failed => Outcome::Failed,
@@ -95,7 +96,10 @@ fn list_bytes(node: usize, bytes: &[u8], out: &mut [u8]) -> bool {
 
 // The part of a buffer that a node shows.
 fn list_part(node: usize, buf: &[u8], place: usize, size: usize, out: &mut [u8]) -> bool {
-    if !show::is_within(place, size, buf.len()) {
+    if buf.len() < place {
+        return false;
+    }
+    if buf.len() - place < size {
         return false;
     }
     let end = place + size;
@@ -140,6 +144,7 @@ pub fn list(fd: i32) -> Outcome {
     match filled {
         Filled::With(n) => {
             inputs::note_empty(n);
+            let n = outputs::within(n, &text);
             list_text(&text[..n])
         }
         Filled::Failed => Outcome::Failed,

@@ -1,11 +1,14 @@
 // J8 Lines backups, read in pieces as an upload. A call takes at most one line's end, so it leaves at most one record, whose line is known;
 // the output is handed on and emptied before the next call.
+ghost use Prim.Native.Nat.{_≤_, _<_};
+ghost use lib.ListN.{length};
 use crate::inputs;
 use crate::outputs;
 use crate::outputs::Outcome;
 use messages::entries;
 use messages::messages::Message;
-use prelude::slices;
+use prelude::slices::least;
+use report::slices;
 use strings::answers::Written;
 use upload::uploads::Answer;
 use upload::uploads::Upload;
@@ -52,7 +55,7 @@ fn put_entry(n: usize, payload: &[u8], at: usize, page: &mut [u8]) -> usize {
     let room = page.len() - at;
     let entry = entries::write(n, payload, &mut page[at..]);
     match entry {
-        Written::Wrote(k) => at + slices::least(k, room),
+        Written::Wrote(k) => at + least(k, room),
         Written::Full(_) => at,
     }
 }
@@ -111,16 +114,15 @@ fn feed_part(l: Listing, part: &[u8], line: &mut [u8], out: &mut [u8], page: &mu
 }
 
 // The place behind the next line's end, or the piece's end.
-fn part_end(piece: &[u8], from: usize) -> usize {
-    let mut i = from;
-    while i < piece.len() {
-        let x = piece[i];
-        i += 1;
-        if x == b'\n' {
-            return i;
-        }
+fn part_end(piece: &[u8], from: usize) -> usize
+    requires { ⌜ from < length (now piece) ⌝ }
+    ensures { λ r. ⌜ (from < r) × (r ≤ length (now (piece .entry))) ⌝ }
+{
+    let e = slices::find(piece, from, b'\n', true);
+    if e < piece.len() {
+        return e + 1;
     }
-    i
+    e
 }
 
 fn feed_piece(
@@ -141,7 +143,7 @@ fn feed_piece(
 }
 
 // Reads a piece of at most so many bytes, and feeds it.
-fn turn(
+fn read_piece(
     fd: i32,
     size: usize,
     l: Listing,
@@ -150,8 +152,7 @@ fn turn(
     page: &mut [u8],
 ) -> Turn {
     let mut buf = io::buffer();
-    let k = slices::least(size, inputs::PIECE);
-    let got = libc::read(fd, &mut buf[..k]);
+    let got = inputs::read_some(fd, size, &mut buf);
     if got < 0 {
         return Turn::Unread;
     }
@@ -174,7 +175,7 @@ fn feed_all(fd: i32, size: usize, line: &mut [u8], out: &mut [u8], page: &mut [u
         if l.state.refusal != 0 {
             return Turn::End(l);
         }
-        let step = turn(fd, size, l, line, out, page);
+        let step = read_piece(fd, size, l, line, out, page);
         match step {
             Turn::More(next) => l = next,
             Turn::End(last) => return Turn::End(last),
@@ -194,17 +195,18 @@ fn answered(a: Answer, printed: bool) -> Outcome {
 
 // Ends the upload: the last line's record, and the answer.
 fn finish(l: Listing, line: &mut [u8], out: &mut [u8], page: &mut [u8]) -> Outcome {
-    inputs::note_empty(l.state.taken + l.state.refusal as usize);
+    inputs::note_empty(l.state.taken);
     let before = l.state;
     let fed = before.finish(line, out);
     let state = fed.state;
-    let n = state.lfs;
+    // No more than 1,048,576 LFs are counted, so nothing wraps.
+    let n = std::num::wrapping_add_usize(state.lfs, 1);
     let l = Listing {
         state,
         at: l.at,
         printed: l.printed,
     };
-    let l = list_record(l, n + 1, out, page);
+    let l = list_record(l, n, out, page);
     let l = flush(l, page);
     let a = fed.answer;
     answered(a, l.printed)
