@@ -1,11 +1,20 @@
 # make test: the gate. make demo: the main job on a sample. make archive: target/staticlib/libj8.a for C and Rust.
-.PHONY: test demo archive bench clean
+# make install PREFIX=..: archive, header and j8.pc. make stack: what each function takes of the stack.
+.PHONY: test demo archive examples install uninstall stack bench clean
+
+VERSION = 0.1.0
+PREFIX = /usr/local
+# A folder that stands for / while a package is put together.
+DESTDIR =
+STRICT = -O2 -Wall -Wextra -Werror -pedantic -Iinclude
 
 test:
 	bash .ci/run
 
-archive:
-	@echo "Proving the library and writing target/staticlib/libj8.a: a minute or two the first time."
+archive: target/staticlib/libj8.a
+
+target/staticlib/libj8.a: crates.txt $(shell find crates -type f)
+	@echo "Proving the library and writing $@: a minute or two the first time."
 	@mkdir -p target
 	@rt staticlib j8 >target/archive.log 2>&1 || { cat target/archive.log; exit 1; }
 
@@ -14,6 +23,33 @@ demo: archive
 	  gcc -std=c99 -O2 -Wall -Wextra -Iinclude examples/$$program.c target/staticlib/libj8.a -o target/$$program || exit 1; \
 	done
 	@bash examples/demo.sh
+
+# The programs of examples/c, to target/examples.
+examples: archive
+	@mkdir -p target/examples
+	@for program in upload restore; do \
+	  gcc -std=c99 $(STRICT) examples/c/$$program.c target/staticlib/libj8.a -o target/examples/$$program || exit 1; \
+	done
+	@echo "built: target/examples/upload, target/examples/restore"
+
+prefix = $(abspath $(PREFIX))
+
+# put FILE FOLDER: copies it there and says so.
+put = install -d "$(DESTDIR)$(2)" && install -m 644 $(1) "$(DESTDIR)$(2)/" && echo "installed: $(DESTDIR)$(2)/$(notdir $(1))"
+
+install: archive
+	@sed -e 's|@PREFIX@|$(prefix)|' -e 's|@VERSION@|$(VERSION)|' j8.pc.in >target/j8.pc
+	@$(call put,target/staticlib/libj8.a,$(prefix)/lib)
+	@$(call put,include/j8.h,$(prefix)/include)
+	@$(call put,target/j8.pc,$(prefix)/lib/pkgconfig)
+
+uninstall:
+	rm -f "$(DESTDIR)$(prefix)/lib/libj8.a" "$(DESTDIR)$(prefix)/include/j8.h" "$(DESTDIR)$(prefix)/lib/pkgconfig/j8.pc"
+
+# What each function takes of the stack, held to what j8.h says. memcpy and memset are bound at the start, so that the dynamic linker isn't measured.
+stack: archive
+	@gcc -std=c99 $(STRICT) tests/c/stack.c target/staticlib/libj8.a -Wl,-z,now -o target/c_stack
+	@target/c_stack
 
 # Needs serde_json, and takes along the other peers, from Debian's packages: bench/README.md.
 bench: archive
