@@ -96,9 +96,9 @@ static const char *sentence(uint32_t number)
 {
     switch (number) {
     case J8_TOO_LONG: return "the line is over 1,024 bytes";
-    case J8_CUT_OFF: return "the line ends inside a string";
+    case J8_CUT_OFF: return "the text ends where more is needed";
     case J8_ILL_FORMED: return "ill-formed UTF-8";
-    case J8_CONTROL: return "a control byte";
+    case J8_CONTROL: return "a literal control byte";
     case J8_BAD_ESCAPE: return "an escape is unknown, cut off or malformed";
     case J8_SURROGATE: return "\\u{h} is a surrogate, from d800 to dfff";
     case J8_TOO_LARGE: return "\\u{h} is above 10ffff";
@@ -116,9 +116,9 @@ static void reply(const session *it, j8_answer answer)
     if (answer.number == 0) {
         printf("200 folders restored: %lu\n", (unsigned long)it->folders);
     } else {
-        printf("400 line %lu, byte %lu: %s (refusal %lu); folders before it: %lu\n",
-               (unsigned long)answer.line, (unsigned long)answer.place, sentence(answer.number),
-               (unsigned long)answer.number, (unsigned long)it->folders);
+        printf("400 refusal %lu in line %lu at byte %lu: %s; folders before it: %lu\n",
+               (unsigned long)answer.number, (unsigned long)answer.line, (unsigned long)answer.place,
+               sentence(answer.number), (unsigned long)it->folders);
     }
 }
 
