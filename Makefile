@@ -1,6 +1,6 @@
 # make test: the gate. make demo: the main job on a sample. make archive: target/staticlib/libj8.a for C and Rust.
-# make install PREFIX=..: archive, header and j8.pc. make stack: what each function takes of the stack.
-.PHONY: test demo archive examples install uninstall stack bench clean
+# make install PREFIX=..: archive, header and j8.pc. make stack, make size: what the functions take.
+.PHONY: test demo archive examples install uninstall stack size bench clean
 
 VERSION = 0.1.0
 PREFIX = /usr/local
@@ -50,6 +50,16 @@ uninstall:
 stack: archive
 	@gcc -std=c99 $(STRICT) tests/c/stack.c target/staticlib/libj8.a -Wl,-z,now -o target/c_stack
 	@target/c_stack
+
+# The archive's size, the symbols that it needs, and what the groups of functions add to a program that drops what it doesn't call.
+size: archive
+	@size target/staticlib/libj8.a
+	@nm -u target/staticlib/libj8.a
+	@for group in NONE STRINGS UPLOADS JSON8 ALL; do \
+	  gcc -std=c99 $(STRICT) -D$$group -Wl,--gc-sections tests/c/size.c target/staticlib/libj8.a -o target/c_size || exit 1; \
+	  bytes=$$(size target/c_size | awk 'NR == 2 { print $$1 }'); \
+	  [ $$group = NONE ] && none=$$bytes || echo "$$group: $$((bytes - none)) bytes of code and constants"; \
+	done
 
 # Needs serde_json, and takes along the other peers, from Debian's packages: bench/README.md.
 bench: archive
