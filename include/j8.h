@@ -28,12 +28,12 @@
  *    set.
  *  - No NUL is looked for or put behind a result.
  *  - Nothing is kept between calls: no global state, no I/O, no errno. Every
- *    call is reentrant: threads and signal handlers may call at the same time, each
- *    with its own parts.
+ *    call is reentrant: threads and signal handlers may call at the same time,
+ *    each with its own parts.
  *  - Stack on x86-64, in bytes, at most: j8_json8_read 71,680, of which some
  *    50,000 are taken whatever the text, for a table and a store of its own;
- *    j8_json8_write 12,288; j8_upload_feed and j8_upload_finish 2,048; every other
- *    call 1,024. `make stack` measures it.
+ *    j8_json8_write 12,288; j8_upload_feed and j8_upload_finish 2,048; every
+ *    other call 1,024. `make stack` measures it.
  */
 #ifndef J8_H
 #define J8_H
@@ -138,8 +138,8 @@ extern "C" {
 /* Room that always suffices for the records of one feed of n bytes, and for
    those of a finish, if the records of the calls before were handed on and used
    was set to 0. The first LF may end a line of 1,024 bytes that was held; behind
-   it each a LF becomes five bytes. A packet of 1,460 bytes needs 4,678. n must be
-   at most SIZE_MAX / 5. */
+   it each a LF becomes five bytes. For packets of 1,460 bytes it is 4,678. n must
+   be at most SIZE_MAX / 5. */
 #define J8_FEED_ROOM(n) \
     ((size_t)(J8_RECORD_HEAD + J8_LINE_ROOM) + (size_t)5 * ((size_t)(n) / 2))
 
@@ -201,6 +201,10 @@ typedef struct {
  * not be (a lone surrogate half gives its three bytes), and those of b'...'
  * may be anything.
  *
+ * J8_STRING_READ_ROOM(text_len) bytes of room always suffice. Without any (out
+ * NULL, out_len 0) a text is judged all the same: the answer is 0 if it is right
+ * and empty, J8_NO_ROOM if it is right and not empty, and else the fault.
+ *
  * Refusals: 2 to 12.
  */
 j8_result j8_string_read(const uint8_t *text, size_t text_len,
@@ -210,6 +214,8 @@ j8_result j8_string_read(const uint8_t *text, size_t text_len,
  * Writes any bytes as one J8 string: "..." if they are valid UTF-8, b'...'
  * otherwise. There is one form for each byte string, and a text of at most
  * J8_TEXT_MAX bytes reads back the same. No NUL is put after the text.
+ *
+ * J8_STRING_WRITE_ROOM(data_len) bytes of room always suffice.
  *
  * Refusals: 12.
  */
@@ -354,8 +360,13 @@ j8_upload j8_upload_fresh(void);
  * was set to 0. Nothing of them is touched but the line buffer's places where
  * bytes are stored and the output's where records are appended.
  *
+ * piece may be NULL with length 0. A line buffer under J8_LINE_ROOM bytes, NULL
+ * with it, is J8_UNFIT. out may be NULL with length 0: every record is then
+ * J8_NO_ROOM, while blank lines pass.
+ *
  * Refusals: 1, then the one that is kept, then 18; then 2, 4 to 12 and 17. A
- * line whose record doesn't fit whole is 12 at place 0.
+ * line whose record doesn't fit whole is 12 at place 0. A state made by hand may
+ * keep any number, which is repeated.
  */
 j8_fed j8_upload_feed(j8_upload upload,
                       const uint8_t *piece, size_t piece_len,
@@ -365,7 +376,7 @@ j8_fed j8_upload_feed(j8_upload upload,
 /*
  * Ends an upload. A line that is still held is read as if an LF came; no LF or
  * byte is counted for it. A refused finish doesn't end the upload. The line
- * buffer isn't written.
+ * buffer isn't written. Both buffers are those of the feeds.
  *
  * Refusals: 1, then the one that is kept, then 18; then 4 to 12.
  */
@@ -377,6 +388,8 @@ j8_fed j8_upload_finish(j8_upload upload,
  * Writes records as J8 Lines: each payload as j8_string_write has it, an LF
  * after each, however long the line. No records give no text. Uploaded again,
  * lines of at most J8_LINE_ROOM bytes give the same records.
+ *
+ * J8_LINES_WRITE_ROOM(records_len) bytes of room always suffice.
  *
  * Refusals, both at place 0: 1 if a record is cut short or its kind doesn't fit
  * its payload, then 12.

@@ -49,7 +49,7 @@ pub enum Refusal {
 
 impl Refusal {
     /// All of them, in the order of their numbers, which begin at 1.
-    pub const ALL: [Refusal; 18] = [
+    pub const ALL: &'static [Refusal] = &[
         Refusal::Unfit,
         Refusal::TooLong,
         Refusal::NoOpening,

@@ -57,7 +57,8 @@ fn vectors_of_their_own() {
 
 #[test]
 fn refusals_have_their_numbers() {
-    for (index, refusal) in Refusal::ALL.into_iter().enumerate() {
+    assert_eq!(Refusal::ALL.len(), 18);
+    for (index, &refusal) in Refusal::ALL.iter().enumerate() {
         let number = index as u32 + 1;
         assert_eq!(refusal.number(), number);
         assert_eq!(u32::from(refusal), number);
@@ -85,7 +86,7 @@ fn refusals_have_the_numbers_of_the_header() {
         }
         name
     };
-    for refusal in Refusal::ALL {
+    for &refusal in Refusal::ALL {
         let line = format!("#define {} {}", name(refusal), refusal.number());
         assert!(header.lines().any(|l| l == line), "{line}");
     }
@@ -94,7 +95,7 @@ fn refusals_have_the_numbers_of_the_header() {
 #[test]
 fn errors_say_what_and_where() {
     let mut sentences = BTreeSet::new();
-    for refusal in Refusal::ALL {
+    for &refusal in Refusal::ALL {
         let plain = error(refusal, 5);
         let said = plain.to_string();
         let number = refusal.number();

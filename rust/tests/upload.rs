@@ -378,6 +378,11 @@ fn an_upload_refuses() {
     assert_eq!(upload.records().next(), None);
     assert!(format!("{upload:?}").starts_with("LentUpload { state: UploadState { taken: 1024,"));
 
+    // Blank lines need no room.
+    let mut upload = LentUpload::new(&mut line, &mut []);
+    assert_eq!(upload.feed(b"\n \r\n\n"), Ok(()));
+    assert_eq!(upload.finish(), Ok(()));
+
     let mut upload = LentUpload::new(&mut line[..1_023], &mut []);
     let unfit = error(Refusal::Unfit, None, 0);
     assert_eq!(upload.feed(b"a"), Err(unfit));

@@ -29,7 +29,7 @@ static int check(int passed, const char *what)
 /* ---------------------------------------------------------- the room needed */
 
 static uint8_t line[J8_LINE_ROOM], other_line[J8_LINE_ROOM];
-static uint8_t out[J8_FEED_ROOM(PIECE_MOST)], all[J8_UPLOAD_OUTPUT_MAX];
+static uint8_t out[J8_FEED_ROOM(PIECE_MOST)], other_out[J8_FEED_ROOM(PIECE_MOST)], all[J8_UPLOAD_OUTPUT_MAX];
 
 /* A letter, an LF, a quote and a blank: lines that are bare, quoted, ignored and refused. */
 static const uint8_t alphabet[] = { 'a', '\n', '\'', ' ' };
@@ -134,10 +134,11 @@ static int same(j8_fed a, j8_fed b)
         && a.upload.line == b.upload.line && a.upload.place == b.upload.place;
 }
 
-/* One text by both ways, in pieces of at most so many bytes; the drained one has just the room for such a piece. */
+/* One text by both ways, in pieces of at most so many bytes. The drained one has just the room for such a piece, now in one output, now in another. */
 static int both(size_t most, unsigned long *refused)
 {
     size_t at = 0, handed = 0, n, room = J8_FEED_ROOM(most);
+    uint8_t *lent;
     int ends = 0;
     j8_fed kept, drained;
 
@@ -145,28 +146,29 @@ static int both(size_t most, unsigned long *refused)
     memset(line, 1, sizeof line);
     memset(other_line, 1, sizeof other_line);
     while (ends < 2) {
+        lent = below(2) == 0 ? out : other_out;
         if (at < text_len) {
             n = 1 + below(most);
             n = n < text_len - at ? n : text_len - at;
             kept = j8_upload_feed(kept.upload, text + at, n, line, sizeof line, all, sizeof all);
-            drained = j8_upload_feed(drained.upload, text + at, n, other_line, sizeof other_line, out, room);
+            drained = j8_upload_feed(drained.upload, text + at, n, other_line, sizeof other_line, lent, room);
             at += n;
         } else {
             /* Twice, so that a finish behind the end is compared too. */
             kept = j8_upload_finish(kept.upload, line, sizeof line, all, sizeof all);
-            drained = j8_upload_finish(drained.upload, other_line, sizeof other_line, out, room);
+            drained = j8_upload_finish(drained.upload, other_line, sizeof other_line, lent, room);
             ends++;
         }
         if (!check(same(kept, drained), "the same answer and state")
             || !check(memcmp(line, other_line, sizeof line) == 0, "the same line buffer")
             || !check(handed + drained.upload.used == kept.upload.used, "as many record bytes")
-            || !check(memcmp(all + handed, out, drained.upload.used) == 0, "the same records")) {
+            || !check(memcmp(all + handed, lent, drained.upload.used) == 0, "the same records")) {
             return 0;
         }
         handed += drained.upload.used;
         drained.upload.used = 0;
         /* Handed on, they may be written over. */
-        memset(out, 0xEE, room);
+        memset(lent, 0xEE, room);
     }
     *refused += kept.upload.refusal != 0;
     return check(kept.upload.refusal != J8_NO_ROOM, "room enough");
