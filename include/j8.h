@@ -241,6 +241,11 @@ j8_result j8_string_write(const uint8_t *data, size_t data_len,
 /* A record's kind: its payload is anything else. */
 #define J8_KIND_BYTES 2
 
+/* The length of a record's payload, and its kind; record points to the record's
+   first byte. */
+#define J8_RECORD_LENGTH(record) ((size_t)(record)[0] | (size_t)(record)[1] << 8)
+#define J8_RECORD_KIND(record) ((unsigned)(record)[2] | (unsigned)(record)[3] << 8)
+
 /*
  * The state of an upload: everything that is known between two calls besides
  * the two buffers. It is a value: it may be copied, kept and dropped, and there
@@ -333,12 +338,11 @@ typedef struct {
  *     void hand_on(const uint8_t *records, size_t used)
  *     {
  *         size_t at, length;
- *         unsigned kind;
  *
  *         for (at = 0; at < used; at += J8_RECORD_HEAD + length) {
- *             length = (size_t)records[at] | (size_t)records[at + 1] << 8;
- *             kind = (unsigned)records[at + 2] | (unsigned)records[at + 3] << 8;
- *             entry(kind, records + at + J8_RECORD_HEAD, length);
+ *             length = J8_RECORD_LENGTH(records + at);
+ *             entry(J8_RECORD_KIND(records + at),
+ *                   records + at + J8_RECORD_HEAD, length);
  *         }
  *     }
  *

@@ -45,12 +45,12 @@ static void take_folder(session *it, unsigned kind, const uint8_t *name, size_t 
 static void hand_on(session *it)
 {
     size_t at, length;
-    unsigned kind;
+    const uint8_t *record;
 
     for (at = 0; at < it->state.used; at += J8_RECORD_HEAD + length) {
-        length = (size_t)it->out[at] | (size_t)it->out[at + 1] << 8;
-        kind = (unsigned)it->out[at + 2] | (unsigned)it->out[at + 3] << 8;
-        take_folder(it, kind, it->out + at + J8_RECORD_HEAD, length);
+        record = it->out + at;
+        length = J8_RECORD_LENGTH(record);
+        take_folder(it, J8_RECORD_KIND(record), record + J8_RECORD_HEAD, length);
     }
     it->state.used = 0;
 }
