@@ -50,8 +50,9 @@
 //! # Ok::<(), j8::Error>(())
 //! ```
 //!
-//! Whatever has `_to_vec` in its name, [`Upload`], [`Json8`], [`Table`] and
-//! [`Value`] allocate; everything else works in what it is lent.
+//! Whatever has `_to_vec` in its name, [`Upload`], [`Json8`], [`Table`], [`Value`]
+//! and an [`io::Error`](std::io::Error) made of an [`Error`] allocate; everything
+//! else works in what it is lent.
 
 #![deny(missing_docs, unsafe_code, missing_debug_implementations)]
 

@@ -140,9 +140,8 @@ fn written(taken: usize, fed: Result<(), Error>) -> io::Result<usize> {
     }
 }
 
-/// An upload with buffers of its own. The output grows as it must, to
-/// [`UPLOAD_OUTPUT_MAX`] and little more at most; where records are
-/// [drained](Upload::drain) after each piece it stays at [`feed_room`] of the
+/// An upload with buffers of its own. The output grows as it must; where records
+/// are [drained](Upload::drain) after each piece it stays at [`feed_room`] of the
 /// longest.
 ///
 /// How the text is cut into pieces makes no difference to the records, the
