@@ -32,19 +32,19 @@ examples: archive
 	done
 	@echo "built: target/examples/upload, target/examples/restore"
 
-prefix = $(abspath $(PREFIX))
+root = $(DESTDIR)$(abspath $(PREFIX))
 
-# put FILE FOLDER: copies it there and says so.
-put = install -d "$(DESTDIR)$(2)" && install -m 644 $(1) "$(DESTDIR)$(2)/" && echo "installed: $(DESTDIR)$(2)/$(notdir $(1))"
+# put MODE FILE FOLDER: copies it to the folder below the prefix, and says so.
+put = install -d "$(root)/$(3)" && install -m $(1) $(2) "$(root)/$(3)/" && echo "installed: $(root)/$(3)/$(notdir $(2))"
 
 install: archive
-	@sed -e 's|@PREFIX@|$(prefix)|' -e 's|@VERSION@|$(VERSION)|' j8.pc.in >target/j8.pc
-	@$(call put,target/staticlib/libj8.a,$(prefix)/lib)
-	@$(call put,include/j8.h,$(prefix)/include)
-	@$(call put,target/j8.pc,$(prefix)/lib/pkgconfig)
+	@sed -e 's|@PREFIX@|$(abspath $(PREFIX))|' -e 's|@VERSION@|$(VERSION)|' j8.pc.in >target/j8.pc
+	@$(call put,644,target/staticlib/libj8.a,lib)
+	@$(call put,644,include/j8.h,include)
+	@$(call put,644,target/j8.pc,lib/pkgconfig)
 
 uninstall:
-	rm -f "$(DESTDIR)$(prefix)/lib/libj8.a" "$(DESTDIR)$(prefix)/include/j8.h" "$(DESTDIR)$(prefix)/lib/pkgconfig/j8.pc"
+	rm -f "$(root)/lib/libj8.a" "$(root)/include/j8.h" "$(root)/lib/pkgconfig/j8.pc"
 
 # What each function takes of the stack, held to what j8.h says. memcpy and memset are bound at the start, so that the dynamic linker isn't measured.
 stack: archive
