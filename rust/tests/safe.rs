@@ -125,3 +125,24 @@ fn errors_are_errors() {
     assert_eq!(of_io.kind(), std::io::ErrorKind::InvalidData);
     assert_eq!(of_io.to_string(), plain.to_string());
 }
+
+/// All of it may be handed to another thread.
+#[test]
+fn threads() {
+    fn shared<T: Send + Sync + 'static>() {}
+    shared::<j8::Upload>();
+    shared::<j8::LentUpload<'static>>();
+    shared::<j8::Json8>();
+    shared::<j8::Nodes<'static>>();
+    shared::<j8::Value>();
+    shared::<Error>();
+    let texts = (0..8).map(|n| std::thread::spawn(move || j8::write_to_vec(&[n, 0xff])));
+    let texts: Vec<_> = texts
+        .collect::<Vec<_>>()
+        .into_iter()
+        .map(|t| t.join().unwrap())
+        .collect();
+    for (n, text) in texts.iter().enumerate() {
+        assert_eq!(j8::read_to_vec(text).unwrap(), [n as u8, 0xff]);
+    }
+}
