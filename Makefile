@@ -2,7 +2,7 @@
 # make install PREFIX=..: archive, header and j8.pc. make stack, make size: what the functions take.
 .PHONY: test demo archive examples install uninstall stack size bench clean
 
-VERSION = 0.1.0
+VERSION = $(shell sed -n 's/^.define J8_VERSION "\(.*\)"$$/\1/p' include/j8.h)
 PREFIX = /usr/local
 # A folder that stands for / while a package is put together.
 DESTDIR =

@@ -41,6 +41,9 @@
 #include <stddef.h>
 #include <stdint.h>
 
+/* The version of this header and of the archive beside it. */
+#define J8_VERSION "0.1.0"
+
 #ifdef __cplusplus
 extern "C" {
 #endif

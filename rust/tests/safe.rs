@@ -70,11 +70,31 @@ fn refusals_have_their_numbers() {
     }
 }
 
-/// The numbers are those of the header.
+/// The numbers, the rooms and the version are those of the header.
 #[test]
-fn refusals_have_the_numbers_of_the_header() {
+fn the_header_says_the_same() {
     let path = concat!(env!("CARGO_MANIFEST_DIR"), "/../include/j8.h");
     let header = std::fs::read_to_string(path).unwrap();
+    let defined = |line: &str| assert!(header.lines().any(|l| l == line), "{line}");
+    defined(concat!(
+        "#define J8_VERSION \"",
+        env!("CARGO_PKG_VERSION"),
+        "\""
+    ));
+    for (name, number) in [
+        ("TEXT_MAX", j8::TEXT_MAX),
+        ("LINE_ROOM", j8::LINE_ROOM),
+        ("UPLOAD_MAX", j8::UPLOAD_MAX),
+        ("UPLOAD_OUTPUT_MAX", j8::UPLOAD_OUTPUT_MAX),
+        ("RECORD_HEAD", j8::RECORD_HEAD),
+        ("KIND_TEXT", usize::from(j8::KIND_TEXT)),
+        ("KIND_BYTES", usize::from(j8::KIND_BYTES)),
+        ("NODES_MAX", j8::NODES_MAX),
+        ("DEPTH_MAX", j8::DEPTH_MAX),
+        ("NODE_ROOM", j8::NODE_ROOM),
+    ] {
+        defined(&format!("#define J8_{name} {number}"));
+    }
     // The name in the header's manner: NoRoom is J8_NO_ROOM.
     let name = |refusal: Refusal| {
         let mut name = "J8".to_string();
@@ -87,8 +107,7 @@ fn refusals_have_the_numbers_of_the_header() {
         name
     };
     for &refusal in Refusal::ALL {
-        let line = format!("#define {} {}", name(refusal), refusal.number());
-        assert!(header.lines().any(|l| l == line), "{line}");
+        defined(&format!("#define {} {}", name(refusal), refusal.number()));
     }
 }
 
