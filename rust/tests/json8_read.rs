@@ -160,8 +160,10 @@ fn a_backup_is_walked() {
             (b"name", 13)
         ]
     );
-    // A list has members and no pairs.
+    // A list has members and no pairs, strings though they may be.
     assert_eq!(node(4).pairs().next(), None);
+    let list = Json8::read("['a', 'b']").unwrap();
+    assert_eq!(list.root().pairs().next(), None);
 
     let kinds: Vec<Kind> = nodes.iter().map(|node| node.kind()).collect();
     assert_eq!(
