@@ -14,7 +14,7 @@ test:
 archive: target/staticlib/libj8.a
 
 target/staticlib/libj8.a: crates.txt $(shell find crates -type f)
-	@echo "Proving the library and writing $@: a minute or two the first time."
+	@echo "Proving the library and writing $@: some minutes the first time, six of processor time."
 	@mkdir -p target
 	@rt staticlib j8 >target/archive.log 2>&1 || { cat target/archive.log; exit 1; }
 
