@@ -1,11 +1,20 @@
 # make test: the gate. make demo: the main job on a sample. make archive: target/staticlib/libj8.a for C and Rust.
-.PHONY: test demo archive bench clean
+# make install PREFIX=..: archive, header and j8.pc. make stack, make size: what the functions take.
+.PHONY: test demo archive examples install uninstall stack size bench clean
+
+VERSION = $(shell sed -n 's/^.define J8_VERSION "\(.*\)"$$/\1/p' include/j8.h)
+PREFIX = /usr/local
+# A folder that stands for / while a package is put together.
+DESTDIR =
+STRICT = -O2 -Wall -Wextra -Werror -pedantic -Iinclude
 
 test:
 	bash .ci/run
 
-archive:
-	@echo "Proving the library and writing target/staticlib/libj8.a: a minute or two the first time."
+archive: target/staticlib/libj8.a
+
+target/staticlib/libj8.a: crates.txt $(shell find crates -type f)
+	@echo "Proving the library and writing $@: some minutes the first time, six of processor time."
 	@mkdir -p target
 	@rt staticlib j8 >target/archive.log 2>&1 || { cat target/archive.log; exit 1; }
 
@@ -14,6 +23,43 @@ demo: archive
 	  gcc -std=c99 -O2 -Wall -Wextra -Iinclude examples/$$program.c target/staticlib/libj8.a -o target/$$program || exit 1; \
 	done
 	@bash examples/demo.sh
+
+# The programs of examples/c, to target/examples.
+examples: archive
+	@mkdir -p target/examples
+	@for program in upload restore; do \
+	  gcc -std=c99 $(STRICT) examples/c/$$program.c target/staticlib/libj8.a -o target/examples/$$program || exit 1; \
+	done
+	@echo "built: target/examples/upload, target/examples/restore"
+
+root = $(DESTDIR)$(abspath $(PREFIX))
+
+# put MODE FILE FOLDER: copies it to the folder below the prefix, and says so.
+put = install -d "$(root)/$(3)" && install -m $(1) $(2) "$(root)/$(3)/" && echo "installed: $(root)/$(3)/$(notdir $(2))"
+
+install: archive
+	@sed -e 's|@PREFIX@|$(abspath $(PREFIX))|' -e 's|@VERSION@|$(VERSION)|' j8.pc.in >target/j8.pc
+	@$(call put,644,target/staticlib/libj8.a,lib)
+	@$(call put,644,include/j8.h,include)
+	@$(call put,644,target/j8.pc,lib/pkgconfig)
+
+uninstall:
+	rm -f "$(root)/lib/libj8.a" "$(root)/include/j8.h" "$(root)/lib/pkgconfig/j8.pc"
+
+# What each function takes of the stack, held to what j8.h says. memcpy and memset are bound at the start, so that the dynamic linker isn't measured.
+stack: archive
+	@gcc -std=c99 $(STRICT) tests/c/stack.c target/staticlib/libj8.a -Wl,-z,now -o target/c_stack
+	@target/c_stack
+
+# The archive's size, the symbols that it needs, and what the groups of functions add to a program that drops what it doesn't call.
+size: archive
+	@size target/staticlib/libj8.a
+	@nm -u target/staticlib/libj8.a
+	@for group in NONE STRINGS UPLOADS JSON8 ALL; do \
+	  gcc -std=c99 $(STRICT) -D$$group -Wl,--gc-sections tests/c/size.c target/staticlib/libj8.a -o target/c_size || exit 1; \
+	  bytes=$$(size target/c_size | awk 'NR == 2 { print $$1 }'); \
+	  [ $$group = NONE ] && none=$$bytes || echo "$$group: $$((bytes - none)) bytes of code and constants"; \
+	done
 
 # Needs serde_json, and takes along the other peers, from Debian's packages: bench/README.md.
 bench: archive

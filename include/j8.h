@@ -1,22 +1,39 @@
 /*
  * j8.h - J8 Notation strings, lines and JSON8 for printer backups.
  *
- * Link with libj8.a. C99.
+ * C99 and C++. Link with libj8.a; `pkg-config --cflags --libs j8` says how. The
+ * archive needs nothing but memcpy and memset.
+ *
+ *   strings   j8_string_read, j8_string_write
+ *   lines     j8_upload_fresh, j8_upload_feed, j8_upload_finish: a text that
+ *             arrives in pieces; j8_lines_write
+ *   JSON8     j8_json8_read: a text to a node table; j8_json8_show: a string of
+ *             it; j8_json8_write: the table to a text again
  *
  * What holds for every call:
  *  - A part is a pointer and a length, in bytes, or in numbers where the part
- *    is a node table. A pointer may be NULL only if its length is 0.
- *  - The parts handed to one call must not overlap.
- *  - Any bytes may be handed in; the call always ends with an answer.
+ *    is a node table. A pointer may be NULL only if its length is 0, and then
+ *    always. A node table is aligned for uint32_t; bytes may stand anywhere.
+ *  - The parts handed to one call must not overlap. Parts that are only read
+ *    may, if nothing that is written overlaps them.
+ *  - The caller owns all memory. It is lent for the time of the call: no call
+ *    keeps a pointer, allocates or frees.
+ *  - Any bytes, states and tables may be handed in; the call always ends with
+ *    an answer.
  *  - A refused call leaves every byte and number of the lent parts as it was.
  *    A call that is done writes its result from the start of the lent part,
  *    and never touches anything past it. An upload appends instead, and keeps
  *    the records of the good lines before a bad one.
- *  - Nothing is kept between calls: no global state, no allocation, no I/O.
- *    Every call is reentrant, and threads may call at the same time.
- *  - Stack, as measured on x86-64 at 32 open brackets: j8_json8_read takes 70
- *    KiB, most of it for a table and a store of its own, whatever the text;
- *    j8_json8_write takes 11 KiB. Strings take less than 1 KiB.
+ *  - Structs are handed over and returned by value; of an answer every field is
+ *    set.
+ *  - No NUL is looked for or put behind a result.
+ *  - Nothing is kept between calls: no global state, no I/O, no errno. Every
+ *    call is reentrant: threads and signal handlers may call at the same time,
+ *    each with its own parts.
+ *  - Stack on x86-64, in bytes, at most: j8_json8_read 71,680, of which some
+ *    50,000 are taken whatever the text, for a table and a store of its own;
+ *    j8_json8_write 12,288; j8_upload_feed and j8_upload_finish 2,048; every
+ *    other call 1,024. `make stack` measures it.
  */
 #ifndef J8_H
 #define J8_H
@@ -24,17 +41,25 @@
 #include <stddef.h>
 #include <stdint.h>
 
+/* The version of this header and of the archive beside it. */
+#define J8_VERSION "0.1.0"
+
 #ifdef __cplusplus
 extern "C" {
 #endif
 
 /*
- * Refusal numbers. 0 is no refusal.
+ * Refusal numbers. 0 is no refusal. Each call can answer only these:
  *
- * Reading a string gives 2 to 12 only, writing one gives 12 only. An upload
- * gives 1, 2, 4 to 12, 17 and 18, writing lines gives 1 and 12. Reading JSON8
- * gives 2 and 4 to 16, writing it gives 1 and 12, showing a string of it
- * gives 1.
+ *   j8_string_read     0, 2 to 12
+ *   j8_string_write    0, 12
+ *   j8_upload_feed     0, 1, 2, 4 to 12, 17, 18
+ *   j8_upload_finish   the same; by itself 0, 1, 4 to 12 and 18, and it repeats
+ *                      what a feed was refused with
+ *   j8_lines_write     0, 1, 12
+ *   j8_json8_read      0, 2, 4 to 16
+ *   j8_json8_write     0, 1, 12
+ *   j8_json8_show      0, 1
  *
  * Order: 1, then 2 on whole texts, then the leftmost fault in the text, then
  * 12. In an upload the faults and 12 are judged for each line by itself, when
@@ -104,13 +129,22 @@ extern "C" {
 /* The longest upload, LFs with it; one byte more is J8_UPLOAD_LIMIT. */
 #define J8_UPLOAD_MAX 1048576
 
-/* Room that always suffices for an upload's output. Each a LF becomes five
-   bytes, and a last line without its LF saves one more: 524,287 times a LF and
-   then ab, 1,048,576 bytes in all, need just this. */
+/* Room that always suffices for an upload's whole output, where records are
+   handed on at the end only. Each a LF becomes five bytes, and a last line
+   without its LF saves one more: 524,287 times a LF and then ab, 1,048,576 bytes
+   in all, need just this. */
 #define J8_UPLOAD_OUTPUT_MAX 2621441
 
 /* The bytes of a record before its payload: length and kind. */
 #define J8_RECORD_HEAD 4
+
+/* Room that always suffices for the records of one feed of n bytes, and for
+   those of a finish, if the records of the calls before were handed on and used
+   was set to 0. The first LF may end a line of 1,024 bytes that was held; behind
+   it each a LF becomes five bytes. For packets of 1,460 bytes it is 4,678. n must
+   be at most SIZE_MAX / 5. */
+#define J8_FEED_ROOM(n) \
+    ((size_t)(J8_RECORD_HEAD + J8_LINE_ROOM) + (size_t)5 * ((size_t)(n) / 2))
 
 /* Room that always suffices to write n bytes of records as lines: a payload
    byte becomes six at most, and the quotes and the LF are fewer than six times
@@ -170,6 +204,10 @@ typedef struct {
  * not be (a lone surrogate half gives its three bytes), and those of b'...'
  * may be anything.
  *
+ * J8_STRING_READ_ROOM(text_len) bytes of room always suffice. Without any (out
+ * NULL, out_len 0) a text is judged all the same: the answer is 0 if it is right
+ * and empty, J8_NO_ROOM if it is right and not empty, and else the fault.
+ *
  * Refusals: 2 to 12.
  */
 j8_result j8_string_read(const uint8_t *text, size_t text_len,
@@ -179,6 +217,8 @@ j8_result j8_string_read(const uint8_t *text, size_t text_len,
  * Writes any bytes as one J8 string: "..." if they are valid UTF-8, b'...'
  * otherwise. There is one form for each byte string, and a text of at most
  * J8_TEXT_MAX bytes reads back the same. No NUL is put after the text.
+ *
+ * J8_STRING_WRITE_ROOM(data_len) bytes of room always suffice.
  *
  * Refusals: 12.
  */
@@ -204,14 +244,27 @@ j8_result j8_string_write(const uint8_t *data, size_t data_len,
 /* A record's kind: its payload is anything else. */
 #define J8_KIND_BYTES 2
 
+/* The length of a record's payload, and its kind; record points to the record's
+   first byte. */
+#define J8_RECORD_LENGTH(record) ((size_t)(record)[0] | (size_t)(record)[1] << 8)
+#define J8_RECORD_KIND(record) ((unsigned)(record)[2] | (unsigned)(record)[3] << 8)
+
 /*
  * The state of an upload: everything that is known between two calls besides
- * the two buffers. Begin with j8_upload_fresh, hand each call the state that
- * the last one returned, and change none of its fields.
+ * the two buffers. It is a value: it may be copied, kept and dropped, and there
+ * is nothing to free. Begin with j8_upload_fresh and hand each call the state
+ * that the last one returned.
  *
- * Any state may be handed in. One is unfit (J8_UNFIT) if held is over
- * J8_LINE_ROOM, taken over J8_UPLOAD_MAX, lfs over taken, or used over the
- * output lent with it.
+ * One field may be changed between two calls: used may be set to 0 when the
+ * records were handed on. The next call then appends from the output's start, and
+ * may be lent another output. used says where the next record goes and nothing
+ * else; the other fields, the line buffer and the answers are what they would
+ * have been, but for J8_NO_ROOM, which J8_FEED_ROOM bytes of output rule out. A
+ * refusal that is kept stays so.
+ *
+ * Any state may be handed in, and none can make a call go outside its parts. One
+ * is unfit (J8_UNFIT) if held is over J8_LINE_ROOM, taken over J8_UPLOAD_MAX, lfs
+ * over taken, or used over the output lent with it.
  */
 typedef struct {
     /* bytes taken, LFs with them; the byte that causes a refusal isn't */
@@ -259,35 +312,47 @@ typedef struct {
 /*
  * The state of an upload that nothing was fed to: 0 in each field.
  *
- * A whole upload. How the text is cut into pieces makes no difference to the
- * state, the records or the refusal.
+ * A whole upload, its records handed on as they come. How the text is cut into
+ * pieces makes no difference to the state, the records or the refusal.
  *
- *     static uint8_t line[J8_LINE_ROOM], out[J8_UPLOAD_OUTPUT_MAX];
+ *     static uint8_t line[J8_LINE_ROOM], out[J8_FEED_ROOM(1460)];
  *     uint8_t piece[1460];
- *     size_t got, at, length;
- *     unsigned kind;
+ *     size_t got;
  *     j8_fed fed;
  *
  *     fed.upload = j8_upload_fresh();
  *     while ((got = receive(piece, sizeof piece)) > 0) {
  *         fed = j8_upload_feed(fed.upload, piece, got,
  *                              line, sizeof line, out, sizeof out);
+ *         hand_on(out, fed.upload.used);
+ *         fed.upload.used = 0;
  *         if (fed.answer.number != 0) {
  *             break;
  *         }
  *     }
  *     fed = j8_upload_finish(fed.upload, line, sizeof line, out, sizeof out);
+ *     hand_on(out, fed.upload.used);
  *     if (fed.answer.number != 0) {
  *         complain(fed.answer.number, fed.answer.line, fed.answer.place);
  *     }
- *     for (at = 0; at < fed.upload.used; at += J8_RECORD_HEAD + length) {
- *         length = (size_t)out[at] | (size_t)out[at + 1] << 8;
- *         kind = (unsigned)out[at + 2] | (unsigned)out[at + 3] << 8;
- *         entry(kind, out + at + J8_RECORD_HEAD, length);
+ *
+ * where the records are gone through like this:
+ *
+ *     void hand_on(const uint8_t *records, size_t used)
+ *     {
+ *         size_t at, length;
+ *
+ *         for (at = 0; at < used; at += J8_RECORD_HEAD + length) {
+ *             length = J8_RECORD_LENGTH(records + at);
+ *             entry(J8_RECORD_KIND(records + at),
+ *                   records + at + J8_RECORD_HEAD, length);
+ *         }
  *     }
  *
  * After a refused feed the finish repeats its refusal; so it is enough to look
  * at the finish. The records are then those of the lines before the bad one.
+ * With an output of J8_UPLOAD_OUTPUT_MAX bytes all records may be left there
+ * until the end, and used is left alone.
  */
 j8_upload j8_upload_fresh(void);
 
@@ -297,12 +362,18 @@ j8_upload j8_upload_fresh(void);
  * other byte is stored in the line buffer. At a refusal that byte and the ones
  * behind it aren't taken.
  *
- * Hand every call of an upload the same two buffers, and write to neither in
- * between. Nothing of them is touched but the line buffer's places where bytes
- * are stored and the output's where records are appended.
+ * Hand every call of an upload the same line buffer and output, and write to
+ * neither in between; the output is free once its records were handed on and used
+ * was set to 0. Nothing of them is touched but the line buffer's places where
+ * bytes are stored and the output's where records are appended.
+ *
+ * piece may be NULL with length 0. A line buffer under J8_LINE_ROOM bytes, NULL
+ * with it, is J8_UNFIT. out may be NULL with length 0: every record is then
+ * J8_NO_ROOM, while blank lines pass.
  *
  * Refusals: 1, then the one that is kept, then 18; then 2, 4 to 12 and 17. A
- * line whose record doesn't fit whole is 12 at place 0.
+ * line whose record doesn't fit whole is 12 at place 0. A state made by hand may
+ * keep any number, which is repeated.
  */
 j8_fed j8_upload_feed(j8_upload upload,
                       const uint8_t *piece, size_t piece_len,
@@ -312,7 +383,7 @@ j8_fed j8_upload_feed(j8_upload upload,
 /*
  * Ends an upload. A line that is still held is read as if an LF came; no LF or
  * byte is counted for it. A refused finish doesn't end the upload. The line
- * buffer isn't written.
+ * buffer isn't written. Both buffers are those of the feeds.
  *
  * Refusals: 1, then the one that is kept, then 18; then 4 to 12.
  */
@@ -324,6 +395,8 @@ j8_fed j8_upload_finish(j8_upload upload,
  * Writes records as J8 Lines: each payload as j8_string_write has it, an LF
  * after each, however long the line. No records give no text. Uploaded again,
  * lines of at most J8_LINE_ROOM bytes give the same records.
+ *
+ * J8_LINES_WRITE_ROOM(records_len) bytes of room always suffice.
  *
  * Refusals, both at place 0: 1 if a record is cut short or its kind doesn't fit
  * its payload, then 12.

@@ -153,7 +153,7 @@ fn write(text: &[u8], rounds: usize) -> Row {
     }
     // Ours to the letter: read back it is the same tree, numbers as they stood.
     let back = j8::Json8::read(written.as_slice()).expect("our reader takes what we write");
-    assert!(back.nodes().value(0) == nodes.value(0));
+    assert!(back.root().to_value() == nodes.root().to_value());
 
     let mut calls: Vec<Box<dyn FnMut() + '_>> = vec![
         Box::new(|| {

@@ -1,6 +1,6 @@
 //! JSON8: a text read to a node table, its strings, and the table written.
 
-use crate::{raw, Refusal, TEXT_MAX};
+use crate::{raw, Error, TEXT_MAX};
 use std::fmt;
 use std::iter::FusedIterator;
 
@@ -23,8 +23,11 @@ pub const TABLE_ROOM: usize = NODES_MAX * NODE_ROOM;
 #[derive(Clone, Copy, Debug, PartialEq, Eq, Hash)]
 #[repr(u32)]
 pub enum Kind {
+    /// `null`.
     Null = 0,
+    /// `false`.
     False = 1,
+    /// `true`.
     True = 2,
     /// A number with no `.`, `e` or `E`.
     Integer = 3,
@@ -35,7 +38,9 @@ pub enum Kind {
     String = 5,
     /// A string with a backslash. Its decoded bytes stand in the store.
     StoredString = 6,
+    /// A list.
     List = 7,
+    /// A dict.
     Dict = 8,
 }
 
@@ -52,12 +57,12 @@ impl Kind {
         Kind::Dict,
     ];
 
-    /// Of either kind.
+    /// Whether it is a string, of the text or of the store.
     pub fn is_string(self) -> bool {
         matches!(self, Kind::String | Kind::StoredString)
     }
 
-    /// Of either kind.
+    /// Whether it is a number, integer or decimal.
     pub fn is_number(self) -> bool {
         matches!(self, Kind::Integer | Kind::Decimal)
     }
@@ -73,34 +78,6 @@ impl TryFrom<u32> for Kind {
     }
 }
 
-/// One node, as the table has it.
-#[derive(Clone, Copy, Debug, PartialEq, Eq, Hash)]
-pub struct Node {
-    pub kind: Kind,
-    /// Nodes in its subtree, itself with them.
-    pub count: usize,
-    /// A stored string's place in the store. Else a place in the text: behind a
-    /// string's opening mark, at the bracket of a list or dict, at the first
-    /// byte of everything else.
-    pub place: usize,
-    /// A list's members or a dict's pairs, else bytes from the place on.
-    pub length: usize,
-}
-
-impl Node {
-    fn of(row: &[u32]) -> Option<Node> {
-        let &[kind, count, place, length] = row else {
-            return None;
-        };
-        Some(Node {
-            kind: Kind::try_from(kind).ok()?,
-            count: count as usize,
-            place: place as usize,
-            length: length as usize,
-        })
-    }
-}
-
 /// Reads a JSON8 text to the start of the lent `table` and `store`; nothing is
 /// allocated.
 ///
@@ -113,29 +90,28 @@ impl Node {
 /// let (mut table, mut store) = ([0; 64], [0; 64]);
 /// let nodes = j8::read_json8(text, &mut table, &mut store)?;
 /// assert_eq!(nodes.len(), 7);
-/// let (_, folders) = nodes.pairs(0).nth(1).unwrap();
-/// let names: Vec<&[u8]> = nodes
-///     .children(folders)
-///     .filter_map(|child| nodes.string(child))
-///     .collect();
+/// let (key, folders) = nodes.root().pairs().nth(1).unwrap();
+/// assert_eq!(key, b"folders");
+/// let names: Vec<&[u8]> = folders.children().filter_map(|node| node.as_bytes()).collect();
 /// assert_eq!(names, [b"scans/in".as_slice(), b"caf\xe9"]);
-/// # Ok::<(), j8::Refusal>(())
+/// # Ok::<(), j8::Error>(())
 /// ```
 ///
 /// A bad text gets one refusal with its place:
 ///
 /// ```
-/// let refusal = j8::read_json8(b"{ tray: 02 }", &mut [], &mut []).unwrap_err();
-/// assert_eq!(
-///     refusal.to_string(),
-///     "refusal 14 at byte 8: a malformed number"
-/// );
+/// let error = j8::read_json8(b"{ tray: 02 }", &mut [], &mut []).unwrap_err();
+/// assert_eq!(error.to_string(), "refusal 14 at byte 8: a malformed number");
 /// ```
+///
+/// # Errors
+/// Refusals 2, 4 to 11 and 13 to 16 of the text, then
+/// [`NoRoom`](crate::Refusal::NoRoom).
 pub fn read_json8<'a>(
     text: &'a [u8],
     table: &'a mut [u32],
     store: &'a mut [u8],
-) -> Result<Nodes<'a>, Refusal> {
+) -> Result<Nodes<'a>, Error> {
     let (nodes, stored) = read(text, table, store)?;
     Ok(Nodes {
         text,
@@ -145,27 +121,9 @@ pub fn read_json8<'a>(
 }
 
 /// The nodes and the stored bytes of a text.
-fn read(text: &[u8], table: &mut [u32], store: &mut [u8]) -> Result<(usize, usize), Refusal> {
-    // SAFETY: all three parts come from slices, so they are aligned, good for
-    // their lengths and, two being mutable, don't overlap. An empty slice's
-    // pointer is not null.
-    let answer = unsafe {
-        raw::j8_json8_read(
-            text.as_ptr(),
-            text.len(),
-            table.as_mut_ptr(),
-            table.len(),
-            store.as_mut_ptr(),
-            store.len(),
-        )
-    };
-    match answer.number {
-        0 => Ok((answer.nodes, answer.stored)),
-        number => Err(Refusal {
-            number,
-            place: answer.place,
-        }),
-    }
+fn read(text: &[u8], table: &mut [u32], store: &mut [u8]) -> Result<(usize, usize), Error> {
+    let answer = raw::json8_read(text, table, store);
+    Error::check(answer.number, 0, answer.place).map(|()| (answer.nodes, answer.stored))
 }
 
 /// The bytes of the string at a node of any table, also of one that no reader
@@ -183,20 +141,7 @@ pub fn show_string<'a>(
     store: &'a [u8],
     node: usize,
 ) -> Option<&'a [u8]> {
-    // SAFETY: all three parts come from slices, so they are aligned and good
-    // for their lengths, and nothing is written. An empty slice's pointer is
-    // not null.
-    let shown = unsafe {
-        raw::j8_json8_show(
-            table.as_ptr(),
-            table.len(),
-            text.as_ptr(),
-            text.len(),
-            store.as_ptr(),
-            store.len(),
-            node,
-        )
-    };
+    let shown = raw::json8_show(table, text, store, node);
     if shown.number != 0 {
         return None;
     }
@@ -207,31 +152,21 @@ pub fn show_string<'a>(
 
 /// The nodes of a text that was read, in the buffers that were lent for it.
 ///
-/// Nodes are named by their number. Node 0 is the value itself; a parent comes
-/// before its children, and these come in order, in a dict key, value, key,
-/// value.
+/// A parent comes before its children, and these come in order, in a dict key,
+/// value, key, value. So each node has an index, and node 0 is the value itself.
 ///
 /// ```
 /// let mut table = [0; j8::TABLE_ROOM];
 /// let mut store = [0; 32];
 /// let nodes = j8::read_json8(br"[true, -1.50, {a: 'x', 'b\n': null}]", &mut table, &mut store)?;
 ///
-/// let kinds: Vec<j8::Kind> = nodes.children(0).map(|child| nodes.node(child).kind).collect();
+/// let kinds: Vec<j8::Kind> = nodes.root().children().map(|node| node.kind()).collect();
 /// assert_eq!(kinds, [j8::Kind::True, j8::Kind::Decimal, j8::Kind::Dict]);
-/// assert_eq!(nodes.number(2), Some("-1.50"));
+/// assert_eq!(nodes.get(2).unwrap().as_number(), Some("-1.50"));
 ///
-/// let pairs: Vec<_> = nodes
-///     .pairs(3)
-///     .map(|(key, value)| (nodes.string(key), nodes.string(value)))
-///     .collect();
-/// assert_eq!(pairs, [
-///     (Some(b"a".as_slice()), Some(b"x".as_slice())),
-///     (Some(b"b\n".as_slice()), None), // null is no string
-/// ]);
-///
-/// let strings: Vec<&[u8]> = nodes.strings().map(|(_, bytes)| bytes).collect();
+/// let strings: Vec<&[u8]> = nodes.iter().filter_map(|node| node.as_bytes()).collect();
 /// assert_eq!(strings, [b"a".as_slice(), b"x", b"b\n"]);
-/// # Ok::<(), j8::Refusal>(())
+/// # Ok::<(), j8::Error>(())
 /// ```
 // Only a reader makes one, so its table is as the reader promises: at least one
 // node, kinds from 0 to 8, subtrees nested exactly.
@@ -254,7 +189,7 @@ impl<'a> Nodes<'a> {
         self.text
     }
 
-    /// The numbers of all nodes, four a node.
+    /// The numbers of all nodes, four a node: kind, subtree, place and length.
     pub fn table(&self) -> &'a [u32] {
         self.table
     }
@@ -264,74 +199,28 @@ impl<'a> Nodes<'a> {
         self.store
     }
 
-    /// A node, or nothing if there is none with this number.
-    pub fn get(&self, node: usize) -> Option<Node> {
-        self.table
-            .chunks_exact(NODE_ROOM)
-            .nth(node)
-            .and_then(Node::of)
+    /// The node of the value itself.
+    pub fn root(&self) -> Node<'a> {
+        self.at(0)
     }
 
-    /// A node.
-    ///
-    /// # Panics
-    /// If there is none with this number.
-    pub fn node(&self, node: usize) -> Node {
-        let nodes = self.len();
-        self.get(node)
-            .unwrap_or_else(|| panic!("node {node} of {nodes} nodes"))
+    /// The node with this index, if there is one.
+    pub fn get(&self, index: usize) -> Option<Node<'a>> {
+        (index < self.len()).then(|| self.at(index))
     }
 
-    /// The bytes of a string, quoted or not, or nothing if the node is none.
-    pub fn string(&self, node: usize) -> Option<&'a [u8]> {
-        show_string(self.table, self.text, self.store, node)
-    }
-
-    /// A number's text as it stands, or nothing if the node is none.
-    pub fn number(&self, node: usize) -> Option<&'a str> {
-        let node = self.get(node).filter(|node| node.kind.is_number())?;
-        let token = self.text.get(node.place..node.place + node.length)?;
-        std::str::from_utf8(token).ok()
-    }
-
-    /// The numbers of a node's children, in order: a list's members, or a
-    /// dict's keys and values in turn. Other nodes have none.
-    ///
-    /// # Panics
-    /// If there is no node with this number.
-    pub fn children(&self, node: usize) -> Children<'a> {
-        Children {
-            nodes: *self,
-            next: node + 1,
-            end: node + self.node(node).count,
-        }
-    }
-
-    /// The numbers of a dict's keys and values. Nodes of other kinds have no
-    /// pairs.
-    ///
-    /// # Panics
-    /// If there is no node with this number.
-    pub fn pairs(&self, node: usize) -> Pairs<'a> {
-        let mut children = self.children(node);
-        if self.node(node).kind != Kind::Dict {
-            children.next = children.end;
-        }
-        Pairs { children }
-    }
-
-    /// All nodes with their numbers, parents first.
+    /// All nodes, parents first.
     pub fn iter(&self) -> Iter<'a> {
         Iter {
-            rows: self.table.chunks_exact(NODE_ROOM).enumerate(),
+            nodes: *self,
+            next: 0,
         }
     }
 
-    /// The bytes of all strings, keys with them, with their nodes' numbers.
-    pub fn strings(&self) -> Strings<'a> {
-        Strings {
+    fn at(&self, index: usize) -> Node<'a> {
+        Node {
             nodes: *self,
-            iter: self.iter(),
+            index,
         }
     }
 }
@@ -339,13 +228,12 @@ impl<'a> Nodes<'a> {
 /// The nodes; the buffers would bury them.
 impl fmt::Debug for Nodes<'_> {
     fn fmt(&self, f: &mut fmt::Formatter<'_>) -> fmt::Result {
-        f.write_str("Nodes ")?;
-        f.debug_map().entries(self.iter()).finish()
+        f.debug_list().entries(self.iter()).finish()
     }
 }
 
 impl<'a> IntoIterator for Nodes<'a> {
-    type Item = (usize, Node);
+    type Item = Node<'a>;
     type IntoIter = Iter<'a>;
 
     fn into_iter(self) -> Iter<'a> {
@@ -353,7 +241,137 @@ impl<'a> IntoIterator for Nodes<'a> {
     }
 }
 
-/// See [`Nodes::children`].
+/// One node of a text that was read: a value, or a dict's key.
+///
+/// ```
+/// let backup = j8::Json8::read(br#"{ name: "Front desk", tray: 2, duplex: true, folder: b'caf\ye9' }"#)?;
+/// for (key, value) in backup.root().pairs() {
+///     match key {
+///         b"name" => assert_eq!(value.as_str(), Some("Front desk")),
+///         b"tray" => assert_eq!(value.as_number().map(str::parse), Some(Ok(2))),
+///         b"duplex" => assert_eq!(value.as_bool(), Some(true)),
+///         _ => assert_eq!(value.as_bytes(), Some(b"caf\xe9".as_slice())),
+///     }
+/// }
+/// # Ok::<(), j8::Error>(())
+/// ```
+#[derive(Clone, Copy, PartialEq, Eq)]
+pub struct Node<'a> {
+    nodes: Nodes<'a>,
+    index: usize,
+}
+
+impl<'a> Node<'a> {
+    /// One of the node's four numbers.
+    fn number(&self, column: usize) -> u32 {
+        self.nodes.table[self.index * NODE_ROOM + column]
+    }
+
+    /// Its index among the nodes.
+    pub fn index(&self) -> usize {
+        self.index
+    }
+
+    /// What it is.
+    pub fn kind(&self) -> Kind {
+        Kind::try_from(self.number(0)).expect("a reader's kinds are from 0 to 8")
+    }
+
+    /// Nodes in its subtree, itself with them. So what comes behind it has the
+    /// index [`index`](Node::index) plus this.
+    pub fn subtree(&self) -> usize {
+        self.number(1) as usize
+    }
+
+    /// A stored string's place in the store. Else a place in the text: behind a
+    /// string's opening mark, at the bracket of a list or dict, at the first
+    /// byte of everything else.
+    pub fn place(&self) -> usize {
+        self.number(2) as usize
+    }
+
+    /// A list's members or a dict's pairs, else bytes from the place on.
+    pub fn length(&self) -> usize {
+        self.number(3) as usize
+    }
+
+    /// Whether it is `null`.
+    pub fn is_null(&self) -> bool {
+        self.kind() == Kind::Null
+    }
+
+    /// Which of `true` and `false` it is, if it is one.
+    pub fn as_bool(&self) -> Option<bool> {
+        match self.kind() {
+            Kind::False => Some(false),
+            Kind::True => Some(true),
+            _ => None,
+        }
+    }
+
+    /// A number's text as it stands, if it is a number. `parse` makes any of
+    /// Rust's numbers of it, as far as it fits.
+    pub fn as_number(&self) -> Option<&'a str> {
+        if !self.kind().is_number() {
+            return None;
+        }
+        let token = &self.nodes.text[self.place()..self.place() + self.length()];
+        std::str::from_utf8(token).ok()
+    }
+
+    /// A string's bytes, if it is a string.
+    pub fn as_bytes(&self) -> Option<&'a [u8]> {
+        let Nodes { text, table, store } = self.nodes;
+        show_string(table, text, store, self.index)
+    }
+
+    /// A string's text, if it is a string and valid UTF-8.
+    pub fn as_str(&self) -> Option<&'a str> {
+        std::str::from_utf8(self.as_bytes()?).ok()
+    }
+
+    /// Its children, in order: a list's members, or a dict's keys and values in
+    /// turn. Other nodes have none.
+    pub fn children(&self) -> Children<'a> {
+        Children {
+            nodes: self.nodes,
+            next: self.index + 1,
+            end: self.index + self.subtree(),
+        }
+    }
+
+    /// A dict's keys, which are any bytes, with their values, in order. Equal keys
+    /// are all there. Nodes of other kinds have no pairs.
+    ///
+    /// ```
+    /// let backup = j8::Json8::read("{ tray: 2, 'tray': null }")?;
+    /// let pairs: Vec<_> = backup.root().pairs().map(|(key, value)| (key, value.as_number())).collect();
+    /// assert_eq!(pairs, [(b"tray".as_slice(), Some("2")), (b"tray", None)]);
+    /// # Ok::<(), j8::Error>(())
+    /// ```
+    pub fn pairs(&self) -> Pairs<'a> {
+        let mut children = self.children();
+        if self.kind() != Kind::Dict {
+            children.next = children.end;
+        }
+        Pairs { children }
+    }
+}
+
+/// Its index and its numbers.
+impl fmt::Debug for Node<'_> {
+    fn fmt(&self, f: &mut fmt::Formatter<'_>) -> fmt::Result {
+        f.debug_struct("Node")
+            .field("index", &self.index)
+            .field("kind", &self.kind())
+            .field("subtree", &self.subtree())
+            .field("place", &self.place())
+            .field("length", &self.length())
+            .finish()
+    }
+}
+
+/// See [`Node::children`].
 #[derive(Clone, Debug)]
 pub struct Children<'a> {
     nodes: Nodes<'a>,
@@ -361,32 +379,33 @@ pub struct Children<'a> {
     end: usize,
 }
 
-impl Iterator for Children<'_> {
-    type Item = usize;
+impl<'a> Iterator for Children<'a> {
+    type Item = Node<'a>;
 
-    fn next(&mut self) -> Option<usize> {
+    fn next(&mut self) -> Option<Node<'a>> {
         if self.next >= self.end {
             return None;
         }
-        let child = self.next;
-        self.next += self.nodes.node(child).count;
+        let child = self.nodes.at(self.next);
+        self.next += child.subtree();
         Some(child)
     }
 }
 
 impl FusedIterator for Children<'_> {}
 
-/// See [`Nodes::pairs`].
+/// See [`Node::pairs`].
 #[derive(Clone, Debug)]
 pub struct Pairs<'a> {
     children: Children<'a>,
 }
 
-impl Iterator for Pairs<'_> {
-    type Item = (usize, usize);
+impl<'a> Iterator for Pairs<'a> {
+    type Item = (&'a [u8], Node<'a>);
 
-    fn next(&mut self) -> Option<(usize, usize)> {
-        Some((self.children.next()?, self.children.next()?))
+    fn next(&mut self) -> Option<(&'a [u8], Node<'a>)> {
+        let key = self.children.next()?;
+        Some((key.as_bytes()?, self.children.next()?))
     }
 }
 
@@ -395,50 +414,35 @@ impl FusedIterator for Pairs<'_> {}
 /// See [`Nodes::iter`].
 #[derive(Clone, Debug)]
 pub struct Iter<'a> {
-    rows: std::iter::Enumerate<std::slice::ChunksExact<'a, u32>>,
+    nodes: Nodes<'a>,
+    next: usize,
 }
 
-impl Iterator for Iter<'_> {
-    type Item = (usize, Node);
+impl<'a> Iterator for Iter<'a> {
+    type Item = Node<'a>;
 
-    fn next(&mut self) -> Option<(usize, Node)> {
-        let (number, row) = self.rows.next()?;
-        Some((number, Node::of(row)?))
+    fn next(&mut self) -> Option<Node<'a>> {
+        let node = self.nodes.get(self.next)?;
+        self.next += 1;
+        Some(node)
     }
 
     fn size_hint(&self) -> (usize, Option<usize>) {
-        self.rows.size_hint()
+        let left = self.nodes.len() - self.next;
+        (left, Some(left))
     }
 }
 
 impl ExactSizeIterator for Iter<'_> {}
 impl FusedIterator for Iter<'_> {}
 
-/// See [`Nodes::strings`].
-#[derive(Clone, Debug)]
-pub struct Strings<'a> {
-    nodes: Nodes<'a>,
-    iter: Iter<'a>,
-}
-
-impl<'a> Iterator for Strings<'a> {
-    type Item = (usize, &'a [u8]);
-
-    fn next(&mut self) -> Option<(usize, &'a [u8])> {
-        let Strings { nodes, iter } = self;
-        iter.find_map(|(number, _)| Some((number, nodes.string(number)?)))
-    }
-}
-
-impl FusedIterator for Strings<'_> {}
-
 /// A JSON8 text that was read, with its table and store, in memory of its own.
 ///
 /// ```
-/// let backup = j8::Json8::read(br#"{"name": "Front desk", "pin": "\u0034"}"#.to_vec())?;
-/// let (_, value) = backup.nodes().pairs(0).nth(1).unwrap();
-/// assert_eq!(backup.nodes().string(value), Some(b"4".as_slice()));
-/// # Ok::<(), j8::Refusal>(())
+/// let backup = j8::Json8::read(br#"{"name": "Front desk", "pin": "\u0034"}"#)?;
+/// let (_, pin) = backup.root().pairs().nth(1).unwrap();
+/// assert_eq!(pin.as_str(), Some("4"));
+/// # Ok::<(), j8::Error>(())
 /// ```
 #[derive(Clone, PartialEq, Eq)]
 pub struct Json8 {
@@ -449,7 +453,10 @@ pub struct Json8 {
 
 impl Json8 {
     /// Reads a text, with room for every table and store.
-    pub fn read(text: impl Into<Vec<u8>>) -> Result<Json8, Refusal> {
+    ///
+    /// # Errors
+    /// Refusals 2, 4 to 11 and 13 to 16 with their place.
+    pub fn read(text: impl Into<Vec<u8>>) -> Result<Json8, Error> {
         let text = text.into();
         // A text over the cap is refused anyway and needs no room.
         let mut store = vec![0; text.len().min(TEXT_MAX)];
@@ -470,6 +477,11 @@ impl Json8 {
             table: &self.table,
             store: &self.store,
         }
+    }
+
+    /// The node of the value itself.
+    pub fn root(&self) -> Node<'_> {
+        self.nodes().root()
     }
 
     /// The text, as it was handed in.

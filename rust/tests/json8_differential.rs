@@ -9,7 +9,7 @@ mod made;
 mod random;
 
 use j8::raw::j8_nodes;
-use j8::{Json8, Kind, Nodes};
+use j8::{Json8, Kind, Node, Nodes};
 use json8::{done, refused, Lent, LIBRARY, NOT_SHOWN, REFERENCE};
 use made::{damage, make, probe, Made, Shape, Tree};
 use random::Random;
@@ -108,7 +108,8 @@ fn compare_strings(nodes: Nodes, what: &str) {
         let buffer = if shown.stored == 0 { text } else { store };
         let bytes = &buffer[shown.place..shown.place + shown.length];
         let expected = (shown.number == 0).then_some(bytes);
-        assert_eq!(nodes.string(node), expected, "{what}: node {node}");
+        let ours = nodes.get(node).and_then(|node| node.as_bytes());
+        assert_eq!(ours, expected, "{what}: node {node}");
     }
 }
 
@@ -260,21 +261,21 @@ fn at_the_limits() {
 // ------------------------------------------------------------ plain JSON
 
 /// What the nodes say, walked from the root by the safe type.
-fn tree(nodes: Nodes, node: usize) -> Tree {
-    let string = |node| nodes.string(node).expect("a string").to_vec();
-    let number = || nodes.number(node).expect("a number").to_string();
-    let found = nodes.node(node);
-    let tree = match found.kind {
+fn tree(node: Node) -> Tree {
+    let number = || node.as_number().expect("a number").to_string();
+    let tree = match node.kind() {
         Kind::Null => Tree::Null,
         Kind::False => Tree::False,
         Kind::True => Tree::True,
         Kind::Integer => Tree::Integer(number()),
         Kind::Decimal => Tree::Number(number()),
-        Kind::String | Kind::StoredString => Tree::String(string(node)),
-        Kind::List => Tree::List(nodes.children(node).map(|n| tree(nodes, n)).collect()),
+        Kind::String | Kind::StoredString => {
+            Tree::String(node.as_bytes().expect("a string").to_vec())
+        }
+        Kind::List => Tree::List(node.children().map(tree).collect()),
         Kind::Dict => {
-            let pairs = nodes.pairs(node);
-            Tree::Dict(pairs.map(|(k, v)| (string(k), tree(nodes, v))).collect())
+            let pairs = node.pairs();
+            Tree::Dict(pairs.map(|(k, v)| (k.to_vec(), tree(v))).collect())
         }
     };
     let members = match &tree {
@@ -283,9 +284,9 @@ fn tree(nodes: Nodes, node: usize) -> Tree {
         _ => None,
     };
     if let Some(members) = members {
-        assert_eq!(found.length, members, "members of node {node}");
+        assert_eq!(node.length(), members, "members of {node:?}");
     } else {
-        assert_eq!(found.count, 1, "nodes of leaf {node}");
+        assert_eq!(node.subtree(), 1, "nodes of leaf {node:?}");
     }
     tree
 }
@@ -307,7 +308,7 @@ fn plain_json() {
         let text = std::str::from_utf8(&made.text).expect("JSON is UTF-8");
         let read = Json8::read(text).unwrap_or_else(|refusal| panic!("case {case}: {refusal}"));
         assert_eq!(
-            tree(read.nodes(), 0),
+            tree(read.root()),
             made.tree,
             "case {case}: {}",
             brief(&made.text)

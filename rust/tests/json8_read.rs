@@ -1,13 +1,12 @@
-//! JSON8: every vector of tests/vectors through the C interface and against the
-//! reference, buffers compared whole; the safe types; the C interface's empty
-//! parts.
+//! JSON8: every vector of tests/vectors by this crate and by the reference,
+//! buffers compared whole; the types of this crate; empty parts.
 
 mod cases;
 mod json8;
 
 use cases::{bytes, each_case};
-use j8::raw::{self, j8_shown};
-use j8::{Json8, Kind, Node, Refusal};
+use j8::raw::j8_shown;
+use j8::{Error, Json8, Kind, Refusal};
 use json8::{done, refused, Lent, Side, LIBRARY, NOT_SHOWN, REFERENCE};
 
 /// The numbers of a field, divided by commas and colons.
@@ -108,7 +107,7 @@ fn reference_shows() {
     assert_eq!(shows(&REFERENCE), 193);
 }
 
-// ---------------------------------------------------------- the safe types
+// ------------------------------------------------ the types of this crate
 
 const BACKUP: &[u8] = br#"# settings
 {
@@ -126,43 +125,47 @@ fn a_backup_is_walked() {
     assert_eq!(nodes.text(), BACKUP);
     assert_eq!(nodes.store(), b"caf\xc3\xa9\xff");
     assert_eq!(nodes.table().len(), 56);
+    let root = nodes.root();
+    assert_eq!(nodes.get(0), Some(root));
     assert_eq!(
-        nodes.node(0),
-        Node {
-            kind: Kind::Dict,
-            count: 14,
-            place: 11,
-            length: 3
-        }
+        (root.index(), root.kind(), root.subtree()),
+        (0, Kind::Dict, 14)
     );
+    assert_eq!((root.place(), root.length()), (11, 3));
+    let key = nodes.get(3).unwrap();
     assert_eq!(
-        nodes.get(3),
-        Some(Node {
-            kind: Kind::StoredString,
-            count: 1,
-            place: 0,
-            length: 5
-        })
+        (key.index(), key.kind(), key.subtree()),
+        (3, Kind::StoredString, 1)
     );
+    assert_eq!((key.place(), key.length()), (0, 5));
     assert_eq!(nodes.get(14), None);
     assert_eq!(nodes.get(usize::MAX), None);
 
-    assert_eq!(nodes.children(0).collect::<Vec<_>>(), [1, 2, 3, 4, 12, 13]);
-    assert_eq!(
-        nodes.pairs(0).collect::<Vec<_>>(),
-        [(1, 2), (3, 4), (12, 13)]
-    );
-    assert_eq!(
-        nodes.children(4).collect::<Vec<_>>(),
-        [5, 6, 7, 8, 9, 10, 11]
-    );
+    let node = |index| nodes.get(index).unwrap();
+    let children = |index| -> Vec<usize> { node(index).children().map(|n| n.index()).collect() };
+    assert_eq!(children(0), [1, 2, 3, 4, 12, 13]);
+    assert_eq!(children(4), [5, 6, 7, 8, 9, 10, 11]);
     for none in [1, 3, 5, 6, 8, 13] {
-        assert_eq!(nodes.children(none).next(), None, "node {none}");
+        assert_eq!(node(none).children().next(), None, "node {none}");
     }
-    // A list has members and no pairs.
-    assert_eq!(nodes.pairs(4).next(), None);
+    let pairs: Vec<(&[u8], usize)> = root
+        .pairs()
+        .map(|(key, value)| (key, value.index()))
+        .collect();
+    assert_eq!(
+        pairs,
+        [
+            (b"name".as_slice(), 2),
+            ("café".as_bytes(), 4),
+            (b"name", 13)
+        ]
+    );
+    // A list has members and no pairs, strings though they may be.
+    assert_eq!(node(4).pairs().next(), None);
+    let list = Json8::read("['a', 'b']").unwrap();
+    assert_eq!(list.root().pairs().next(), None);
 
-    let kinds: Vec<Kind> = nodes.iter().map(|(_, node)| node.kind).collect();
+    let kinds: Vec<Kind> = nodes.iter().map(|node| node.kind()).collect();
     assert_eq!(
         kinds,
         [
@@ -183,15 +186,27 @@ fn a_backup_is_walked() {
         ]
     );
     assert_eq!(nodes.iter().len(), 14);
-    assert!(nodes.into_iter().map(|(number, _)| number).eq(0..14));
-    assert_eq!(nodes.number(6), Some("-1.50"));
-    assert_eq!(nodes.number(7), Some("7"));
-    assert_eq!(nodes.number(5), None);
-    assert_eq!(nodes.number(14), None);
-    assert_eq!(nodes.string(7), None);
-    assert_eq!(nodes.string(14), None);
+    assert!(nodes.into_iter().map(|node| node.index()).eq(0..14));
+    assert_eq!(node(6).as_number(), Some("-1.50"));
+    assert_eq!(node(7).as_number(), Some("7"));
+    assert_eq!(node(5).as_number(), None);
+    assert_eq!(node(7).as_bytes(), None);
     assert_eq!(
-        nodes.strings().collect::<Vec<_>>(),
+        (node(5).as_bool(), node(11).as_bool()),
+        (Some(true), Some(false))
+    );
+    assert_eq!(node(6).as_bool(), None);
+    assert!(node(9).is_null() && !node(8).is_null());
+    assert_eq!(node(3).as_str(), Some("café"));
+    assert_eq!(
+        (node(10).as_str(), node(10).as_bytes()),
+        (None, Some(b"\xff".as_slice()))
+    );
+    let strings = nodes
+        .iter()
+        .filter_map(|n| Some((n.index(), n.as_bytes()?)));
+    assert_eq!(
+        strings.collect::<Vec<_>>(),
         [
             (1, b"name".as_slice()),
             (2, b"Front desk"),
@@ -201,7 +216,7 @@ fn a_backup_is_walked() {
             (13, b""),
         ]
     );
-    assert!(format!("{nodes:?}").starts_with("Nodes {0: Node { kind: Dict, count: 14,"));
+    assert!(format!("{nodes:?}").starts_with("[Node { index: 0, kind: Dict, subtree: 14,"));
     assert_eq!(table[56..], [77; 4]);
     assert_eq!(store[6..], [0xaa; 4]);
 }
@@ -214,12 +229,12 @@ fn a_backup_of_its_own() {
         backup.nodes(),
         j8::read_json8(BACKUP, &mut table, &mut store).unwrap()
     );
-    assert!(format!("{backup:?}").starts_with("Json8(Nodes {0: Node { kind: Dict,"));
+    assert!(format!("{backup:?}").starts_with("Json8([Node { index: 0, kind: Dict,"));
     assert_eq!(backup.into_text(), BACKUP);
 
     let long = vec![b' '; j8::TEXT_MAX + 1];
     let too_long = Json8::read(long).unwrap_err();
-    assert_eq!((too_long.number, too_long.place), (j8::TOO_LONG, 0));
+    assert_eq!((too_long.refusal, too_long.place), (Refusal::TooLong, 0));
 }
 
 /// The text that needs the whole table and, with it, as much store as it can.
@@ -237,14 +252,19 @@ fn the_greatest_rooms() {
     assert_eq!(nodes.table().len(), j8::TABLE_ROOM);
     let stored = text.len() - 2 * j8::NODES_MAX - 1;
     assert_eq!(nodes.store().len(), stored);
-    assert_eq!(nodes.string(j8::NODES_MAX - 1), Some(nodes.store()));
+    let last = nodes.get(j8::NODES_MAX - 1).unwrap();
+    assert_eq!(last.as_bytes(), Some(nodes.store()));
 
     let (mut table, mut store) = (vec![0; j8::TABLE_ROOM], vec![0; stored]);
-    let refusal = |number| Refusal { number, place: 0 };
+    let error = |refusal| Error {
+        refusal,
+        line: None,
+        place: 0,
+    };
     for (numbers, bytes) in [(j8::TABLE_ROOM - 1, stored), (j8::TABLE_ROOM, stored - 1)] {
         assert_eq!(
             j8::read_json8(&text, &mut table[..numbers], &mut store[..bytes]),
-            Err(refusal(j8::NO_ROOM))
+            Err(error(Refusal::NoRoom))
         );
     }
     assert!(table.iter().all(|&n| n == 0) && store.iter().all(|&b| b == 0));
@@ -252,7 +272,7 @@ fn the_greatest_rooms() {
     text.push(b' ');
     assert_eq!(
         j8::read_json8(&text, &mut table, &mut store),
-        Err(refusal(j8::TOO_LONG))
+        Err(error(Refusal::TooLong))
     );
 }
 
@@ -284,12 +304,6 @@ fn kinds_have_their_numbers() {
     for number in [9, 256, 261, u32::MAX] {
         assert_eq!(Kind::try_from(number), Err(number));
     }
-}
-
-#[test]
-#[should_panic(expected = "node 1 of 1 nodes")]
-fn a_node_that_is_not_there() {
-    Json8::read(b"1").unwrap().nodes().node(1);
 }
 
 #[test]
@@ -328,25 +342,4 @@ fn empty_slices() {
             length: 0
         }
     );
-}
-
-#[test]
-fn null_with_length_0() {
-    let (none, no_table, no_store) = (std::ptr::null(), std::ptr::null_mut(), std::ptr::null_mut());
-    let mut table = [0; 4];
-    // SAFETY: null stands only where the length is 0.
-    unsafe {
-        let read = raw::j8_json8_read(none, 0, no_table, 0, no_store, 0);
-        assert_eq!(read, refused(4, 0));
-        let read = raw::j8_json8_read(b"''".as_ptr(), 2, no_table, 0, no_store, 0);
-        assert_eq!(read, refused(12, 0));
-        let read = raw::j8_json8_read(b"''".as_ptr(), 2, table.as_mut_ptr(), 4, no_store, 0);
-        assert_eq!(read, done(1, 0));
-        assert_eq!(table, [5, 1, 1, 0]);
-        table[2] = 0;
-        let shown = raw::j8_json8_show(table.as_ptr(), 4, none, 0, none, 0, 0);
-        assert_eq!((shown.number, shown.length), (0, 0));
-        let shown = raw::j8_json8_show(std::ptr::null(), 0, none, 0, none, 0, 0);
-        assert_eq!(shown, NOT_SHOWN);
-    }
 }

@@ -1,6 +1,5 @@
-//! Writing JSON8: every vector of tests/vectors through the C interface and
-//! against the reference, buffers compared whole; the safe functions; the
-//! limits; the C interface's empty parts.
+//! Writing JSON8: every vector of tests/vectors by this crate and by the
+//! reference, buffers compared whole; values; the limits; empty parts.
 
 mod cases;
 #[path = "json8/lent.rs"]
@@ -10,7 +9,7 @@ mod written;
 
 use cases::{bytes, each_case};
 use j8::raw::j8_result;
-use j8::{raw, Json8, Refusal, Table, Value};
+use j8::{Error, Json8, Refusal, Table, Value};
 use lent::Lent;
 use written::{done, library, reference, refused, Parts};
 
@@ -72,7 +71,7 @@ fn reference_writes() {
     assert_eq!(writes(reference), 405);
 }
 
-// --------------------------------------------------- the safe functions
+// ------------------------------------------------ the types of this crate
 
 const BACKUP: &[u8] = br#"# settings
 {
@@ -92,8 +91,9 @@ fn a_backup_is_written_back() {
     assert_eq!(backup.write(&mut out), Ok(WRITTEN.len()));
     assert_eq!(out, [WRITTEN.as_bytes(), &[0xaa; 3]].concat());
 
-    let no_room = Refusal {
-        number: j8::NO_ROOM,
+    let no_room = Error {
+        refusal: Refusal::NoRoom,
+        line: None,
         place: 0,
     };
     out.fill(0xaa);
@@ -113,7 +113,7 @@ fn a_backup_is_written_back() {
 
     // The same tree, and the same text once more.
     let again = Json8::read(WRITTEN).unwrap();
-    assert_eq!(again.nodes().value(0), nodes.value(0));
+    assert_eq!(again.root().to_value(), nodes.root().to_value());
     assert_eq!(again.write_to_vec(), WRITTEN.as_bytes());
 }
 
@@ -167,18 +167,19 @@ fn values_are_written() {
     assert_eq!(value.write_to_vec().as_deref(), Ok(form.as_bytes()));
     assert_eq!(table.text(), b"tray2-0.5E+1trayd");
     assert_eq!(table.store(), b"a\nb\xff\"");
-    assert_eq!(Json8::read(form).unwrap().nodes().value(0), value);
+    assert_eq!(Json8::read(form).unwrap().root().to_value(), value);
 }
 
 #[test]
 fn unfit_values() {
-    let unfit = Refusal {
-        number: j8::UNFIT,
+    let unfit = Error {
+        refusal: Refusal::Unfit,
+        line: None,
         place: 0,
     };
     assert_eq!(
         unfit.to_string(),
-        "refusal 1 at byte 0: a record or the node table is unfit"
+        "refusal 1: a lent buffer, state, record or node table is unfit"
     );
     let mut out = [0xaa; 64];
     for token in ["", "01", "1.", "+1", "NaN", "0x1", " 1", "1e", "-"] {
@@ -201,9 +202,9 @@ fn nest(depth: usize) -> Value {
 #[test]
 fn brackets() {
     let written = nest(j8::DEPTH_MAX).write_to_vec().unwrap();
-    assert_eq!(Json8::read(written).unwrap().nodes().value(0), nest(32));
-    let refusal = nest(j8::DEPTH_MAX + 1).write_to_vec().unwrap_err();
-    assert_eq!((refusal.number, refusal.place), (j8::UNFIT, 0));
+    assert_eq!(Json8::read(written).unwrap().root().to_value(), nest(32));
+    let error = nest(j8::DEPTH_MAX + 1).write_to_vec().unwrap_err();
+    assert_eq!((error.refusal, error.place), (Refusal::Unfit, 0));
     // A leaf opens none.
     let leaf = (0..32).fold(Value::Null, |inner, _| Value::List(vec![inner]));
     assert_eq!(leaf.write_to_vec().unwrap().len(), 64 + 4);
@@ -214,9 +215,9 @@ fn nodes() {
     let wide = |count| Value::List(vec![Value::Bool(false); count - 1]);
     let written = wide(j8::NODES_MAX).write_to_vec().unwrap();
     assert_eq!(written.len(), 6 * 1_023 + 1);
-    assert!(Json8::read(written).unwrap().nodes().value(0) == wide(1_024));
-    let refusal = wide(j8::NODES_MAX + 1).write_to_vec().unwrap_err();
-    assert_eq!((refusal.number, refusal.place), (j8::UNFIT, 0));
+    assert!(Json8::read(written).unwrap().root().to_value() == wide(1_024));
+    let error = wide(j8::NODES_MAX + 1).write_to_vec().unwrap_err();
+    assert_eq!((error.refusal, error.place), (Refusal::Unfit, 0));
 }
 
 /// There is no cap on what is written, but on what is read.
@@ -225,10 +226,10 @@ fn long_texts() {
     let list = |bytes: usize| Value::List(vec![Value::String(vec![b'a'; bytes])]);
     let written = list(j8::TEXT_MAX - 4).write_to_vec().unwrap();
     assert_eq!(written.len(), j8::TEXT_MAX);
-    assert!(Json8::read(written).unwrap().nodes().value(0) == list(j8::TEXT_MAX - 4));
+    assert!(Json8::read(written).unwrap().root().to_value() == list(j8::TEXT_MAX - 4));
     let written = list(j8::TEXT_MAX - 3).write_to_vec().unwrap();
     let too_long = Json8::read(written).unwrap_err();
-    assert_eq!((too_long.number, too_long.place), (j8::TOO_LONG, 0));
+    assert_eq!((too_long.refusal, too_long.place), (Refusal::TooLong, 0));
     let long = list(1_000_000).write_to_vec().unwrap();
     assert_eq!(long.len(), 1_000_004);
 }
@@ -242,8 +243,8 @@ fn overlapping_ranges() {
     let written = j8::write_json8_to_vec(&table, &text, b"").unwrap();
     assert_eq!(written.len(), 1 + 1_023 * 2_003);
     let mut short = vec![0xaa; written.len() - 1];
-    let refusal = j8::write_json8(&table, &text, b"", &mut short).unwrap_err();
-    assert_eq!((refusal.number, refusal.place), (j8::NO_ROOM, 0));
+    let error = j8::write_json8(&table, &text, b"", &mut short).unwrap_err();
+    assert_eq!((error.refusal, error.place), (Refusal::NoRoom, 0));
     assert!(short.iter().all(|&b| b == 0xaa));
 }
 
@@ -262,21 +263,4 @@ fn empty_slices() {
     assert_eq!(library(&parts, &mut [0; 2]), done(2));
     parts.table = vec![6, 1, 0, 1];
     assert_eq!(library(&parts, &mut []), refused(1));
-}
-
-#[test]
-fn null_with_length_0() {
-    let (none, no_table, no_room) = (std::ptr::null(), std::ptr::null(), std::ptr::null_mut());
-    let table = [6, 1, 0, 0];
-    let mut out = [0xaa; 3];
-    // SAFETY: null stands only where the length is 0.
-    unsafe {
-        let unfit = raw::j8_json8_write(no_table, 0, none, 0, none, 0, no_room, 0);
-        assert_eq!(unfit, refused(1));
-        let short = raw::j8_json8_write(table.as_ptr(), 4, none, 0, none, 0, no_room, 0);
-        assert_eq!(short, refused(12));
-        let put = raw::j8_json8_write(table.as_ptr(), 4, none, 0, none, 0, out.as_mut_ptr(), 3);
-        assert_eq!(put, done(2));
-    }
-    assert_eq!(&out, b"\"\"\xaa");
 }

@@ -318,13 +318,13 @@ fn meaning(tree: &Tree) -> Value {
 fn comes_back(value: &Value, text: &[u8], what: &str) -> Option<Json8> {
     let read = match Json8::read(text) {
         Err(refusal) if text.len() > j8::TEXT_MAX => {
-            assert_eq!((refusal.number, refusal.place), (2, 0), "{what}");
+            assert_eq!((refusal.number(), refusal.place), (2, 0), "{what}");
             return None;
         }
         read => read.unwrap_or_else(|refusal| panic!("{what}, {refusal}: {}", brief(text))),
     };
     assert!(text.len() <= j8::TEXT_MAX, "{what}");
-    assert_eq!(&read.nodes().value(0), value, "{what}: {}", brief(text));
+    assert_eq!(&read.root().to_value(), value, "{what}: {}", brief(text));
     assert!(
         read.write_to_vec() == text,
         "again, {what}: {}",
@@ -354,7 +354,7 @@ fn values_come_back() {
         let text = match table.write_to_vec() {
             Ok(text) => text,
             Err(refusal) => {
-                assert_eq!((refusal.number, refusal.place), (1, 0), "{what}");
+                assert_eq!((refusal.number(), refusal.place), (1, 0), "{what}");
                 assert!(nodes > 1_024 || depth > 32, "{what}: {value:?}");
                 see(&mut seen, if nodes > 1_024 { "wide" } else { "deep" });
                 continue;
@@ -424,17 +424,17 @@ fn texts_come_back() {
         let written = &out.part()[..length].to_vec();
         assert!(out.holds(written), "past the text, {what}");
         assert!(
-            *written == form(&nodes.value(0)),
+            *written == form(&nodes.root().to_value()),
             "{what}: {}",
             brief(written)
         );
         if is_right {
-            assert_eq!(nodes.value(0), meaning(&made.tree), "{what}");
+            assert_eq!(nodes.root().to_value(), meaning(&made.tree), "{what}");
             see(&mut seen, "right");
         } else {
             see(&mut seen, "damaged");
         }
-        match comes_back(&nodes.value(0), written, &what) {
+        match comes_back(&nodes.root().to_value(), written, &what) {
             Some(_) => see(&mut seen, "back"),
             None => see(&mut seen, "too long"),
         }

@@ -1,6 +1,15 @@
-//! The safe functions, and the C interface's empty parts.
+//! J8 strings by this crate's functions; errors and refusals.
 
-use j8::{raw, Refusal};
+use j8::{Error, Refusal};
+use std::collections::BTreeSet;
+
+fn error(refusal: Refusal, place: usize) -> Error {
+    Error {
+        refusal,
+        line: None,
+        place,
+    }
+}
 
 #[test]
 fn reads_and_writes() {
@@ -14,15 +23,8 @@ fn reads_and_writes() {
 #[test]
 fn refusals_leave_the_room() {
     let mut out = [0xaa; 2];
-    let cut_off = Refusal {
-        number: j8::CUT_OFF,
-        place: 2,
-    };
-    assert_eq!(j8::read(b"\"a", &mut out), Err(cut_off));
-    let no_room = Refusal {
-        number: j8::NO_ROOM,
-        place: 0,
-    };
+    assert_eq!(j8::read(b"\"a", &mut out), Err(error(Refusal::CutOff, 2)));
+    let no_room = error(Refusal::NoRoom, 0);
     assert_eq!(j8::read(b"\"abc\"", &mut out), Err(no_room));
     assert_eq!(j8::write(b"a", &mut out), Err(no_room));
     assert_eq!(out, [0xaa; 2]);
@@ -30,28 +32,10 @@ fn refusals_leave_the_room() {
 
 #[test]
 fn empty_slices() {
-    let no_opening = Refusal {
-        number: j8::NO_OPENING,
-        place: 0,
-    };
-    assert_eq!(j8::read(b"", &mut []), Err(no_opening));
+    assert_eq!(j8::read(b"", &mut []), Err(error(Refusal::NoOpening, 0)));
     assert_eq!(j8::read(b"\"\"", &mut []), Ok(0));
-    assert_eq!(j8::write(b"", &mut []).unwrap_err().number, j8::NO_ROOM);
+    assert_eq!(j8::write(b"", &mut []), Err(error(Refusal::NoRoom, 0)));
     assert_eq!(j8::write(b"", &mut [0; 2]), Ok(2));
-}
-
-#[test]
-fn null_with_length_0() {
-    let (none, no_room) = (std::ptr::null(), std::ptr::null_mut());
-    let mut out = [0; 2];
-    // SAFETY: null stands only where the length is 0.
-    unsafe {
-        assert_eq!(raw::j8_string_read(none, 0, no_room, 0).number, 3);
-        assert_eq!(raw::j8_string_read(b"''".as_ptr(), 2, no_room, 0).number, 0);
-        assert_eq!(raw::j8_string_write(none, 0, no_room, 0).number, 12);
-        assert_eq!(raw::j8_string_write(none, 0, out.as_mut_ptr(), 2).length, 2);
-    }
-    assert_eq!(&out, b"\"\"");
 }
 
 #[test]
@@ -63,15 +47,121 @@ fn vectors_of_their_own() {
         assert_eq!(j8::read_to_vec(&text).unwrap(), data);
     }
     let long = vec![b'a'; j8::TEXT_MAX + 1];
-    let refusal = j8::read_to_vec(&long).unwrap_err();
-    assert_eq!((refusal.number, refusal.place), (j8::TOO_LONG, 0));
+    let too_long = j8::read_to_vec(&long).unwrap_err();
+    assert_eq!(too_long, error(Refusal::TooLong, 0));
+    assert_eq!(
+        too_long.to_string(),
+        "refusal 2: the text is over 32,768 bytes"
+    );
 }
 
 #[test]
-fn every_refusal_has_a_sentence() {
-    let sentences: std::collections::BTreeSet<String> = (1..=16)
-        .map(|number| Refusal { number, place: 0 }.to_string())
+fn refusals_have_their_numbers() {
+    assert_eq!(Refusal::ALL.len(), 18);
+    for (index, &refusal) in Refusal::ALL.iter().enumerate() {
+        let number = index as u32 + 1;
+        assert_eq!(refusal.number(), number);
+        assert_eq!(u32::from(refusal), number);
+        assert_eq!(Refusal::try_from(number), Ok(refusal));
+        assert_eq!(error(refusal, 3).number(), number);
+    }
+    for number in [0, 19, 256, 257, u32::MAX] {
+        assert_eq!(Refusal::try_from(number), Err(number));
+    }
+}
+
+/// The numbers, the rooms and the version are those of the header.
+#[test]
+fn the_header_says_the_same() {
+    let path = concat!(env!("CARGO_MANIFEST_DIR"), "/../include/j8.h");
+    let header = std::fs::read_to_string(path).unwrap();
+    let defined = |line: &str| assert!(header.lines().any(|l| l == line), "{line}");
+    defined(concat!(
+        "#define J8_VERSION \"",
+        env!("CARGO_PKG_VERSION"),
+        "\""
+    ));
+    for (name, number) in [
+        ("TEXT_MAX", j8::TEXT_MAX),
+        ("LINE_ROOM", j8::LINE_ROOM),
+        ("UPLOAD_MAX", j8::UPLOAD_MAX),
+        ("UPLOAD_OUTPUT_MAX", j8::UPLOAD_OUTPUT_MAX),
+        ("RECORD_HEAD", j8::RECORD_HEAD),
+        ("KIND_TEXT", usize::from(j8::KIND_TEXT)),
+        ("KIND_BYTES", usize::from(j8::KIND_BYTES)),
+        ("NODES_MAX", j8::NODES_MAX),
+        ("DEPTH_MAX", j8::DEPTH_MAX),
+        ("NODE_ROOM", j8::NODE_ROOM),
+    ] {
+        defined(&format!("#define J8_{name} {number}"));
+    }
+    // The name in the header's manner: NoRoom is J8_NO_ROOM.
+    let name = |refusal: Refusal| {
+        let mut name = "J8".to_string();
+        for letter in format!("{refusal:?}").chars() {
+            if letter.is_ascii_uppercase() {
+                name.push('_');
+            }
+            name.push(letter.to_ascii_uppercase());
+        }
+        name
+    };
+    for &refusal in Refusal::ALL {
+        defined(&format!("#define {} {}", name(refusal), refusal.number()));
+    }
+}
+
+#[test]
+fn errors_say_what_and_where() {
+    let mut sentences = BTreeSet::new();
+    for &refusal in Refusal::ALL {
+        let plain = error(refusal, 5);
+        let said = plain.to_string();
+        let number = refusal.number();
+        assert!(said.starts_with(&format!("refusal {number}")), "{said}");
+        assert!(said.ends_with(&format!(": {refusal}")), "{said}");
+        sentences.insert(refusal.to_string());
+
+        let in_line = Error {
+            line: Some(7),
+            ..plain
+        };
+        let start = format!("refusal {number} in line 7 at byte 5: ");
+        assert!(in_line.to_string().starts_with(&start), "{in_line}");
+    }
+    assert_eq!(sentences.len(), 18);
+    assert!(error(Refusal::CutOff, 5)
+        .to_string()
+        .contains(" at byte 5: "));
+}
+
+#[test]
+fn errors_are_errors() {
+    let plain = error(Refusal::Control, 3);
+    let boxed: Box<dyn std::error::Error + Send + Sync> = plain.into();
+    assert_eq!(boxed.downcast_ref(), Some(&plain));
+    let of_io = std::io::Error::from(plain);
+    assert_eq!(of_io.kind(), std::io::ErrorKind::InvalidData);
+    assert_eq!(of_io.to_string(), plain.to_string());
+}
+
+/// All of it may be handed to another thread.
+#[test]
+fn threads() {
+    fn shared<T: Send + Sync + 'static>() {}
+    shared::<j8::Upload>();
+    shared::<j8::LentUpload<'static>>();
+    shared::<j8::Json8>();
+    shared::<j8::Nodes<'static>>();
+    shared::<j8::Value>();
+    shared::<Error>();
+    let texts = (0..8).map(|n| std::thread::spawn(move || j8::write_to_vec(&[n, 0xff])));
+    let texts: Vec<_> = texts
+        .collect::<Vec<_>>()
+        .into_iter()
+        .map(|t| t.join().unwrap())
         .collect();
-    assert_eq!(sentences.len(), 16);
-    assert!(sentences.iter().all(|s| !s.contains("no such call")));
+    for (n, text) in texts.iter().enumerate() {
+        assert_eq!(j8::read_to_vec(text).unwrap(), [n as u8, 0xff]);
+    }
 }

@@ -1,13 +1,12 @@
-//! J8 Lines: every vector of tests/vectors through the C interface and against
-//! the reference, buffers compared whole; the safe types; the C interface's
-//! empty parts.
+//! J8 Lines: every vector of tests/vectors by this crate and by the reference,
+//! buffers compared whole; the types of this crate.
 
 mod cases;
 mod lines;
 
 use cases::{bytes, each_case};
-use j8::raw::{self, j8_answer, j8_result, j8_upload};
-use j8::{LentUpload, Upload, UploadRefusal, UploadState};
+use j8::raw::{j8_answer, j8_result, j8_upload};
+use j8::{Error, LentUpload, Record, Refusal, Upload, UploadState};
 use j8_reference::lines::{definition, definition_answer, joined, Call, LINE_MAX};
 use lines::{as_answer, as_state, pattern, record, Lent, Side, LIBRARY, REFERENCE};
 
@@ -233,7 +232,7 @@ fn single_lines(side: &Side) -> usize {
                     line(side, &text, by_finish, room, flip, &expected, what);
                 }
                 if length > 0 {
-                    let short = Err((j8::NO_ROOM, 0));
+                    let short = Err((12, 0));
                     line(side, &text, by_finish, length - 1, flip, &short, what);
                     line(side, &text, by_finish, 0, flip, &short, what);
                 }
@@ -288,10 +287,23 @@ fn reference_writes() {
     assert_eq!(writes(&REFERENCE), 154);
 }
 
-// ---------------------------------------------------------- the safe types
+// ------------------------------------------------ the types of this crate
 
 const WHOLE_CASE: &[u8] = b"scans/a b\nb'x\\yff'\n\n''";
 const ITS_OUTPUT: &[u8] = b"\x09\0\x01\0scans/a b\x02\0\x02\0x\xff\0\0\x01\0";
+const ITS_RECORDS: [Record; 3] = [
+    Record::Text("scans/a b"),
+    Record::Bytes(b"x\xff"),
+    Record::Text(""),
+];
+
+fn error(refusal: Refusal, line: Option<usize>, place: usize) -> Error {
+    Error {
+        refusal,
+        line,
+        place,
+    }
+}
 
 #[test]
 fn whole_case() {
@@ -320,9 +332,10 @@ fn whole_case() {
         (owned.records(), owned.output()),
     ] {
         assert_eq!(output, ITS_OUTPUT);
-        let kinds: Vec<u16> = records.clone().map(|r| r.kind).collect();
+        assert!(records.clone().eq(ITS_RECORDS));
+        let kinds: Vec<u16> = records.clone().map(|r| r.kind()).collect();
         assert_eq!(kinds, [j8::KIND_TEXT, j8::KIND_BYTES, j8::KIND_TEXT]);
-        let texts: Vec<Option<&str>> = records.map(|r| r.text()).collect();
+        let texts: Vec<Option<&str>> = records.map(|r| r.as_str()).collect();
         assert_eq!(texts, [Some("scans/a b"), None, Some("")]);
     }
     assert_eq!(lent.into_output(), ITS_OUTPUT);
@@ -333,12 +346,8 @@ fn whole_case() {
 
 #[test]
 fn an_upload_refuses() {
-    let ended = UploadRefusal {
-        number: j8::ENDED,
-        line: 0,
-        place: 0,
-    };
-    let mut upload = Upload::with_room(23);
+    let ended = error(Refusal::Ended, None, 0);
+    let mut upload = Upload::new();
     upload.feed(WHOLE_CASE).unwrap();
     upload.finish().unwrap();
     assert_eq!(upload.feed(b""), Err(ended));
@@ -346,18 +355,18 @@ fn an_upload_refuses() {
     assert_eq!(ended.to_string(), "refusal 18: the upload already ended");
     assert_eq!(upload.state().refusal, None);
 
-    let no_room = UploadRefusal {
-        number: j8::NO_ROOM,
-        line: 4,
-        place: 0,
-    };
-    let mut upload = Upload::with_room(22);
+    let no_room = error(Refusal::NoRoom, Some(4), 0);
+    let (mut line, mut out) = ([0; j8::LINE_ROOM], [0; 22]);
+    let mut upload = LentUpload::new(&mut line, &mut out);
     upload.feed(WHOLE_CASE).unwrap();
     assert_eq!(upload.finish(), Err(no_room));
     assert_eq!(upload.feed(b"x"), Err(no_room));
     assert_eq!(upload.state().refusal, Some(no_room));
     assert!(!upload.state().ended);
     assert_eq!(upload.output(), &ITS_OUTPUT[..19]);
+    // A refusal stays, also when there is room again.
+    assert_eq!(upload.drain().count(), 2);
+    assert_eq!(upload.finish(), Err(no_room));
 
     let (mut line, mut out) = ([0; j8::LINE_ROOM], []);
     let mut upload = LentUpload::new(&mut line, &mut out);
@@ -368,14 +377,65 @@ fn an_upload_refuses() {
     );
     assert_eq!(upload.records().next(), None);
     assert!(format!("{upload:?}").starts_with("LentUpload { state: UploadState { taken: 1024,"));
+
+    // Blank lines need no room.
+    let mut upload = LentUpload::new(&mut line, &mut []);
+    assert_eq!(upload.feed(b"\n \r\n\n"), Ok(()));
+    assert_eq!(upload.finish(), Ok(()));
+
+    let mut upload = LentUpload::new(&mut line[..1_023], &mut []);
+    let unfit = error(Refusal::Unfit, None, 0);
+    assert_eq!(upload.feed(b"a"), Err(unfit));
+    assert_eq!(upload.finish(), Err(unfit));
+    assert_eq!(upload.state(), UploadState::default());
+}
+
+/// A state may say anything; no call panics.
+#[test]
+fn states_that_no_upload_had() {
+    let (mut line, mut out) = ([b'n'; j8::LINE_ROOM], [0; 8]);
+    let unfit = error(Refusal::Unfit, None, 0);
+    for state in [
+        UploadState {
+            used: 9,
+            ..UploadState::default()
+        },
+        UploadState {
+            taken: usize::MAX,
+            held: usize::MAX,
+            used: usize::MAX,
+            ..UploadState::default()
+        },
+    ] {
+        let mut upload = LentUpload::resume(state, &mut line, &mut out);
+        assert_eq!(upload.output().len(), 8);
+        assert_eq!(upload.feed(b"\n"), Err(unfit));
+        assert_eq!(upload.finish(), Err(unfit));
+        assert_eq!(upload.state(), state);
+        assert_eq!(upload.drain().rest(), [0; 8]);
+        assert_eq!(upload.state().used, 0);
+    }
+    let kept = error(Refusal::Misplaced, None, 7);
+    let state = UploadState {
+        refusal: Some(kept),
+        ..UploadState::default()
+    };
+    let mut upload = LentUpload::resume(state, &mut line, &mut out);
+    assert_eq!(upload.feed(b"\n"), Err(kept));
+    assert_eq!(upload.into_output(), b"");
 }
 
 /// The one text that needs all of the greatest output.
-#[test]
-fn the_longest_output() {
+fn longest() -> Vec<u8> {
     let mut text = b"a\n".repeat(j8::UPLOAD_MAX / 2 - 1);
     text.extend(b"ab");
     assert_eq!(text.len(), j8::UPLOAD_MAX);
+    text
+}
+
+#[test]
+fn the_longest_output() {
+    let text = longest();
     let mut upload = Upload::default();
     for piece in text.chunks(1_460) {
         upload.feed(piece).unwrap();
@@ -384,19 +444,121 @@ fn the_longest_output() {
     assert_eq!(upload.state().used, j8::UPLOAD_OUTPUT_MAX);
     assert_eq!(upload.records().count(), j8::UPLOAD_MAX / 2);
 
-    let mut upload = Upload::with_room(j8::UPLOAD_OUTPUT_MAX - 1);
+    let (mut line, mut out) = ([0; j8::LINE_ROOM], vec![0; j8::UPLOAD_OUTPUT_MAX]);
+    let mut upload = LentUpload::new(&mut line, &mut out);
     upload.feed(&text).unwrap();
-    let refusal = upload.finish().unwrap_err();
-    assert_eq!((refusal.number, refusal.line), (12, j8::UPLOAD_MAX / 2));
+    upload.finish().unwrap();
+    assert_eq!(upload.state().used, j8::UPLOAD_OUTPUT_MAX);
+    let mut upload = LentUpload::new(&mut line, &mut out[1..]);
+    upload.feed(&text).unwrap();
+    let no_room = error(Refusal::NoRoom, Some(j8::UPLOAD_MAX / 2), 0);
+    assert_eq!(upload.finish(), Err(no_room));
 
     let mut upload = Upload::new();
     upload.feed(&text).unwrap();
-    let refusal = upload.feed(b"\n").unwrap_err();
     assert_eq!(
-        refusal.to_string(),
+        upload.feed(b"\n").unwrap_err().to_string(),
         "refusal 17 in line 524288 at byte 2: the upload is over 1,048,576 bytes"
     );
 }
+
+/// A piece that is far over the limit makes no room that isn't needed.
+#[test]
+fn a_piece_over_the_limit() {
+    let mut text = longest();
+    text.resize(64 * j8::UPLOAD_MAX, b'\n');
+    let mut upload = Upload::new();
+    let over = upload.feed(&text).unwrap_err();
+    assert_eq!((over.refusal, over.place), (Refusal::UploadLimit, 2));
+    assert!(upload.into_output().capacity() < j8::UPLOAD_OUTPUT_MAX + 2_000);
+}
+
+// ---------------------------------------------------------------- drained
+
+#[test]
+fn rooms_of_a_feed() {
+    assert_eq!(j8::feed_room(0), 1_028);
+    assert_eq!(j8::feed_room(1), 1_028);
+    assert_eq!(j8::feed_room(2), 1_033);
+    assert_eq!(j8::feed_room(1_460), 4_678);
+    assert!(std::panic::catch_unwind(|| j8::feed_room(usize::MAX)).is_err());
+}
+
+/// The longest upload in packets, with the room for one packet.
+#[test]
+fn the_longest_upload_drained() {
+    let text = longest();
+    let (mut line, mut out) = ([0; j8::LINE_ROOM], [0; j8::feed_room(1_460)]);
+    let mut lent = LentUpload::new(&mut line, &mut out);
+    let (mut owned, mut count) = (Upload::new(), 0);
+    for piece in text.chunks(1_460) {
+        lent.feed(piece).unwrap();
+        owned.feed(piece).unwrap();
+        let records = lent.drain();
+        assert!(records.clone().eq(owned.drain()));
+        count += records.count();
+    }
+    lent.finish().unwrap();
+    owned.finish().unwrap();
+    assert!(lent.drain().eq([Record::Text("ab")]));
+    assert!(owned.drain().eq([Record::Text("ab")]));
+    assert_eq!(count + 1, j8::UPLOAD_MAX / 2);
+    assert_eq!(lent.state(), owned.state());
+    assert_eq!(owned.state().used, 0);
+    // Room for one packet was enough for all.
+    assert!(format!("{owned:?}").contains("room: 4678,"), "{owned:?}");
+}
+
+// --------------------------------------------------------------- a writer
+
+use std::io::{self, Write};
+
+/// The error of this crate inside one of a writer.
+fn inside(error: &io::Error) -> Error {
+    assert_eq!(error.kind(), io::ErrorKind::InvalidData);
+    *error.get_ref().unwrap().downcast_ref::<Error>().unwrap()
+}
+
+#[test]
+fn an_upload_is_written_to() {
+    let mut upload = Upload::new();
+    assert_eq!(io::copy(&mut &WHOLE_CASE[..], &mut upload).unwrap(), 22);
+    upload.flush().unwrap();
+    assert_eq!(upload.state().held, 2);
+    upload.finish().unwrap();
+    assert!(upload.records().eq(ITS_RECORDS));
+    let ended = upload.write(b"x").unwrap_err();
+    assert_eq!(inside(&ended).refusal, Refusal::Ended);
+}
+
+/// A refused write takes the bytes before the one at fault, and the next one
+/// fails.
+#[test]
+fn a_write_is_refused() {
+    let text = b"scans\n\"x\" y\nmore\n";
+    let trailing = error(Refusal::Trailing, Some(2), 3);
+    let (mut line, mut out) = ([0; j8::LINE_ROOM], [0; 64]);
+    let mut lent = LentUpload::new(&mut line, &mut out);
+    let mut owned = Upload::new();
+    // The LF of the bad line isn't taken.
+    assert_eq!(lent.write(text).unwrap(), 11);
+    assert_eq!(owned.write(text).unwrap(), 11);
+    for upload in [&mut lent as &mut dyn Write, &mut owned] {
+        assert_eq!(inside(&upload.write(&text[11..]).unwrap_err()), trailing);
+        assert_eq!(inside(&upload.write(b"").unwrap_err()), trailing);
+        upload.flush().unwrap();
+    }
+    assert_eq!(lent.finish(), Err(trailing));
+    assert_eq!(owned.finish(), Err(trailing));
+
+    let mut upload = Upload::new();
+    assert_eq!(inside(&upload.write_all(text).unwrap_err()), trailing);
+    assert_eq!(upload.records().count(), 1);
+    let copied = io::copy(&mut &text[..], &mut Upload::new()).unwrap_err();
+    assert_eq!(inside(&copied), trailing);
+}
+
+// ---------------------------------------------------------------- records
 
 #[test]
 fn lines_are_written() {
@@ -412,15 +574,15 @@ fn lines_are_written() {
     assert_eq!(j8::write_lines_to_vec(b"").unwrap(), b"");
 
     let mut out = [0xaa; 8];
-    let refusal = j8::write_lines(&records, &mut out).unwrap_err();
-    assert_eq!((refusal.number, refusal.place), (j8::NO_ROOM, 0));
-    let refusal = j8::write_lines(&records[..20], &mut out).unwrap_err();
-    assert_eq!((refusal.number, refusal.place), (j8::UNFIT, 0));
+    let no_room = error(Refusal::NoRoom, None, 0);
+    assert_eq!(j8::write_lines(&records, &mut out), Err(no_room));
+    let unfit = error(Refusal::Unfit, None, 0);
+    assert_eq!(j8::write_lines(&records[..20], &mut out), Err(unfit));
     assert_eq!(
-        refusal.to_string(),
-        "refusal 1 at byte 0: a record or the node table is unfit"
+        unfit.to_string(),
+        "refusal 1: a lent buffer, state, record or node table is unfit"
     );
-    assert_eq!(j8::write_lines_to_vec(&[0; 4]), Err(refusal));
+    assert_eq!(j8::write_lines_to_vec(&[0; 4]), Err(unfit));
     assert_eq!(out, [0xaa; 8]);
 }
 
@@ -434,54 +596,23 @@ fn records_cut_short() {
         assert_eq!(few.next(), None);
     }
     let mut all = j8::Records::new(&records);
-    assert_eq!(all.next().unwrap().payload, b"ab");
+    assert_eq!(all.next(), Some(Record::Text("ab")));
     assert!(all.rest().is_empty());
 }
 
 #[test]
-fn every_refusal_has_a_sentence() {
-    let numbers = [1, 2, 4, 5, 6, 7, 8, 9, 10, 11, 12, 17, 18];
-    let sentences: std::collections::BTreeSet<String> = numbers
-        .iter()
-        .map(|&number| {
-            let refusal = UploadRefusal {
-                number,
-                line: 1,
-                place: 0,
-            };
-            refusal.to_string()
-        })
-        .collect();
-    assert_eq!(sentences.len(), numbers.len());
-    assert!(sentences.iter().all(|s| !s.contains("no string call")));
-}
-
-#[test]
-fn null_with_length_0() {
-    let (none, no_room) = (std::ptr::null(), std::ptr::null_mut());
-    let mut line = [0xaa; 1024];
-    let lent = line.as_mut_ptr();
-    // SAFETY: null stands only where the length is 0.
-    unsafe {
-        let fresh = raw::j8_upload_fresh();
-        assert_eq!(fresh, (REFERENCE.fresh)());
-        // No line buffer is a short one.
-        let fed = raw::j8_upload_feed(fresh, none, 0, no_room, 0, no_room, 0);
-        assert_eq!((fed.answer.number, fed.upload), (1, fresh));
-        let fed = raw::j8_upload_finish(fresh, no_room, 0, no_room, 0);
-        assert_eq!((fed.answer.number, fed.upload), (1, fresh));
-        let fed = raw::j8_upload_feed(fresh, none, 0, lent, 1024, no_room, 0);
-        assert_eq!((fed.answer.number, fed.upload), (0, fresh));
-        let fed = raw::j8_upload_feed(fresh, b"a".as_ptr(), 1, lent, 1024, no_room, 0);
-        assert_eq!((fed.answer.number, fed.upload.held), (0, 1));
-        let fed = raw::j8_upload_finish(fed.upload, lent, 1024, no_room, 0);
-        assert_eq!((fed.answer.number, fed.answer.line), (12, 1));
-        let fed = raw::j8_upload_finish(fresh, lent, 1024, no_room, 0);
-        assert_eq!((fed.answer.number, fed.upload.ended), (0, 1));
-        let written = raw::j8_lines_write(none, 0, no_room, 0);
-        assert_eq!((written.number, written.length), (0, 0));
-        let written = raw::j8_lines_write([0, 0, 1, 0].as_ptr(), 4, no_room, 0);
-        assert_eq!(written.number, 12);
+fn records_of_another_kind() {
+    for (kind, payload) in [
+        (0, &b"a"[..]),
+        (2, b"a"),
+        (1, b"\xff"),
+        (3, b""),
+        (257, b"a"),
+    ] {
+        let records = [record(1, b"ab"), record(kind, payload)].concat();
+        let mut few = j8::Records::new(&records);
+        assert_eq!(few.next(), Some(Record::Text("ab")));
+        assert_eq!(few.next(), None);
+        assert_eq!(few.rest(), &records[6..]);
     }
-    assert_eq!(&line[..2], b"a\xaa");
 }

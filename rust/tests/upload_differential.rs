@@ -7,7 +7,7 @@ mod random;
 
 use j8::raw::j8_upload;
 use j8_reference::lines::{definition, definition_answer, joined, Call, LINE_MAX, UPLOAD_MAX};
-use lines::{as_answer, as_state, pattern, record, Lent, LIBRARY, REFERENCE};
+use lines::{as_answer, as_state, pattern, record, Lent, LIBRARY, RAW, REFERENCE};
 use random::Random;
 use std::collections::BTreeMap;
 
@@ -301,8 +301,8 @@ fn texts_in_pieces() {
         let line_room = LINE_MAX + random.pick(&[0, 0, 1, 40]);
         let (line_lent, lent) = (pattern(line_room, flip), pattern(room, !flip));
         for record in j8::Records::new(&output[..state.used]) {
-            *kinds.entry(u32::from(record.kind)).or_default() += 1;
-            whole_lines += u64::from(record.payload.len() == LINE_MAX);
+            *kinds.entry(u32::from(record.kind())).or_default() += 1;
+            whole_lines += u64::from(record.as_bytes().len() == LINE_MAX);
         }
         near_limit += u64::from(state.taken == UPLOAD_MAX);
         both_limits += u64::from(state.refusal == 17 && state.place == LINE_MAX);
@@ -317,6 +317,66 @@ fn texts_in_pieces() {
     assert!(whole_lines >= 3, "names of 1,024 bytes: {whole_lines}");
     assert!(near_limit >= 3, "uploads at the limit: {near_limit}");
     assert!(both_limits >= 1, "both limits at one byte: {both_limits}");
+}
+
+// ---------------------------------------------------------------- drained
+
+/// Uploads whose records are handed on after each call: one in a room that just
+/// suffices for its longest piece, one that grows, and one that is written to and
+/// never drained. The definition of the joined text says what all must give.
+#[test]
+fn drained_uploads() {
+    let mut random = Random::new();
+    let mut seen = Seen::new();
+    for case in 0..cases() {
+        let text = text(&mut random);
+        let plenty = vec![0; text.len() * 5 / 2 + 8];
+        let (state, _, output) = definition(&text, true, &[0; LINE_MAX], &plenty);
+        let (records, used) = (&output[..state.used], state.used);
+        let answer = definition_answer(&state, false);
+
+        let most = random.pick(&[1, 2, 7, 100, 1_460, text.len().max(1)]);
+        let most = if text.len() > 100_000 {
+            most.max(100)
+        } else {
+            most
+        };
+        let (mut line, mut out) = ([0; LINE_MAX], vec![0; j8::feed_room(most)]);
+        let mut lent = j8::LentUpload::new(&mut line, &mut out);
+        let (mut grown, mut kept) = (j8::Upload::new(), j8::Upload::new());
+        let (mut handed, mut handed_too) = (Vec::new(), Vec::new());
+        let what = || format!("case {case}, most {most}: {}", shown(&[Call::Feed(&text)]));
+        let mut rest = text.as_slice();
+        while !rest.is_empty() {
+            let (piece, behind) = rest.split_at((1 + random.below(most)).min(rest.len()));
+            // A refused feed stays refused, and the finish shows it.
+            let fed = lent.feed(piece);
+            assert_eq!(grown.feed(piece), fed, "{}", what());
+            let written = std::io::Write::write_all(&mut kept, piece);
+            assert_eq!(written.is_ok(), fed.is_ok(), "{}", what());
+            handed.extend_from_slice(lent.output());
+            handed_too.extend_from_slice(grown.output());
+            assert_eq!(lent.drain().rest(), grown.drain().rest(), "{}", what());
+            rest = behind;
+        }
+        let finished = lent.finish();
+        assert_eq!(grown.finish(), finished, "{}", what());
+        assert_eq!(kept.finish(), finished, "{}", what());
+        handed.extend_from_slice(lent.output());
+        handed_too.extend_from_slice(grown.output());
+        assert!(handed == records && handed_too == records, "{}", what());
+        assert!(kept.output() == records, "{}", what());
+
+        let number = finished.map_or_else(|error| error.number(), |()| 0);
+        assert_eq!(number, answer.number, "{}", what());
+        assert_eq!(as_state(state), kept.state().into(), "{}", what());
+        for drained in [lent.state(), grown.state()] {
+            let all = j8::UploadState { used, ..drained };
+            assert_eq!(all, kept.state(), "{}", what());
+        }
+        *seen.entry(number).or_default() += 1;
+    }
+    assert_seen(&seen, &[0, 2, 4, 5, 6, 7, 8, 9, 10, 11, 17]);
 }
 
 // ------------------------------------------------- states made by hand
@@ -409,7 +469,7 @@ fn states_made_by_hand() {
                 }
             };
             let (line_before, out_before) = (our_line.clone(), our_out.clone());
-            let our_fed = LIBRARY.call(state, call, our_line.part(), our_out.part());
+            let our_fed = RAW.call(state, call, our_line.part(), our_out.part());
             let their_fed = REFERENCE.call(state, call, their_line.part(), their_out.part());
             assert_eq!(our_fed, their_fed, "{what}: {}", shown(&[call]));
             assert!(
@@ -563,9 +623,10 @@ fn written_lines_come_back() {
                 all += 1;
             }
             Some(before) => {
-                let refusal = answer.expect_err("a line is too long");
-                let found = (refusal.number, refusal.line, refusal.place);
-                assert_eq!(found, (j8::TOO_LONG, before + 1, LINE_MAX), "case {case}");
+                let error = answer.expect_err("a line is too long");
+                let found = (error.refusal, error.line, error.place);
+                let asked = (j8::Refusal::TooLong, Some(before + 1), LINE_MAX);
+                assert_eq!(found, asked, "case {case}");
                 assert!(records.starts_with(upload.output()), "case {case}");
                 assert_eq!(upload.records().count(), before, "case {case}");
                 some += 1;

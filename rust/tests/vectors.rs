@@ -1,5 +1,5 @@
-//! Every vector of tests/vectors, through the C interface and against the
-//! reference. Each is run over two patterns, and the whole buffer is compared.
+//! Every vector of tests/vectors, by this crate and by the reference. Each is run
+//! over two patterns, and the whole buffer is compared.
 
 mod common;
 

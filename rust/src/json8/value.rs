@@ -1,7 +1,7 @@
 //! Values apart from any text, and node tables made from them.
 
-use super::{write_json8, write_json8_to_vec, Kind, Nodes, NODE_ROOM};
-use crate::Refusal;
+use super::{write_json8, write_json8_to_vec, Kind, Node, NODE_ROOM};
+use crate::Error;
 
 /// A value by itself: what nodes say, or what shall be written.
 ///
@@ -10,7 +10,7 @@ use crate::Refusal;
 ///
 /// // A backup is read, changed and written.
 /// let backup = Json8::read(b"{ name: 'Front desk', tray: 2, } # second floor")?;
-/// let mut settings = backup.nodes().value(0);
+/// let mut settings = backup.root().to_value();
 /// if let Value::Dict(pairs) = &mut settings {
 ///     pairs[1].1 = Value::Number("3".to_string());
 ///     pairs.push((b"folder".to_vec(), Value::String(b"caf\xe9".to_vec())));
@@ -19,24 +19,30 @@ use crate::Refusal;
 ///     settings.write_to_vec()?,
 ///     br#"{"name":"Front desk","tray":3,"folder":b'caf\ye9'}"#
 /// );
-/// # Ok::<(), j8::Refusal>(())
+/// # Ok::<(), j8::Error>(())
 /// ```
 #[derive(Clone, Debug, PartialEq, Eq, Hash)]
 pub enum Value {
+    /// `null`.
     Null,
+    /// `true` or `false`.
     Bool(bool),
     /// A number's text, as JSON has it. Nothing is rounded.
     Number(String),
     /// A string's bytes, any at all.
     String(Vec<u8>),
+    /// The members of a list.
     List(Vec<Value>),
     /// Keys and values in their order. Equal keys are all kept.
     Dict(Vec<(Vec<u8>, Value)>),
 }
 
 impl Value {
-    /// Writes it as a JSON8 text into a vector of its own; as [`Table::write`].
-    pub fn write_to_vec(&self) -> Result<Vec<u8>, Refusal> {
+    /// Writes it as a JSON8 text into a vector of its own.
+    ///
+    /// # Errors
+    /// [`Unfit`](crate::Refusal::Unfit), as of [`Table::write`].
+    pub fn write_to_vec(&self) -> Result<Vec<u8>, Error> {
         Table::new(self).write_to_vec()
     }
 }
@@ -64,7 +70,7 @@ impl Value {
 /// let mut out = [0; 64];
 /// let length = table.write(&mut out)?;
 /// assert_eq!(&out[..length], br#"["scans/in",b'caf\ye9',1.50]"#);
-/// # Ok::<(), j8::Refusal>(())
+/// # Ok::<(), j8::Error>(())
 /// ```
 #[derive(Clone, Debug, Default, PartialEq, Eq)]
 pub struct Table {
@@ -113,16 +119,20 @@ impl Table {
     /// Writes it as a JSON8 text at the start of `out`, as
     /// [`write_json8`] does, and answers the text's length.
     ///
-    /// Refused by [`UNFIT`](crate::UNFIT) if a number's text is none, or the
-    /// value is over [`DEPTH_MAX`](crate::DEPTH_MAX) deep or has over
-    /// [`NODES_MAX`](crate::NODES_MAX) nodes; then by
-    /// [`NO_ROOM`](crate::NO_ROOM).
-    pub fn write(&self, out: &mut [u8]) -> Result<usize, Refusal> {
+    /// # Errors
+    /// [`Unfit`](crate::Refusal::Unfit) if a number's text is none, or the value
+    /// is over [`DEPTH_MAX`](crate::DEPTH_MAX) deep or has over
+    /// [`NODES_MAX`](crate::NODES_MAX) nodes; then
+    /// [`NoRoom`](crate::Refusal::NoRoom).
+    pub fn write(&self, out: &mut [u8]) -> Result<usize, Error> {
         write_json8(&self.numbers, &self.text, &self.store, out)
     }
 
     /// Writes it as a JSON8 text into a vector of its own.
-    pub fn write_to_vec(&self) -> Result<Vec<u8>, Refusal> {
+    ///
+    /// # Errors
+    /// [`Unfit`](crate::Refusal::Unfit), as of [`Table::write`].
+    pub fn write_to_vec(&self) -> Result<Vec<u8>, Error> {
         write_json8_to_vec(&self.numbers, &self.text, &self.store)
     }
 
@@ -177,38 +187,34 @@ impl Table {
     }
 }
 
-impl Nodes<'_> {
-    /// What a node says, with all below it.
+impl Node<'_> {
+    /// What it says, with all below it, apart from the text.
     ///
     /// ```
     /// use j8::Value;
     ///
-    /// let backup = j8::Json8::read(b"{ ports: [9100, null] }")?;
+    /// let backup = j8::Json8::read("{ ports: [9100, null] }")?;
     /// let ports = Value::List(vec![Value::Number("9100".to_string()), Value::Null]);
-    /// assert_eq!(backup.nodes().value(2), ports);
-    /// assert_eq!(
-    ///     backup.nodes().value(0),
-    ///     Value::Dict(vec![(b"ports".to_vec(), ports)])
-    /// );
-    /// # Ok::<(), j8::Refusal>(())
+    /// let (key, value) = backup.root().pairs().next().unwrap();
+    /// assert_eq!(value.to_value(), ports);
+    /// assert_eq!(backup.root().to_value(), Value::Dict(vec![(key.to_vec(), ports)]));
+    /// # Ok::<(), j8::Error>(())
     /// ```
-    ///
-    /// # Panics
-    /// If there is no node with this number.
-    pub fn value(&self, node: usize) -> Value {
-        let string = |node| self.string(node).expect("a string").to_vec();
-        match self.node(node).kind {
+    pub fn to_value(&self) -> Value {
+        match self.kind() {
             Kind::Null => Value::Null,
             Kind::False => Value::Bool(false),
             Kind::True => Value::Bool(true),
             Kind::Integer | Kind::Decimal => {
-                Value::Number(self.number(node).expect("a number").to_string())
+                Value::Number(self.as_number().expect("a number").to_string())
             }
-            Kind::String | Kind::StoredString => Value::String(string(node)),
-            Kind::List => Value::List(self.children(node).map(|n| self.value(n)).collect()),
+            Kind::String | Kind::StoredString => {
+                Value::String(self.as_bytes().expect("a string").to_vec())
+            }
+            Kind::List => Value::List(self.children().map(|node| node.to_value()).collect()),
             Kind::Dict => {
-                let pair = |(key, value)| (string(key), self.value(value));
-                Value::Dict(self.pairs(node).map(pair).collect())
+                let pair = |(key, value): (&[u8], Node)| (key.to_vec(), value.to_value());
+                Value::Dict(self.pairs().map(pair).collect())
             }
         }
     }

@@ -1,40 +1,54 @@
 //! What the tests share: the two implementations as calls of one shape, and a
-//! room that is watched on every side.
+//! room that is watched on every side. The library is called by this crate's own
+//! functions, so that they are what is tested.
 
-use j8::raw::{self, j8_result};
+use j8::raw::j8_result;
 
 pub type Call = fn(&[u8], &mut [u8]) -> j8_result;
 
 pub fn library_read(text: &[u8], out: &mut [u8]) -> j8_result {
-    // SAFETY: both parts come from slices that don't overlap.
-    unsafe { raw::j8_string_read(text.as_ptr(), text.len(), out.as_mut_ptr(), out.len()) }
+    library(j8::read(text, out))
 }
 
 pub fn library_write(data: &[u8], out: &mut [u8]) -> j8_result {
-    // SAFETY: as above.
-    unsafe { raw::j8_string_write(data.as_ptr(), data.len(), out.as_mut_ptr(), out.len()) }
+    library(j8::write(data, out))
 }
 
 pub fn reference_read(text: &[u8], out: &mut [u8]) -> j8_result {
-    as_result(j8_reference::read(text, out))
+    reference(j8_reference::read(text, out))
 }
 
 pub fn reference_write(data: &[u8], out: &mut [u8]) -> j8_result {
-    as_result(j8_reference::write(data, out))
+    reference(j8_reference::write(data, out))
 }
 
-fn as_result(answer: Result<usize, j8_reference::Refusal>) -> j8_result {
-    match answer {
-        Ok(length) => j8_result {
-            number: 0,
-            place: 0,
-            length,
+fn library(answer: Result<usize, j8::Error>) -> j8_result {
+    answer.map_or_else(
+        |error| {
+            assert_eq!(error.line, None);
+            refused(error.number(), error.place)
         },
-        Err(refusal) => j8_result {
-            number: refusal.number,
-            place: refusal.place,
-            length: 0,
-        },
+        done,
+    )
+}
+
+fn reference(answer: Result<usize, j8_reference::Refusal>) -> j8_result {
+    answer.map_or_else(|refusal| refused(refusal.number, refusal.place), done)
+}
+
+fn done(length: usize) -> j8_result {
+    j8_result {
+        number: 0,
+        place: 0,
+        length,
+    }
+}
+
+fn refused(number: u32, place: usize) -> j8_result {
+    j8_result {
+        number,
+        place,
+        length: 0,
     }
 }
 

@@ -15,29 +15,20 @@ pub struct Side {
     pub show: fn(&[u32], &[u8], &[u8], usize) -> j8_shown,
 }
 
-// SAFETY of both calls: all parts come from slices that don't overlap, or that
-// nothing is written to.
+/// This crate's own functions. They show a string's bytes, and the C function over
+/// slices says where these stand.
 pub const LIBRARY: Side = Side {
-    read: |text, table, store| unsafe {
-        raw::j8_json8_read(
-            text.as_ptr(),
-            text.len(),
-            table.as_mut_ptr(),
-            table.len(),
-            store.as_mut_ptr(),
-            store.len(),
-        )
+    read: |text, table, store| match j8::read_json8(text, table, store) {
+        Ok(nodes) => done(nodes.len(), nodes.store().len()),
+        Err(error) => refused(error.number(), error.place),
     },
-    show: |table, text, store, node| unsafe {
-        raw::j8_json8_show(
-            table.as_ptr(),
-            table.len(),
-            text.as_ptr(),
-            text.len(),
-            store.as_ptr(),
-            store.len(),
-            node,
-        )
+    show: |table, text, store, node| {
+        let shown = raw::json8_show(table, text, store, node);
+        let buffer = if shown.stored == 0 { text } else { store };
+        let bytes = &buffer[shown.place..shown.place + shown.length];
+        let expected = (shown.number == 0).then_some(bytes);
+        assert_eq!(j8::show_string(table, text, store, node), expected);
+        shown
     },
 };
 

@@ -1,7 +1,7 @@
 //! What the tests of the JSON8 writer share: the library and the reference as
 //! calls of one shape, and the parts that they are lent.
 
-use j8::raw::{self, j8_result};
+use j8::raw::j8_result;
 
 /// A table with the text and the store that it speaks of.
 #[derive(Clone, Debug, PartialEq, Eq)]
@@ -13,18 +13,12 @@ pub struct Parts {
 
 pub fn library(parts: &Parts, out: &mut [u8]) -> j8_result {
     let Parts { table, text, store } = parts;
-    // SAFETY: all parts come from slices that don't overlap.
-    unsafe {
-        raw::j8_json8_write(
-            table.as_ptr(),
-            table.len(),
-            text.as_ptr(),
-            text.len(),
-            store.as_ptr(),
-            store.len(),
-            out.as_mut_ptr(),
-            out.len(),
-        )
+    match j8::write_json8(table, text, store, out) {
+        Ok(length) => done(length),
+        Err(error) => {
+            assert_eq!(error.place, 0);
+            refused(error.number())
+        }
     }
 }
 

@@ -2,6 +2,7 @@
 //! one shape, and buffers that are watched on every side.
 
 use j8::raw::{self, j8_answer, j8_fed, j8_result, j8_upload};
+use j8::{Error, LentUpload, UploadState};
 use j8_reference::lines::{self, Answer, Upload};
 
 // ------------------------------------------------------------- both sides
@@ -29,49 +30,82 @@ impl Side {
     }
 }
 
-// SAFETY of the four calls: all parts come from slices that don't overlap.
+/// This crate's own types. An upload is taken up again at each call, so that the
+/// buffers can be looked at in between.
 pub const LIBRARY: Side = Side {
-    fresh: || unsafe { raw::j8_upload_fresh() },
-    feed: |state, piece, line, out| unsafe {
-        raw::j8_upload_feed(
-            state,
-            piece.as_ptr(),
-            piece.len(),
-            line.as_mut_ptr(),
-            line.len(),
-            out.as_mut_ptr(),
-            out.len(),
-        )
+    fresh: || UploadState::default().into(),
+    feed: |state, piece, line, out| {
+        let mut upload = resume(state, line, out);
+        let answer = upload.feed(piece);
+        fed(upload.state(), answer)
     },
-    finish: |state, line, out| unsafe {
-        raw::j8_upload_finish(
-            state,
-            line.as_mut_ptr(),
-            line.len(),
-            out.as_mut_ptr(),
-            out.len(),
-        )
+    finish: |state, line, out| {
+        let mut upload = resume(state, line, out);
+        let answer = upload.finish();
+        fed(upload.state(), answer)
     },
-    write: |records, out| unsafe {
-        raw::j8_lines_write(records.as_ptr(), records.len(), out.as_mut_ptr(), out.len())
+    write: |records, out| match j8::write_lines(records, out) {
+        Ok(length) => written(length),
+        Err(error) => refused(error.number(), error.place),
     },
 };
+
+/// The C functions over slices, for states that the types above can't hold:
+/// refusals that there aren't, a line and a place without a refusal.
+#[allow(dead_code)]
+pub const RAW: Side = Side {
+    fresh: raw::upload_fresh,
+    feed: raw::upload_feed,
+    finish: raw::upload_finish,
+    write: raw::lines_write,
+};
+
+fn resume<'a>(state: j8_upload, line: &'a mut [u8], out: &'a mut [u8]) -> LentUpload<'a> {
+    let state = UploadState::try_from(state).expect("a refusal that there is");
+    LentUpload::resume(state, line, out)
+}
+
+fn fed(state: UploadState, answer: Result<(), Error>) -> j8_fed {
+    j8_fed {
+        upload: state.into(),
+        answer: match answer {
+            Ok(()) => j8_answer {
+                number: 0,
+                line: 0,
+                place: 0,
+            },
+            Err(error) => j8_answer {
+                number: error.number(),
+                line: error.line.unwrap_or(0),
+                place: error.place,
+            },
+        },
+    }
+}
+
+fn written(length: usize) -> j8_result {
+    j8_result {
+        number: 0,
+        place: 0,
+        length,
+    }
+}
+
+fn refused(number: u32, place: usize) -> j8_result {
+    j8_result {
+        number,
+        place,
+        length: 0,
+    }
+}
 
 pub const REFERENCE: Side = Side {
     fresh: || as_state(Upload::fresh()),
     feed: |state, piece, line, out| as_fed(as_upload(state).feed(piece, line, out)),
     finish: |state, line, out| as_fed(as_upload(state).finish(line, out)),
     write: |records, out| match lines::write_lines(records, out) {
-        Ok(length) => j8_result {
-            number: 0,
-            place: 0,
-            length,
-        },
-        Err(refusal) => j8_result {
-            number: refusal.number,
-            place: refusal.place,
-            length: 0,
-        },
+        Ok(length) => written(length),
+        Err(refusal) => refused(refusal.number, refusal.place),
     },
 };
 

@@ -1,0 +1,201 @@
+//! Why a call was refused.
+
+use std::{fmt, io};
+
+/// The reasons for a refusal, by their numbers in `j8.h`.
+#[derive(Clone, Copy, Debug, PartialEq, Eq, Hash)]
+#[non_exhaustive]
+#[repr(u32)]
+pub enum Refusal {
+    /// A lent buffer, state, record or node table is unfit.
+    Unfit = 1,
+    /// The text is over [`TEXT_MAX`](crate::TEXT_MAX) bytes, or an upload's line
+    /// over [`LINE_ROOM`](crate::LINE_ROOM).
+    TooLong = 2,
+    /// A string text doesn't begin with `"` `'` `u'` `b'`.
+    NoOpening = 3,
+    /// The text ends where more is needed.
+    CutOff = 4,
+    /// Ill-formed UTF-8.
+    IllFormed = 5,
+    /// A literal control byte, below 0x20.
+    Control = 6,
+    /// An escape is unknown, cut off or malformed.
+    BadEscape = 7,
+    /// A single-quoted `\u{h}` from d800 to dfff.
+    Surrogate = 8,
+    /// A single-quoted `\u{h}` above 10ffff.
+    TooLarge = 9,
+    /// `\y` in `u''` or `''`.
+    ByteEscape = 10,
+    /// Bytes after the closing quote, or after the JSON8 value other than
+    /// whitespace and comments.
+    Trailing = 11,
+    /// All else is right, and the result is longer than the room.
+    NoRoom = 12,
+    /// JSON8: this can't stand here.
+    Misplaced = 13,
+    /// JSON8: a malformed number.
+    Number = 14,
+    /// JSON8: a bracket is over [`DEPTH_MAX`](crate::DEPTH_MAX) deep.
+    TooDeep = 15,
+    /// JSON8: a node is over [`NODES_MAX`](crate::NODES_MAX).
+    TooManyNodes = 16,
+    /// An upload is over [`UPLOAD_MAX`](crate::UPLOAD_MAX) bytes.
+    UploadLimit = 17,
+    /// An upload already ended.
+    Ended = 18,
+}
+
+impl Refusal {
+    /// All of them, in the order of their numbers, which begin at 1.
+    pub const ALL: &'static [Refusal] = &[
+        Refusal::Unfit,
+        Refusal::TooLong,
+        Refusal::NoOpening,
+        Refusal::CutOff,
+        Refusal::IllFormed,
+        Refusal::Control,
+        Refusal::BadEscape,
+        Refusal::Surrogate,
+        Refusal::TooLarge,
+        Refusal::ByteEscape,
+        Refusal::Trailing,
+        Refusal::NoRoom,
+        Refusal::Misplaced,
+        Refusal::Number,
+        Refusal::TooDeep,
+        Refusal::TooManyNodes,
+        Refusal::UploadLimit,
+        Refusal::Ended,
+    ];
+
+    /// Its number, from 1 to 18.
+    pub const fn number(self) -> u32 {
+        self as u32
+    }
+
+    /// What is wrong, in a line of an upload or elsewhere.
+    const fn sentence(self, in_line: bool) -> &'static str {
+        match self {
+            Refusal::Unfit => "a lent buffer, state, record or node table is unfit",
+            Refusal::TooLong if in_line => "the line is over 1,024 bytes",
+            Refusal::TooLong => "the text is over 32,768 bytes",
+            Refusal::NoOpening => "the text doesn't begin with \" ' u' b'",
+            Refusal::CutOff => "the text ends where more is needed",
+            Refusal::IllFormed => "ill-formed UTF-8",
+            Refusal::Control => "a literal control byte",
+            Refusal::BadEscape => "an escape is unknown, cut off or malformed",
+            Refusal::Surrogate => "\\u{h} is a surrogate, from d800 to dfff",
+            Refusal::TooLarge => "\\u{h} is above 10ffff",
+            Refusal::ByteEscape => "\\y stands in b'' only",
+            Refusal::Trailing if in_line => "there are bytes after the closing quote",
+            Refusal::Trailing => "there are bytes after the closing quote or the value",
+            Refusal::NoRoom => "the result is longer than the room",
+            Refusal::Misplaced => "this can't stand here",
+            Refusal::Number => "a malformed number",
+            Refusal::TooDeep => "a 33rd open bracket",
+            Refusal::TooManyNodes => "a 1,025th node",
+            Refusal::UploadLimit => "the upload is over 1,048,576 bytes",
+            Refusal::Ended => "the upload already ended",
+        }
+    }
+}
+
+/// The sentence alone.
+impl fmt::Display for Refusal {
+    fn fmt(&self, f: &mut fmt::Formatter<'_>) -> fmt::Result {
+        f.write_str(self.sentence(false))
+    }
+}
+
+impl From<Refusal> for u32 {
+    fn from(refusal: Refusal) -> u32 {
+        refusal.number()
+    }
+}
+
+/// The refusal with this number, or the number back if there is none.
+impl TryFrom<u32> for Refusal {
+    type Error = u32;
+
+    fn try_from(number: u32) -> Result<Refusal, u32> {
+        let index = usize::try_from(number).ok().and_then(|n| n.checked_sub(1));
+        let refusal = index.and_then(|n| Refusal::ALL.get(n));
+        refusal.copied().ok_or(number)
+    }
+}
+
+/// A refused call: why, and where.
+///
+/// ```
+/// let error = j8::read_to_vec(b"\"scans\" x").unwrap_err();
+/// assert_eq!(error.refusal, j8::Refusal::Trailing);
+/// assert_eq!((error.number(), error.line, error.place), (11, None, 7));
+/// assert_eq!(
+///     error.to_string(),
+///     "refusal 11 at byte 7: there are bytes after the closing quote or the value"
+/// );
+/// ```
+#[derive(Clone, Copy, Debug, PartialEq, Eq, Hash)]
+pub struct Error {
+    /// Why.
+    pub refusal: Refusal,
+    /// The line of an upload, from 1. Nothing for every other text, and where no
+    /// line is at fault: [`Refusal::Unfit`] and [`Refusal::Ended`].
+    pub line: Option<usize>,
+    /// The byte where the fault stands, from 0: in the line as received, blanks
+    /// with it, or in the text.
+    pub place: usize,
+}
+
+impl Error {
+    /// The refusal's number.
+    pub const fn number(&self) -> u32 {
+        self.refusal.number()
+    }
+
+    /// What an answer of the library says, if it is a refusal. Line 0 is none.
+    pub(crate) fn check(number: u32, line: usize, place: usize) -> Result<(), Error> {
+        match Refusal::try_from(number) {
+            Ok(refusal) => Err(Error {
+                refusal,
+                line: (line > 0).then_some(line),
+                place,
+            }),
+            Err(0) => Ok(()),
+            // The archive's numbers are the header's, and a state that is kept
+            // here never held another.
+            Err(other) => unreachable!("the library answered {other}"),
+        }
+    }
+}
+
+impl fmt::Display for Error {
+    fn fmt(&self, f: &mut fmt::Formatter<'_>) -> fmt::Result {
+        write!(f, "refusal {}", self.number())?;
+        match self {
+            Error {
+                line: Some(line),
+                place,
+                ..
+            } => write!(f, " in line {line} at byte {place}")?,
+            // Of the whole text, or of what was lent: no byte is at fault.
+            Error {
+                refusal: Refusal::Unfit | Refusal::TooLong | Refusal::NoRoom | Refusal::Ended,
+                ..
+            } => {}
+            Error { place, .. } => write!(f, " at byte {place}")?,
+        }
+        write!(f, ": {}", self.refusal.sentence(self.line.is_some()))
+    }
+}
+
+impl std::error::Error for Error {}
+
+/// Of the kind [`InvalidData`](io::ErrorKind::InvalidData), with the error inside.
+impl From<Error> for io::Error {
+    fn from(error: Error) -> io::Error {
+        io::Error::new(io::ErrorKind::InvalidData, error)
+    }
+}

@@ -1,0 +1,46 @@
+//! The examples print what those for C do: the files beside `examples/c`.
+
+#[allow(dead_code)]
+#[path = "../examples/restore.rs"]
+mod restore;
+#[allow(dead_code)]
+#[path = "../examples/upload.rs"]
+mod upload;
+
+fn file(name: &str) -> Vec<u8> {
+    let path = format!("{}/../examples/c/{name}", env!("CARGO_MANIFEST_DIR"));
+    std::fs::read(&path).unwrap_or_else(|e| panic!("{path}: {e}"))
+}
+
+fn same(printed: &[u8], sample: &str) {
+    let expected = file(&format!("{sample}.expected"));
+    let text = String::from_utf8_lossy;
+    assert_eq!(text(printed), text(&expected), "{sample}");
+}
+
+#[test]
+fn uploads() {
+    for (sample, good) in [("folders.j8l", true), ("damaged.j8l", false)] {
+        let backup = file(sample);
+        for size in [1, 7, 1_460, 65_536] {
+            let mut printed = Vec::new();
+            let answer = upload::take_upload(backup.as_slice(), size, &mut printed);
+            assert_eq!(answer.unwrap(), good, "{sample}");
+            same(&printed, sample);
+        }
+    }
+}
+
+#[test]
+fn restores() {
+    for (sample, good) in [
+        ("settings.json8", true),
+        ("damaged.json8", false),
+        ("unfit.json8", false),
+    ] {
+        let mut printed = Vec::new();
+        let answer = restore::run(file(sample).as_slice(), &mut printed);
+        assert_eq!(answer.unwrap(), good, "{sample}");
+        same(&printed, sample);
+    }
+}

@@ -1,0 +1,353 @@
+/*
+ * How much stack each function of j8.h takes, on x86-64: each is called on a
+ * stack of its own that was painted before, over inputs that go as deep as its
+ * code does, and what is no longer painted was used. Counted from the caller's
+ * stack pointer before the call, so arguments on the stack and the return
+ * address are in it, and so is what memcpy and memset take below.
+ *
+ * `make stack` builds it with the C library's functions bound at the start:
+ * bound at their first call, the dynamic linker's own stack would be counted.
+ *
+ * Prints the greatest use of each function and what j8.h says of it, in bytes,
+ * and fails if the first is above the second.
+ */
+
+#define _XOPEN_SOURCE 700
+
+#include <stdio.h>
+#include <string.h>
+#include <ucontext.h>
+
+#include "j8.h"
+
+#define STACK 131072
+
+static union {
+    uint8_t bytes[STACK];
+    long double aligned;
+} whole;
+static ucontext_t home, away;
+
+/* The stack pointer before a call. */
+static const uint8_t *top;
+#define MARK() __asm__ volatile("mov %%rsp, %0" : "=r"(top))
+
+/* What a call is lent, set before it runs. */
+static uint8_t input[J8_UPLOAD_MAX + 1], line[J8_LINE_ROOM];
+static size_t input_len, room, table_room;
+static uint8_t out[6 * 262144], store[J8_STORE_ROOM(J8_TEXT_MAX)];
+static uint32_t table[J8_TABLE_ROOM];
+static j8_upload upload;
+static j8_nodes nodes;
+
+/* ------------------------------------------------------------- the calls */
+
+static void string_read(void)
+{
+    MARK();
+    j8_string_read(input, input_len, out, room);
+}
+
+static void string_write(void)
+{
+    MARK();
+    j8_string_write(input, input_len, out, room);
+}
+
+static void upload_fresh(void)
+{
+    MARK();
+    upload = j8_upload_fresh();
+}
+
+static void upload_feed(void)
+{
+    MARK();
+    upload = j8_upload_feed(upload, input, input_len, line, sizeof line, out, room).upload;
+}
+
+static void upload_finish(void)
+{
+    MARK();
+    upload = j8_upload_finish(upload, line, sizeof line, out, room).upload;
+}
+
+static void lines_write(void)
+{
+    MARK();
+    j8_lines_write(input, input_len, out, room);
+}
+
+static void json8_read(void)
+{
+    MARK();
+    nodes = j8_json8_read(input, input_len, table, table_room, store, room);
+}
+
+static void json8_write(void)
+{
+    MARK();
+    j8_json8_write(table, nodes.nodes * J8_NODE_ROOM, input, input_len, store, nodes.stored, out, room);
+}
+
+static void json8_show(void)
+{
+    MARK();
+    j8_json8_show(table, nodes.nodes * J8_NODE_ROOM, input, input_len, store, nodes.stored, nodes.nodes - 1);
+}
+
+/* ---------------------------------------------------------- the measuring */
+
+typedef struct {
+    const char *name;
+    void (*call)(void);
+    /* what j8.h says */
+    size_t bound;
+    size_t most;
+} entry;
+
+static entry entries[] = {
+    { "j8_string_read", string_read, 1024, 0 },
+    { "j8_string_write", string_write, 1024, 0 },
+    { "j8_upload_fresh", upload_fresh, 1024, 0 },
+    { "j8_upload_feed", upload_feed, 2048, 0 },
+    { "j8_upload_finish", upload_finish, 2048, 0 },
+    { "j8_lines_write", lines_write, 1024, 0 },
+    { "j8_json8_read", json8_read, 71680, 0 },
+    { "j8_json8_write", json8_write, 12288, 0 },
+    { "j8_json8_show", json8_show, 1024, 0 },
+};
+
+enum { STRING_READ, STRING_WRITE, FRESH, FEED, FINISH, LINES_WRITE, JSON8_READ, JSON8_WRITE, JSON8_SHOW };
+
+/* Twice, over two paints: a byte that is written as it was painted once isn't so the other time. More is painted than is allowed; whole
+   words are counted. */
+static void measure(int which)
+{
+    static const uint8_t paints[] = { 0xA5, 0x5A };
+    j8_upload before = upload;
+    size_t i, low, start = sizeof whole.bytes - 8192 - entries[which].bound;
+
+    for (i = 0; i < sizeof paints; i++) {
+        upload = before;
+        memset(whole.bytes + start, paints[i], sizeof whole.bytes - start);
+        getcontext(&away);
+        away.uc_stack.ss_sp = whole.bytes;
+        away.uc_stack.ss_size = sizeof whole.bytes;
+        away.uc_link = &home;
+        makecontext(&away, entries[which].call, 0);
+        swapcontext(&home, &away);
+        for (low = start; whole.bytes[low] == paints[i]; low++) {
+        }
+        low -= low % 8;
+        if ((size_t)(top - (whole.bytes + low)) > entries[which].most) {
+            entries[which].most = (size_t)(top - (whole.bytes + low));
+        }
+    }
+}
+
+/* -------------------------------------------------------------- the inputs */
+
+static void put(const char *bytes, size_t length)
+{
+    memcpy(input + input_len, bytes, length);
+    input_len += length;
+}
+
+static void add(const char *bytes)
+{
+    put(bytes, strlen(bytes));
+}
+
+static void set(const char *bytes)
+{
+    input_len = 0;
+    add(bytes);
+}
+
+/* Each unit of a string, escapes of every style, and each fault. */
+static const char *const units[] = {
+    "a", "\xc3\xa9", "\xe2\x82\xac", "\xf0\x9f\xa4\xa6", "\\n", "\\\"", "\\\\", "\\u00e9", "\\u20ac",
+    "\\ud83e\\udd26", "\\ud83e", "\\udd26", "\\'", "\\u{e9}", "\\u{20ac}", "\\u{1f926}", "\\u{dc00}",
+    "\\u{110000}", "\\u{0000041}", "\\yff", "\\y0", "\\q", "\\", "\x01", "\xff", "\xe2\x82", "\xed\xa0\x80",
+    "\"", "'", "\" x",
+};
+static const char *const marks[] = { "\"", "'", "u'", "b'", "" };
+/* Before a unit: nothing, less than a block, some blocks. */
+static const size_t fronts[] = { 0, 1, 9, 15, 16, 17, 33, 65, 130, 700 };
+
+#define COUNT(list) (sizeof(list) / sizeof((list)[0]))
+
+/* One string: a mark, plain letters, a unit, plain letters and the closing quote. */
+static void make_string(size_t mark, size_t front, size_t unit, size_t behind)
+{
+    add(marks[mark]);
+    memset(input + input_len, 'a', fronts[front]);
+    input_len += fronts[front];
+    add(units[unit]);
+    memset(input + input_len, 'b', fronts[behind]);
+    input_len += fronts[behind];
+    if (mark < 4) {
+        put(marks[mark] + strlen(marks[mark]) - 1, 1);
+    }
+}
+
+static void measure_upload(void)
+{
+    room = J8_FEED_ROOM(J8_LINE_ROOM + 2);
+    upload = j8_upload_fresh();
+    measure(FEED);
+    measure(FINISH);
+    /* A line that only the finish reads, and one for which there is no room. */
+    upload = j8_upload_fresh();
+    input_len--;
+    measure(FEED);
+    measure(FINISH);
+    room = 3;
+    upload = j8_upload_feed(j8_upload_fresh(), input, input_len, line, sizeof line, out, room).upload;
+    measure(FINISH);
+    set("\n");
+    measure(FEED);
+}
+
+/* The payload as records of both kinds. */
+static void measure_records(void)
+{
+    static uint8_t payload[J8_LINE_ROOM];
+    size_t length = input_len;
+    int kind;
+
+    memcpy(payload, input, length);
+    for (kind = 1; kind <= 2; kind++) {
+        input[0] = (uint8_t)length;
+        input[1] = (uint8_t)(length >> 8);
+        input[2] = (uint8_t)kind;
+        input[3] = 0;
+        memcpy(input + J8_RECORD_HEAD, payload, length);
+        input_len = J8_RECORD_HEAD + length;
+        for (room = 0; room <= J8_LINES_WRITE_ROOM(input_len); room += J8_LINES_WRITE_ROOM(input_len) / 3) {
+            measure(LINES_WRITE);
+        }
+    }
+}
+
+static void measure_strings(void)
+{
+    size_t mark, front, unit, behind;
+
+    for (mark = 0; mark < COUNT(marks); mark++) {
+        for (front = 0; front < COUNT(fronts); front++) {
+            for (unit = 0; unit < COUNT(units); unit++) {
+                for (behind = 0; behind < 3; behind++) {
+                    input_len = 0;
+                    make_string(mark, front, unit, behind * 3);
+                    if (input_len > J8_LINE_ROOM) {
+                        continue;
+                    }
+                    for (room = 0; room <= input_len; room += input_len) {
+                        measure(STRING_READ);
+                    }
+                    for (room = 0; room <= J8_STRING_WRITE_ROOM(input_len); room += J8_STRING_WRITE_ROOM(input_len) / 3) {
+                        measure(STRING_WRITE);
+                    }
+                    add("\n");
+                    measure_upload();
+                    input_len = 0;
+                    make_string(mark, front, unit, behind * 3);
+                    measure_records();
+                }
+            }
+        }
+    }
+}
+
+/* A text of so many brackets, lists and dicts in turn or of one sort, with a
+   string or another value inside, and so many blanks behind. */
+static void make_nest(size_t depth, int sort, const char *inside, size_t blanks)
+{
+    size_t i;
+
+    input_len = 0;
+    for (i = 0; i < depth; i++) {
+        add(sort == 2 || (sort == 1 && i % 2 == 1) ? "{\"\\u00e9\\n\":" : "[");
+    }
+    add(inside);
+    for (i = depth; i > 0; i--) {
+        add(sort == 2 || (sort == 1 && i % 2 == 0) ? "}" : "]");
+    }
+    memset(input + input_len, ' ', blanks);
+    input_len += blanks;
+}
+
+/* Reads the text with all rooms, writes and shows what was read. */
+static void measure_text(void)
+{
+    room = sizeof store;
+    table_room = J8_TABLE_ROOM;
+    measure(JSON8_READ);
+    if (nodes.number == 0) {
+        measure(JSON8_SHOW);
+        for (room = 0; room <= 6 * input_len; room += input_len) {
+            measure(JSON8_WRITE);
+        }
+    }
+    for (table_room = 0; table_room <= J8_TABLE_ROOM; table_room += J8_TABLE_ROOM / 2) {
+        for (room = 0; room <= input_len; room += input_len) {
+            measure(JSON8_READ);
+        }
+    }
+}
+
+static void measure_json8(void)
+{
+    static const size_t behind[] = { 0, 8000, 20000 };
+    char inside[1024];
+    size_t depth, unit, mark, blanks, front;
+    int sort;
+
+    for (depth = 0; depth <= J8_DEPTH_MAX + 1; depth += depth < J8_DEPTH_MAX ? J8_DEPTH_MAX : 1) {
+        for (sort = 0; sort < 3; sort++) {
+            for (blanks = 0; blanks < COUNT(behind); blanks++) {
+                for (mark = 0; mark < COUNT(marks); mark++) {
+                    for (front = 0; front < COUNT(fronts); front += 3) {
+                        for (unit = 0; unit < COUNT(units); unit++) {
+                            input_len = 0;
+                            make_string(mark, front, unit, 2);
+                            memcpy(inside, input, input_len);
+                            inside[input_len] = '\0';
+                            make_nest(depth, sort, inside, behind[blanks]);
+                            measure_text();
+                        }
+                    }
+                }
+                make_nest(depth, sort, "-1.5e+7 # a number", behind[blanks]);
+                measure_text();
+                make_nest(depth, sort, "null", behind[blanks]);
+                measure_text();
+            }
+        }
+    }
+    /* More nodes and decoded bytes than the reader's own arrays hold for a short text. */
+    set("[");
+    while (input_len < 8000) {
+        add("0,'\\n',");
+    }
+    add("]");
+    measure_text();
+}
+
+int main(void)
+{
+    size_t i;
+    int within = 1;
+
+    measure(FRESH);
+    measure_strings();
+    measure_json8();
+    printf("%-18s %8s %8s\n", "", "measured", "bound");
+    for (i = 0; i < COUNT(entries); i++) {
+        printf("%-18s %8lu %8lu\n", entries[i].name, (unsigned long)entries[i].most, (unsigned long)entries[i].bound);
+        within = within && entries[i].most <= entries[i].bound;
+    }
+    return within ? 0 : 1;
+}
