@@ -1,6 +1,6 @@
-# make test: the gate. make demo: the main job on a sample. make archive: target/staticlib/libj8.a for C and Rust.
-# make install PREFIX=..: archive, header and j8.pc. make stack, make size: what the functions take.
-.PHONY: test demo archive examples install uninstall stack size bench clean
+# make test: the gate. make demo: the main job on samples. make archive: target/staticlib/libj8.a for C and Rust. make command: the command j8.
+# make install PREFIX=..: command, archive, header and j8.pc. make stack, make size: what the functions take.
+.PHONY: test demo archive command examples install uninstall stack size bench clean
 
 VERSION = $(shell sed -n 's/^.define J8_VERSION "\(.*\)"$$/\1/p' include/j8.h)
 PREFIX = /usr/local
@@ -18,11 +18,15 @@ target/staticlib/libj8.a: crates.txt $(shell find crates -type f)
 	@mkdir -p target
 	@rt staticlib j8 >target/archive.log 2>&1 || { cat target/archive.log; exit 1; }
 
-demo: archive
-	@for program in names backup settings; do \
-	  gcc -std=c99 -O2 -Wall -Wextra -Iinclude examples/$$program.c target/staticlib/libj8.a -o target/$$program || exit 1; \
-	done
-	@bash examples/demo.sh
+command: target/bin/command
+
+target/bin/command: crates.txt $(shell find crates -type f)
+	@echo "Proving the command and writing $@: some minutes the first time, seven of processor time."
+	@mkdir -p target
+	@rt check command >target/command.log 2>&1 || { cat target/command.log; exit 1; }
+
+demo: command
+	@bash samples/demo.sh target/bin/command
 
 # The programs of examples/c, to target/examples.
 examples: archive
@@ -37,14 +41,16 @@ root = $(DESTDIR)$(abspath $(PREFIX))
 # put MODE FILE FOLDER: copies it to the folder below the prefix, and says so.
 put = install -d "$(root)/$(3)" && install -m $(1) $(2) "$(root)/$(3)/" && echo "installed: $(root)/$(3)/$(notdir $(2))"
 
-install: archive
+install: archive command
+	@cp target/bin/command target/j8
+	@$(call put,755,target/j8,bin)
 	@sed -e 's|@PREFIX@|$(abspath $(PREFIX))|' -e 's|@VERSION@|$(VERSION)|' j8.pc.in >target/j8.pc
 	@$(call put,644,target/staticlib/libj8.a,lib)
 	@$(call put,644,include/j8.h,include)
 	@$(call put,644,target/j8.pc,lib/pkgconfig)
 
 uninstall:
-	rm -f "$(root)/lib/libj8.a" "$(root)/include/j8.h" "$(root)/lib/pkgconfig/j8.pc"
+	rm -f "$(root)/bin/j8" "$(root)/lib/libj8.a" "$(root)/include/j8.h" "$(root)/lib/pkgconfig/j8.pc"
 
 # What each function takes of the stack, held to what j8.h says. memcpy and memset are bound at the start, so that the dynamic linker isn't measured.
 stack: archive

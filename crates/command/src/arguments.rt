@@ -9,6 +9,7 @@ pub enum Command {
     Unquote,
     Json8,
     Strings,
+    Missing,
     Unknown,
 }
 
@@ -39,6 +40,9 @@ fn command_of(word: &[u8]) -> Command {
 
 // The subcommand that the first word names.
 pub fn subcommand() -> Command {
+    if os::arg_count() < 2 {
+        return Command::Missing;
+    }
     let mut word = [0u8; 16];
     let n = os::arg(1, &mut word);
     if os::errno() != 0 {

@@ -59,8 +59,15 @@ pub fn print() -> Outcome {
     outputs::fail()
 }
 
-// The words behind the name make no command.
-pub fn misused() -> Outcome {
+// No word at all: the help, where it doesn't mix with an output.
+pub fn missing() -> Outcome {
     print_to(STDERR_FILENO);
+    Outcome::Failed
+}
+
+// What is wrong with the words, and where to look.
+pub fn misused(what: &[u8]) -> Outcome {
+    io::write_all(STDERR_FILENO, what);
+    io::write_all(STDERR_FILENO, b": see 'j8 help'\n");
     Outcome::Failed
 }

@@ -27,7 +27,7 @@ fn run_file(command: Command, i: usize, size: usize) -> Outcome {
     let words = os::arg_count();
     if words > i {
         if words - i > 1 {
-            return help::misused();
+            return help::misused(b"one file at most");
         }
     }
     let fd = inputs::open(i);
@@ -46,7 +46,7 @@ fn run_lines() -> Outcome {
     }
     let size = arguments::size_at(3);
     if size == 0 {
-        return help::misused();
+        return help::misused(b"--pieces takes a number from 1 to 4096");
     }
     run_file(Command::Lines, 4, size)
 }
@@ -55,7 +55,8 @@ fn run() -> Outcome {
     let command = arguments::subcommand();
     match command {
         Command::Help => help::print(),
-        Command::Unknown => help::misused(),
+        Command::Missing => help::missing(),
+        Command::Unknown => help::misused(b"no such command"),
         Command::Lines => run_lines(),
         _ => run_file(command, 2, 0),
     }
