@@ -91,6 +91,19 @@ eight-stored s out at o h =
     one : set out o (getD s at 0) ≡ sets out o (take 1 (drop at s))
     one = rw (drop-cons s at 0 (omega arith)) refl
 
+-- the same of four
+pub four-stored : (s out : List ℕ) (at o : ℕ) → at + 4 ≤ length s
+    → set (set (set (set out o (getD s at 0)) (o + 1) (getD s (at + 1) 0)) (o + 2) (getD s (at + 2) 0)) (o + 3) (getD s (at + 3) 0)
+    ≡ sets out o (take 4 (drop at s))
+four-stored s out at o h =
+    ap (λ (x : List ℕ). set x (o + 3) (getD s (at + 3) 0)) (
+    ap (λ (x : List ℕ). set x (o + 2) (getD s (at + 2) 0)) (
+    ap (λ (x : List ℕ). set x (o + 1) (getD s (at + 1) 0)) (one ∙ refl)
+    ∙ copied s out at o 1 (omega arith)) ∙ copied s out at o 2 (omega arith)) ∙ copied s out at o 3 (omega arith)
+  where
+    one : set out o (getD s at 0) ≡ sets out o (take 1 (drop at s))
+    one = rw (drop-cons s at 0 (omega arith)) refl
+
 -- all bytes
 
 pub bytes-append : (s t : List ℕ) → bytesText (s ++ t) ≡ bytesText s ++ bytesText t

@@ -55,6 +55,21 @@ pub fn copy_eight(s: &[u8], at: usize, o: usize, out: &mut [u8])
     out[o + 7] = b7;
 }
 
+// The same of four bytes.
+pub fn copy_four(s: &[u8], at: usize, o: usize, out: &mut [u8])
+    requires { ⌜ (at + 4 ≤ length (now s)) × (o + 4 ≤ length (now out)) ⌝ }
+    ensures { λ r. ⌜ now (out .exit) ≡ sets (now (out .entry)) o (take 4 (drop at (now (s .entry)))) ⌝ }
+{
+    let b0 = s[at];
+    let b1 = s[at + 1];
+    let b2 = s[at + 2];
+    let b3 = s[at + 3];
+    out[o] = b0;
+    out[o + 1] = b1;
+    out[o + 2] = b2;
+    out[o + 3] = b3;
+}
+
 // How many bytes stand before a byte that is no control: a backslash before the quote and the backslash.
 fn slashes(b: u8) -> usize
     ensures { λ r. ⌜ r ≡ pick (eqb b 34 || eqb b 92) 1 0 ⌝ }
