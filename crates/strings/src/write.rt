@@ -128,10 +128,13 @@ fn write_tight(t: &[u8; 256], s: &[u8], room: usize, out: &mut [u8]) -> usize
 fn ample(n: usize, room: usize, buffer: usize) -> bool
     ensures { λ r. ⌜ (r ≡ true → (6 * n + 2 ≤ room) × (room ≤ buffer)) ⌝ }
 {
-    if room / 8 <= n {
+    if buffer < room {
         return false;
     }
-    room <= buffer
+    if room < 2 {
+        return false;
+    }
+    n <= (room - 2) / 6
 }
 
 // The same in an ample room, where the front of the data is stored already.
@@ -212,13 +215,18 @@ fn write_literal(s: &[u8], out: &mut [u8]) -> Written
     Written::Wrote(n + 2)
 }
 
-// The same where the bytes before a place are known to be literal characters. What is one run of them is valid UTF-8 so far.
+// The same where the bytes before a place are known to be literal characters. What is one run of them is valid UTF-8 so far. In an ample
+// room all is stored as it is tested, and nothing is measured.
 fn write_from(s: &[u8], at: usize, out: &mut [u8]) -> Written
     requires { ⌜ Running Json (now s) 0 at ⌝ }
     ensures answer { λ r. ⌜ r ≡ writtenIn (length (now (out .entry))) (writeString (now (s .entry))) ⌝ }
     ensures stored { λ r. ⌜ now (out .exit) ≡ wroteInto (writeString (now (s .entry))) (now (out .entry)) ⌝ }
 {
     let t = classes::table();
+    let room = out.len();
+    if ample(s.len(), room, room) {
+        return Written::Wrote(write_run(&t, s, room, out));
+    }
     let e = literals::literal_run(&t, s, at, Style::Json);
     if e == s.len() {
         return write_literal(s, out);
