@@ -1,20 +1,24 @@
--- The texts of bytes: one by one, eight that stand as they are, and one part behind another.
+-- The texts of bytes: one by one and by their classes, eight that stand as they are, and one part behind another.
 -- Assumes nothing.
 use mathlib.Core.Path.{_≡_, refl, sym, ap, _∙_, subst}
-use mathlib.Core.Bool.{Bool, true, false, _||_, not}
+use mathlib.Core.Bool.{Bool, true, false, _||_}
 use mathlib.Core.List.{List, [], _∷_, _++_, append-assoc, append-nil}
-use Prim.Native.Nat.{ℕ, zero, suc, _+_, _-_, _*_, _≤_, _<_}
+use Prim.Native.Nat.{ℕ, zero, suc, _+_, _-_, _*_, _/_, _^_, _≤_, _<_}
 use native.Mathlib.Omega.{arith}
 use native.Mathlib.Nat.{add-zero}
 use borrow.Author.Count.{below-more}
-use borrow.Author.Tests.{lt-ltb, le-ltb}
+use borrow.Author.Tests.{lt-ltb, le-ltb, ne-eqb, ltb-true, ltb-false, eqb-true}
+use lib.Bits.{bitAnd}
 use lib.Dec.{ltb, eqb, lit≤}
 use lib.ListN.{length, getD, take, drop, set, length-append, length-drop, length-take}
+use Rattle.prelude.proofs.Tables.{allBelow, at-below}
 use lib.Seq.{sets, length-sets, set-set, drop-cons, drop-drop, take-add, take-suc, length-take-le, getD-drop}
 use Rattle.prelude.specs.Pick.{pick}
 use Rattle.prelude.proofs.Cases.{split, never}
 use Rattle.prelude.proofs.Picks.{pick-case}
 use Rattle.prelude.proofs.Stores.{sets-append, copied}
+use Rattle.utf8.specs.Class.{classOf}
+use Rattle.utf8.proofs.ByteClasses.{by-byte}
 use Rattle.units.specs.declared.styles.Style.the-variants.{Json}
 use Rattle.units.specs.Escapes.{lookup}
 use Rattle.units.specs.Written.{escapeByte, byNumber, escaped}
@@ -51,10 +55,6 @@ pub one-more : (P : ℕ → Type 0) (a b : Bool) (n : ℕ) → (a ≡ false → 
     → (k : ℕ) → k < n + 1 → P k
 one-more P a b n f g e = below-more P n (f (or-left a b e)) (g (or-right a b e))
 
-pub none-found : {P : Type 0} (a : Bool) → (a ≡ false → P) → not a ≡ true → P
-none-found true f e = let z : _≡_ {A = Bool} false true = e in never cc
-none-found false f e = f refl
-
 -- a byte that is no control, stored over a backslash or behind it
 pub text-stored : (b n o : ℕ) (out : List ℕ) → 32 ≤ b → n ≡ pick (eqb b 34 || eqb b 92) 1 0
     → (n + 1 ≡ length (byteText b)) × (set (set out o 92) (o + n) b ≡ sets out o (byteText b))
@@ -63,6 +63,81 @@ text-stored b n o out h e =
     split (eqb b 34 || eqb b 92)
     (λ t. let m : n ≡ 1 = e ∙ rw t in let a : o + 1 ≡ suc o = omega arith in simp (le-ltb b 32 h, t) (rw m refl, rw (m, a) refl))
     (λ t. let m : n ≡ 0 = e ∙ rw t in simp (le-ltb b 32 h, t) (rw m refl, rw (m, add-zero o) (set-set out o 92 b)))
+
+-- by the class of the byte
+
+abbrev slashOf : ℕ → ℕ
+slashOf k = pick (eqb k 2 || eqb k 4) 1 0
+
+abbrev slashBy : ℕ → ℕ
+slashBy b = pick (eqb b 34 || eqb b 92) 1 0
+
+abbrev shifted : ℕ → ℕ
+shifted k = bitAnd (20 / 2 ^ k) 1
+
+slash-shifts : allBelow (λ k. eqb (shifted k) (slashOf k)) 16 ≡ true
+unfolding pick
+slash-shifts = refl
+
+pub slash-shift : (k : ℕ) → k < 16 → shifted k ≡ slashOf k
+slash-shift k h = eqb-true _ _ (at-below (λ k. eqb (shifted k) (slashOf k)) 16 slash-shifts k h)
+
+slash-test : allBelow (λ b. eqb (slashOf (classOf b)) (slashBy b)) 0xf5 ≡ true
+unfolding classOf pick
+slash-test = refl
+
+pub slash-class : (b k n : ℕ) → k ≡ classOf b → n ≡ slashOf k → n ≡ slashBy b
+unfolding pick
+slash-class b k n e f =
+    f ∙ ap slashOf e
+    ∙ by-byte slashOf slashBy slash-test (λ a h. let z : slashOf 13 ≡ slashBy a = rw (ne-eqb a 34 (λ z. omega arith), ne-eqb a 92 (λ z. omega arith)) refl in z) b
+
+abbrev oneOf : ℕ → ℕ
+oneOf k = pick (eqb k 1) 1 0
+
+abbrev lowBy : ℕ → ℕ
+lowBy b = pick (ltb b 32) 1 0
+
+control-test : allBelow (λ b. eqb (oneOf (classOf b)) (lowBy b)) 0xf5 ≡ true
+unfolding classOf pick
+control-test = refl
+
+control-class : (b : ℕ) → oneOf (classOf b) ≡ lowBy b
+unfolding pick
+control-class = by-byte oneOf lowBy control-test (λ a h. let z : oneOf 13 ≡ lowBy a = rw (le-ltb a 32 (omega arith)) refl in z)
+
+abbrev fewOf : ℕ → ℕ
+fewOf k = pick (ltb k 16) 1 0
+
+abbrev always : ℕ → ℕ
+always b = 1
+
+few-test : allBelow (λ b. eqb (fewOf (classOf b)) (always b)) 0xf5 ≡ true
+unfolding classOf pick
+few-test = refl
+
+few-class : (b : ℕ) → fewOf (classOf b) ≡ always b
+unfolding pick
+few-class = by-byte fewOf always few-test (λ a h. refl)
+
+pub class-few : (b k : ℕ) → k ≡ classOf b → k < 16
+unfolding pick
+class-few b k e =
+    rw e (split (ltb (classOf b) 16) (λ t. ltb-true _ _ t)
+    (λ t. let z : _≡_ {A = ℕ} 0 1 = rw t at (few-class b) in never z))
+
+pub is-control : (b k : ℕ) → k ≡ classOf b → k ≡ 1 → b < 32
+unfolding pick
+is-control b k e f =
+    split (ltb b 32) (λ t. ltb-true b 32 t)
+    (λ t. let g : classOf b ≡ 1 = sym e ∙ f in let z : _≡_ {A = ℕ} 1 0 = rw (g, t) at (control-class b) in never (sym z))
+
+pub no-control : (b k : ℕ) → k ≡ classOf b → (k ≡ 1 → ⊥) → 32 ≤ b
+unfolding pick
+no-control b k e f =
+    split (ltb b 32)
+    (λ t. let g : eqb (classOf b) 1 ≡ false = ne-eqb (classOf b) 1 (λ z. f (e ∙ z)) in let z : _≡_ {A = ℕ} 0 1 = rw (g, t) at (control-class b) in never z)
+    (λ t. ltb-false b 32 t)
 
 pub slash-within : (t : Bool) (n : ℕ) → n ≡ pick t 1 0 → n ≤ 1
 unfolding pick
@@ -87,6 +162,19 @@ eight-stored s out at o h =
     ap (λ (x : List ℕ). set x (o + 1) (getD s (at + 1) 0)) (one ∙ refl)
     ∙ copied s out at o 1 (omega arith)) ∙ copied s out at o 2 (omega arith)) ∙ copied s out at o 3 (omega arith)) ∙ copied s out at o 4 (omega arith))
     ∙ copied s out at o 5 (omega arith)) ∙ copied s out at o 6 (omega arith)) ∙ copied s out at o 7 (omega arith)
+  where
+    one : set out o (getD s at 0) ≡ sets out o (take 1 (drop at s))
+    one = rw (drop-cons s at 0 (omega arith)) refl
+
+-- the same of four
+pub four-stored : (s out : List ℕ) (at o : ℕ) → at + 4 ≤ length s
+    → set (set (set (set out o (getD s at 0)) (o + 1) (getD s (at + 1) 0)) (o + 2) (getD s (at + 2) 0)) (o + 3) (getD s (at + 3) 0)
+    ≡ sets out o (take 4 (drop at s))
+four-stored s out at o h =
+    ap (λ (x : List ℕ). set x (o + 3) (getD s (at + 3) 0)) (
+    ap (λ (x : List ℕ). set x (o + 2) (getD s (at + 2) 0)) (
+    ap (λ (x : List ℕ). set x (o + 1) (getD s (at + 1) 0)) (one ∙ refl)
+    ∙ copied s out at o 1 (omega arith)) ∙ copied s out at o 2 (omega arith)) ∙ copied s out at o 3 (omega arith)
   where
     one : set out o (getD s at 0) ≡ sets out o (take 1 (drop at s))
     one = rw (drop-cons s at 0 (omega arith)) refl
@@ -175,3 +263,19 @@ module _ (s : List ℕ) where
 
     pub texted-end : (from at end r : ℕ) (new : List ℕ) → at ≤ end → end ≤ at → Texted s from at o out r new → Texted s from end o out r new
     texted-end from at end r new h l w = subst (λ (i : ℕ). Texted s from i o out r new) (let e : at ≡ end = omega arith in e) w
+
+    -- the same by how many bytes are done
+    pub texted-start : (from : ℕ) → Texted s from (from + 0) o out o out
+    texted-start from = subst (λ (i : ℕ). Texted s from i o out o out) (let e : from ≡ from + 0 = omega arith in e) (texted-none from)
+
+    pub texted-next : (from k r n : ℕ) (new1 new2 : List ℕ) → from + k < length s → Texted s from (from + k) o out r new1
+        → (n ≡ length (byteText (getD s (from + k) 0))) × (new2 ≡ sets new1 r (byteText (getD s (from + k) 0))) → Texted s from (from + (k + 1)) o out (r + n) new2
+    texted-next from k r n new1 new2 h a w =
+        subst (λ (i : ℕ). Texted s from i o out (r + n) new2) (let e : from + k + 1 ≡ from + (k + 1) = omega arith in e) go
+      where
+        go : Texted s from (from + k + 1) o out (r + n) new2
+        go = record {
+          size = rw (text-then from (from + k) (from + k + 1) (omega arith) (omega arith), text-one (from + k) h) (omega (arith, a .size, w .0, length-append (textOf s from (from + k)) (byteText (getD s (from + k) 0))));
+          stored = rw (text-then from (from + k) (from + k + 1) (omega arith) (omega arith), text-one (from + k) h)
+              (w .1 ∙ ap (λ (x : List ℕ). sets x r (byteText (getD s (from + k) 0))) (a .stored) ∙ sets-append (textOf s from (from + k)) (byteText (getD s (from + k) 0)) out o r (sym (a .size)));
+        }

@@ -9,7 +9,8 @@ use lib.ListN.{length, getD, take, drop}
 use lib.Seq.{sets}
 use Rattle.prelude.specs.Pick.{pick}
 use Rattle.units.specs.declared.styles.Style.the-variants.{Json}
-use Rattle.units.specs.Blocks.{Running}
+use Rattle.utf8.specs.Utf8.{tail}
+use Rattle.units.specs.Blocks.{Running, owed}
 use Rattle.units.specs.Written.{escapeByte}
 
 -- a byte of valid data in `""`: by its escape where it is a control, the quote or the backslash, or else as it is
@@ -41,3 +42,7 @@ pub record Fronted (s out : List ℕ) (at : ℕ) (new : List ℕ) : Type 0 where
 -- the same from one place to another, whatever stood in the buffer before
 abbrev pub Onward : List ℕ → ℕ → ℕ → List ℕ → List ℕ → Type 0
 Onward s from at out new = (o : List ℕ) → Fronted s o from out → Fronted s o at new
+
+-- how many bytes at a place belong to the character before it, if it has up to three
+abbrev pub owedAt : List ℕ → ℕ → ℕ
+owedAt s at = owed (tail (getD s at 0)) (tail (getD s (at + 1) 0))

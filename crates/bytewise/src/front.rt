@@ -1,11 +1,12 @@
 // The front of the data that stands as it is, stored behind the opening quote as it is tested, where the room is known to suffice.
-ghost use Prim.Native.Nat.{_+_, _≤_};
+ghost use Prim.Native.Nat.{_+_, _-_, _≤_};
 ghost use mathlib.Core.Path.{_≡_};
 ghost use lib.ListN.{length, take, drop};
 ghost use lib.Seq.{sets};
-ghost use Rattle.bytewise.specs.Bytewise.{Fronted, Onward};
+ghost use Rattle.bytewise.specs.Bytewise.{Fronted, Onward, owedAt};
 use crate::texts;
 use units::blocks;
+use units::threes;
 
 // Sixteen bytes behind a quote.
 fn put_sixteen(s: &[u8], at: usize, out: &mut [u8])
@@ -51,6 +52,53 @@ fn put_last(s: &[u8], at: usize, out: &mut [u8]) -> usize
     n
 }
 
+// Four to eight bytes of ASCII, by two fours that may overlap.
+fn put_fours(s: &[u8], out: &mut [u8]) -> usize
+    requires { ⌜ (4 ≤ length (now s)) × (length (now s) ≤ 8) × (length (now s) + 2 ≤ length (now out)) ⌝ }
+    ensures { λ r. ⌜ (r ≤ length (now (s .entry))) × Onward (now (s .entry)) 0 r (now (out .entry)) (now (out .exit)) ⌝ }
+{
+    let p = s.len() - 4;
+    if blocks::any_odd(34, s, 0, 4) | blocks::any_odd(34, s, p, 4) {
+        return 0;
+    }
+    texts::copy_four(s, 0, 1, out);
+    texts::copy_four(s, p, p + 1, out);
+    s.len()
+}
+
+// Eight to sixteen bytes of ASCII, by two eights that may overlap.
+fn put_eights(s: &[u8], out: &mut [u8]) -> usize
+    requires { ⌜ (8 ≤ length (now s)) × (length (now s) ≤ 16) × (length (now s) + 2 ≤ length (now out)) ⌝ }
+    ensures { λ r. ⌜ (r ≤ length (now (s .entry))) × Onward (now (s .entry)) 0 r (now (out .entry)) (now (out .exit)) ⌝ }
+{
+    let p = s.len() - 8;
+    if blocks::any_odd(34, s, 0, 8) | blocks::any_odd(34, s, p, 8) {
+        return 0;
+    }
+    texts::copy_eight(s, 0, 1, out);
+    texts::copy_eight(s, p, p + 1, out);
+    s.len()
+}
+
+// ASCII by blocks: a byte loop would be felt in short keys.
+fn put_ascii(s: &[u8], out: &mut [u8]) -> usize
+    requires { ⌜ length (now s) + 2 ≤ length (now out) ⌝ }
+    ensures { λ r. ⌜ (r ≤ length (now (s .entry))) × Onward (now (s .entry)) 0 r (now (out .entry)) (now (out .exit)) ⌝ }
+{
+    let n = s.len();
+    if n < 4 {
+        return 0;
+    }
+    if n < 8 {
+        return put_fours(s, out);
+    }
+    if n < 16 {
+        return put_eights(s, out);
+    }
+    let a = put_blocks(s, out);
+    put_last(s, a, out)
+}
+
 // Single bytes of ASCII.
 fn put_singles(s: &[u8], from: usize, out: &mut [u8]) -> usize
     requires { ⌜ (from ≤ length (now s)) × (length (now s) + 2 ≤ length (now out)) ⌝ }
@@ -68,13 +116,101 @@ fn put_singles(s: &[u8], from: usize, out: &mut [u8]) -> usize
     at
 }
 
+// The continuations at a place, up to two: they belong to the character before it.
+fn put_owed(s: &[u8], at: usize, out: &mut [u8]) -> usize
+    requires { ⌜ (at + 2 ≤ length (now s)) × (at + 3 ≤ length (now out)) ⌝ }
+    ensures { λ r. ⌜ (r ≡ at + owedAt (now (s .entry)) at) × (now (out .exit) ≡ sets (now (out .entry)) (at + 1) (take (owedAt (now (s .entry)) at) (drop at (now (s .entry))))) ⌝ }
+{
+    if !blocks::continues(s[at]) {
+        return at;
+    }
+    out[at + 1] = s[at];
+    if !blocks::continues(s[at + 1]) {
+        return at + 1;
+    }
+    out[at + 2] = s[at + 1];
+    at + 2
+}
+
+// Sixteen bytes and what belongs to the last of them.
+fn put_through(s: &[u8], at: usize, out: &mut [u8]) -> usize
+    requires { ⌜ (at + 18 ≤ length (now s)) × (at + 19 ≤ length (now out)) ⌝ }
+    ensures { λ r. ⌜ (r ≡ at + 16 + owedAt (now (s .entry)) (at + 16)) × (now (out .exit) ≡ sets (now (out .entry)) (at + 1) (take (r - at) (drop at (now (s .entry))))) ⌝ }
+{
+    put_sixteen(s, at, out);
+    put_owed(s, at + 16, out)
+}
+
+// Whole blocks of characters of up to three bytes; ASCII is cheaper, so it comes first.
+fn put_threes(s: &[u8], from: usize, out: &mut [u8]) -> usize
+    requires { ⌜ (from ≤ length (now s)) × (length (now s) + 2 ≤ length (now out)) ⌝ }
+    ensures { λ r. ⌜ (r ≤ length (now (s .entry))) × Onward (now (s .entry)) from r (now (out .entry)) (now (out .exit)) ⌝ }
+{
+    let mut at = from;
+    while 18 <= s.len() - at {
+        if !blocks::any_odd(34, s, at, 16) {
+            put_sixteen(s, at, out);
+            at += 16;
+            continue;
+        }
+        if !threes::begins(s[at], s[at + 1]) {
+            return at;
+        }
+        if threes::any_odd_three(34, s, at) {
+            return at;
+        }
+        at = put_through(s, at, out);
+    }
+    at
+}
+
+// Where less than a block is left, the last block of the data, though part of it is stored already.
+fn put_last_threes(s: &[u8], at: usize, out: &mut [u8]) -> usize
+    requires { ⌜ (at ≤ length (now s)) × (length (now s) + 2 ≤ length (now out)) ⌝ }
+    ensures { λ r. ⌜ (r ≤ length (now (s .entry))) × Onward (now (s .entry)) at r (now (out .entry)) (now (out .exit)) ⌝ }
+{
+    let n = s.len();
+    if n < 18 {
+        return at;
+    }
+    if 18 <= n - at {
+        return at;
+    }
+    if n - at < 3 {
+        return at;
+    }
+    if !threes::begins(s[at], s[at + 1]) {
+        return at;
+    }
+    if threes::any_odd_three(34, s, n - 18) {
+        return at;
+    }
+    put_through(s, n - 18, out)
+}
+
+// From a byte that isn't ASCII on, as far as characters have up to three bytes.
+fn put_wide(s: &[u8], from: usize, out: &mut [u8]) -> usize
+    requires { ⌜ (from ≤ length (now s)) × (length (now s) + 2 ≤ length (now out)) ⌝ }
+    ensures { λ r. ⌜ (r ≤ length (now (s .entry))) × Onward (now (s .entry)) from r (now (out .entry)) (now (out .exit)) ⌝ }
+{
+    if from == s.len() {
+        return from;
+    }
+    if s[from] < 128 {
+        return from;
+    }
+    let a = put_threes(s, from, out);
+    let b = put_last_threes(s, a, out);
+    put_singles(s, b, out)
+}
+
 // The opening quote and the front; the place of the first byte that isn't stored.
 pub fn put_front(s: &[u8], out: &mut [u8]) -> usize
     requires { ⌜ length (now s) + 2 ≤ length (now out) ⌝ }
     ensures { λ r. ⌜ Fronted (now (s .entry)) (now (out .entry)) r (now (out .exit)) ⌝ }
 {
     out[0] = 34;
-    let a = put_blocks(s, out);
-    let b = put_last(s, a, out);
-    put_singles(s, b, out)
+    let a = put_ascii(s, out);
+    let b = put_singles(s, a, out);
+    put_wide(s, b, out)
 }

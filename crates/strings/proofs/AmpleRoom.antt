@@ -17,7 +17,7 @@ use Rattle.strings.specs.Write.{writeUnits, quoted, writeString, Passed}
 use Rattle.bytewise.specs.Bytewise.{bytesText, textOf, Texted, Fronted}
 use Rattle.strings.proofs.Lengths.{quoted-length, quoted-least}
 use Rattle.strings.proofs.Runs.{write-run}
-use Rattle.bytewise.proofs.Fronts.{sets-again}
+use Rattle.bytewise.proofs.Fronts.{sets-again, front-none}
 use Rattle.strings.proofs.ValidTexts.{bytewise}
 use Rattle.strings.proofs.Writing.{valid-text, other-text, finished, literal-part}
 
@@ -83,3 +83,9 @@ module _ (s o : List ℕ) (at room : ℕ) (out : List ℕ) (f : Fronted s o at o
         answer = p .answer;
         stored = λ h. p .stored h ∙ ap (λ (x : List ℕ). sets x 0 (quoted Bytes s)) (f .stored) ∙ sets-again (34 ∷ take at s) (quoted Bytes s) o 0 n;
       })
+
+-- valid data with nothing stored but the quote
+pub valid-text-all : (s o : List ℕ) (room r : ℕ) (out2 : List ℕ) → validUtf8 s ≡ true → 6 * length s + 2 ≤ room → Texted s 0 (length s) 1 (set o 0 34) r out2
+    → Passed (writeString s) room (r + 1) o (set out2 r 34)
+valid-text-all s o room r out2 e h w =
+    valid-text-behind s o 0 room (set o 0 34) (front-none s o) (sym (ap validUtf8 (rest s o 0 room (set o 0 34) (front-none s o)) ∙ e)) r out2 h w

@@ -128,10 +128,13 @@ fn write_tight(t: &[u8; 256], s: &[u8], room: usize, out: &mut [u8]) -> usize
 fn ample(n: usize, room: usize, buffer: usize) -> bool
     ensures { λ r. ⌜ (r ≡ true → (6 * n + 2 ≤ room) × (room ≤ buffer)) ⌝ }
 {
-    if room / 8 <= n {
+    if buffer < room {
         return false;
     }
-    room <= buffer
+    if room < 2 {
+        return false;
+    }
+    n <= (room - 2) / 6
 }
 
 // The same in an ample room, where the front of the data is stored already.
@@ -140,7 +143,7 @@ fn write_behind(t: &[u8; 256], s: &[u8], at: usize, room: usize, out: &mut [u8])
     ensures { λ r. ⌜ ((o : List ℕ) → Fronted (now (s .entry)) o at (now (out .entry)) → Passed (writeString (now (s .entry))) room r o (now (out .exit))) ⌝ }
 {
     if chars::valid_in(t, &s[at..]) {
-        let o = texts::put_rest(s, at, at + 1, out);
+        let o = texts::put_rest(t, s, at, at + 1, out);
         out[o] = 34;
         return o + 1;
     }
@@ -212,6 +215,21 @@ fn write_literal(s: &[u8], out: &mut [u8]) -> Written
     Written::Wrote(n + 2)
 }
 
+// The text of valid data. In an ample room it is stored byte by byte, and nothing is measured.
+fn write_valid(t: &[u8; 256], s: &[u8], out: &mut [u8]) -> Written
+    requires { ⌜ IsTable (now t) × (validUtf8 (now s) ≡ true) ⌝ }
+    ensures answer { λ r. ⌜ r ≡ writtenIn (length (now (out .entry))) (writeString (now (s .entry))) ⌝ }
+    ensures stored { λ r. ⌜ now (out .exit) ≡ wroteInto (writeString (now (s .entry))) (now (out .entry)) ⌝ }
+{
+    if !ample(s.len(), out.len(), out.len()) {
+        return write_quoted(t, Style::Json, s, out);
+    }
+    out[0] = 34;
+    let o = texts::put_rest(t, s, 0, 1, out);
+    out[o] = 34;
+    Written::Wrote(o + 1)
+}
+
 // The same where the bytes before a place are known to be literal characters. What is one run of them is valid UTF-8 so far.
 fn write_from(s: &[u8], at: usize, out: &mut [u8]) -> Written
     requires { ⌜ Running Json (now s) 0 at ⌝ }
@@ -224,7 +242,7 @@ fn write_from(s: &[u8], at: usize, out: &mut [u8]) -> Written
         return write_literal(s, out);
     }
     if chars::valid_in(&t, &s[e..]) {
-        return write_quoted(&t, Style::Json, s, out);
+        return write_valid(&t, s, out);
     }
     write_quoted(&t, Style::Bytes, s, out)
 }

@@ -22,15 +22,15 @@ use Rattle.units.specs.Units.{literalLen}
 use Rattle.units.specs.Blocks.{Running, Alone, Paired, AllAlone, AllPaired, taken}
 use Rattle.units.proofs.LiteralRuns.{here, moved}
 
-or-left : (a b : Bool) → a || b ≡ false → a ≡ false
+pub or-left : (a b : Bool) → a || b ≡ false → a ≡ false
 or-left true b e = e
 or-left false b e = refl
 
-or-right : (a b : Bool) → a || b ≡ false → b ≡ false
+pub or-right : (a b : Bool) → a || b ≡ false → b ≡ false
 or-right true b e = let z : _≡_ {A = Bool} true false = e in cc
 or-right false b e = e
 
-same-test : (a b : Bool) → not (Bool·beq a b) ≡ false → a ≡ b
+pub same-test : (a b : Bool) → not (Bool·beq a b) ≡ false → a ≡ b
 same-test true true e = refl
 same-test true false e = e
 same-test false true e = sym e
@@ -87,13 +87,13 @@ pub least-some : (n a b : ℕ) → (a ≤ b → n ≡ a) → (b ≤ a → n ≡ 
 least-some n a b f g h i =
     split (leb a b) (λ e. omega (arith, f (leb-true a b e))) (λ e. let l : b < a = leb-false a b e in omega (arith, g (omega arith)))
 
-tail-ascii : (b : ℕ) → b < 0x80 → tail b ≡ false
+pub tail-ascii : (b : ℕ) → b < 0x80 → tail b ≡ false
 tail-ascii b h = rw (lt-leb 0x80 b h) refl
 
-tail-is : (b : ℕ) → 0x80 ≤ b → b < 0xc0 → tail b ≡ true
+pub tail-is : (b : ℕ) → 0x80 ≤ b → b < 0xc0 → tail b ≡ true
 tail-is b h g = rw (le-leb 0x80 b h) (le-leb b 0xbf (omega arith))
 
-tail-lead : (b : ℕ) → 0xc0 ≤ b → tail b ≡ false
+pub tail-lead : (b : ℕ) → 0xc0 ≤ b → tail b ≡ false
 tail-lead b h = rw (le-leb 0x80 b (omega arith)) (lt-leb b 0xbf (omega arith))
 
 class-two : (b : ℕ) → 0xc2 ≤ b → b < 0xe0 → classOf b ≡ 6
@@ -110,12 +110,12 @@ class-two b h g =
       lt-ltb b 0xe0 g,
     )
 
-two-len : (b : ℕ) (r : List ℕ) → 0xc2 ≤ b → b < 0xe0 → tail (getD r 0 0) ≡ true → charLen (b ∷ r) ≡ 2
+pub two-len : (b : ℕ) (r : List ℕ) → 0xc2 ≤ b → b < 0xe0 → tail (getD r 0 0) ≡ true → charLen (b ∷ r) ≡ 2
 unfolding charLen lenBy longLen twoBytes pick
 two-len b r h g e = rw (class-two b h g, e) refl
 
 module _ (st : Style) (s : List ℕ) where
-  char-at : (at : ℕ) → at < length s → 32 ≤ getD s at 0 → (getD s at 0 ≡ 92 → ⊥) → (getD s at 0 ≡ quote st → ⊥)
+  pub char-at : (at : ℕ) → at < length s → 32 ≤ getD s at 0 → (getD s at 0 ≡ 92 → ⊥) → (getD s at 0 ≡ quote st → ⊥)
       → charLen (getD s at 0 ∷ drop (suc at) s) ≡ literalLen st (drop at s)
   unfolding literalLen pick
   char-at at h p b q = rw (drop-cons s at 0 h) (simp (ne-eqb _ _ q, ne-eqb _ _ b, le-ltb _ _ p))

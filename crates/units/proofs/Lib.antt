@@ -8,6 +8,7 @@ pub mod LiteralLaws
 pub mod LiteralRuns
 pub mod OneCharacter
 pub mod Sizes
+pub mod ThreeBytes
 pub mod UnitLaws
 pub mod WrittenBack
 pub mod WrittenUnits

@@ -4,5 +4,6 @@ pub mod escapes;
 pub mod hex;
 pub mod literals;
 pub mod styles;
+pub mod threes;
 pub mod units;
 pub mod written;

@@ -12,33 +12,33 @@ use Rattle.bytewise.proofs.Fronts.{front-none}
 slice-write-out : tie.Need-slice-write-out
 slice-write-out c = search needs
 
-put-blocks-requires : tie.Need-put-blocks-requires
-put-blocks-requires c κs =
+put-ascii-requires : tie.Need-put-ascii-requires
+put-ascii-requires c κs =
     simp length-set (c .before .before .before .pre)
-
-put-last-requires : tie.Need-put-last-requires
-put-last-requires c κs =
-    (c .before .before .before .put-blocks .ensures .0, omega (arith, c .before .before .before .before .before .before .before .pre, c .before .before .before .put-blocks .kept .1 .0, length-set (now (c .before .before .before .before .before .before .before .args .out)) 0 34))
 
 put-singles-requires : tie.Need-put-singles-requires
 put-singles-requires c κs =
-    (c .before .before .before .put-last .ensures .0, omega (arith, c .before .before .before .before .before .before .before .before .before .before .before .pre, c .before .before .before .before .before .before .before .put-blocks .kept .1 .0, c .before .before .before .put-last .kept .1 .1 .0, length-set (now (c .before .before .before .before .before .before .before .before .before .before .before .args .out)) 0 34))
+    (c .before .before .before .put-ascii .ensures .0, omega (arith, c .before .before .before .before .before .before .before .pre, c .before .before .before .put-ascii .kept .1 .0, length-set (now (c .before .before .before .before .before .before .before .args .out)) 0 34))
+
+put-wide-requires : tie.Need-put-wide-requires
+put-wide-requires c κs =
+    (c .before .before .before .put-singles .ensures .0, omega (arith, c .before .before .before .before .before .before .before .before .before .before .before .pre, c .before .before .before .before .before .before .before .put-ascii .kept .1 .0, c .before .before .before .put-singles .kept .1 .1 .0, length-set (now (c .before .before .before .before .before .before .before .before .before .before .before .args .out)) 0 34))
 
 same-length : tie.Need-same-length
 same-length c =
-    c .before .before .put-singles .kept .1 .1 .0 ∙ c .before .before .before .before .before .before .put-last .kept .1 .1 .0 ∙ c .before .before .before .before .before .before .before .before .before .before .put-blocks .kept .1 .0 ∙ length-set (now (c .before .before .before .before .before .before .before .before .before .before .before .before .before .before .args .out)) 0 34
+    c .before .before .put-wide .kept .1 .1 .0 ∙ c .before .before .before .before .before .before .put-singles .kept .1 .1 .0 ∙ c .before .before .before .before .before .before .before .before .before .before .put-ascii .kept .1 .0 ∙ length-set (now (c .before .before .before .before .before .before .before .before .before .before .before .before .before .before .args .out)) 0 34
 
 returns : tie.Need-returns
 returns c =
-    c .before .before .put-singles .ensures .1 _ (c .before .before .before .before .before .before .put-last .ensures .1 _ (c .before .before .before .before .before .before .before .before .before .before .put-blocks .ensures .1 _ (front-none _ (now (c .before .before .before .before .before .before .before .before .before .before .before .before .before .before .args .out)))))
+    c .before .before .put-wide .ensures .1 _ (c .before .before .before .before .before .before .put-singles .ensures .1 _ (c .before .before .before .before .before .before .before .before .before .before .put-ascii .ensures .1 _ (front-none _ (now (c .before .before .before .before .before .before .before .before .before .before .before .before .before .before .args .out)))))
 
 pub put-front-spec : {M : Type 1} → statement M
 put-front-spec =
     tie.close
     (tie.spec
     slice-write-out
-    put-blocks-requires
-    put-last-requires
+    put-ascii-requires
     put-singles-requires
+    put-wide-requires
     same-length
     returns)

@@ -4,36 +4,37 @@ use Rattle.bytewise.proofs.texts.put_texts.Statement.{statement}
 use Rattle.bytewise.proofs.texts.put_texts.Tie as tie
 use native.Mathlib.Omega.{arith}
 use Prim.Native.Nat.{_-_, _≤_}
+use lib.ListN.{length}
 use Rattle.bytewise.specs.Bytewise.{Texted}
 use Rattle.bytewise.proofs.ByteTexts.{texted-none, texted-one, texted-then, texted-length, texted-bound, texted-end, within-six}
 
 abbrev Inv-loop : tie.InvT-loop
-Inv-loop s from end start out₀ at₀ o₀ out at o =
-    (from ≤ at) × (at ≤ end) × Texted s from at start out₀ o out
+Inv-loop t s from start out₀ at₀ o₀ out at o =
+    (from ≤ at) × (at ≤ length s) × Texted s from at start out₀ o out
 
 abbrev μ-loop : tie.MeasureT-loop
-μ-loop s from end start out₀ at₀ o₀ out at o =
-    end - at
+μ-loop t s from start out₀ at₀ o₀ out at o =
+    length s - at
 
 loop-holds : tie.Need-loop-holds Inv-loop μ-loop
 loop-holds c =
-    (omega arith, omega (arith, c .before .before .pre), texted-none _ _ _ _)
+    (omega arith, omega (arith, c .before .before .pre .1), texted-none _ _ _ _)
 
 shared-slice-read-put-text : tie.Need-shared-slice-read-put-text Inv-loop μ-loop
 shared-slice-read-put-text c =
-    omega (arith, c .before .before .before .before .before .pre)
+    omega (arith, c .before .before .before .before .before .pre .1)
 
 put-text-requires : tie.Need-put-text-requires Inv-loop μ-loop
 put-text-requires c κs =
-    omega (arith, c .before .before .before .before .before .before .pre, texted-bound _ _ _ _ _ _ _ (c .before .before .before .loop .inv .2), texted-length _ _ _ _ _ _ _ (c .before .before .before .loop .inv .2))
+    (c .before .before .before .before .before .before .pre .0, omega (arith, c .before .before .before .before .before .before .pre .1, texted-bound _ _ _ _ _ _ _ (c .before .before .before .loop .inv .2), texted-length _ _ _ _ _ _ _ (c .before .before .before .loop .inv .2)))
 
 add-at : tie.Need-add-at Inv-loop μ-loop
 add-at c =
-    omega (arith, c .before .before .before .before .before .before .before .before .before .pre)
+    omega (arith, c .before .before .before .before .before .before .before .before .before .pre .1)
 
 add-o : tie.Need-add-o Inv-loop μ-loop
 add-o c =
-    omega (arith, c .before .before .before .before .before .before .before .before .before .pre, texted-bound _ _ _ _ _ _ _ (c .before .before .before .before .before .before .loop .inv .2), texted-length _ _ _ _ _ _ _ (c .before .before .before .before .before .before .loop .inv .2), within-six _ _ (c .before .before .put-text .ensures .0))
+    omega (arith, c .before .before .before .before .before .before .before .before .before .pre .1, texted-bound _ _ _ _ _ _ _ (c .before .before .before .before .before .before .loop .inv .2), texted-length _ _ _ _ _ _ _ (c .before .before .before .before .before .before .loop .inv .2), within-six _ _ (c .before .before .put-text .ensures .0))
 
 loop-less : tie.Need-loop-less Inv-loop μ-loop
 loop-less c =
@@ -41,7 +42,7 @@ loop-less c =
 
 loop-again : tie.Need-loop-again Inv-loop μ-loop
 loop-again c =
-    (omega arith, omega arith, texted-then _ _ _ _ _ _ _ _ _ _ (c .before .before .before .before .before .before .loop .inv .0) (omega arith) (c .before .before .before .before .before .before .loop .inv .2) (texted-one _ _ _ _ _ _ (omega (arith, c .before .before .before .before .before .before .before .before .before .pre)) (c .before .before .put-text .ensures)))
+    (omega arith, omega arith, texted-then _ _ _ _ _ _ _ _ _ _ (c .before .before .before .before .before .before .loop .inv .0) (omega arith) (c .before .before .before .before .before .before .loop .inv .2) (texted-one _ _ _ _ _ _ (omega (arith, c .before .before .before .before .before .before .before .before .before .pre .1)) (c .before .before .put-text .ensures)))
 
 same-length : tie.Need-same-length Inv-loop μ-loop
 same-length c =

@@ -1,16 +1,16 @@
--- The definition's choice, by the test.
+-- The shift, computed for each class (ByteTexts).
 -- Assumes nothing.
+use borrow.Author.Needs.{needs}
 use Rattle.bytewise.proofs.texts.slashes.Statement.{statement}
 use Rattle.bytewise.proofs.texts.slashes.Tie as tie
-use Rattle.prelude.proofs.Picks.{picks}
+use Rattle.bytewise.proofs.ByteTexts.{slash-shift}
+
+shr-result : tie.Need-shr-result
+shr-result c = search needs
 
 returns : tie.Need-returns
 returns c =
-    search picks
-
-returns-2 : tie.Need-returns-2
-returns-2 c =
-    search picks
+    slash-shift _ (c .pre)
 
 pub slashes-spec : {M : Type 1} → statement M
-slashes-spec = tie.close (tie.spec returns returns-2)
+slashes-spec = tie.close (tie.spec shr-result returns)

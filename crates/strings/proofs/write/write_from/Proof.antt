@@ -48,25 +48,25 @@ valid-in-requires : tie.Need-valid-in-requires
 valid-in-requires c κs =
     c .before .before .before .before .before .table .ensures
 
-write-quoted-requires : tie.Need-write-quoted-requires
-write-quoted-requires c κs = search needs
+write-valid-requires : tie.Need-write-valid-requires
+write-valid-requires c κs =
+    (c .before .before .before .before .before .before .before .before .before .table .ensures, sym (valid-behind _ _ _ _ (c .before .before .before .before .before .before .before .before .before .before .before .before .pre) (c .before .before .before .before .before .before .before .literal-run .ensures) (c .before .before .before .valid-in .ensures)) ∙ c .before .before .if2 .taken)
 
 same-length-2 : tie.Need-same-length-2
 same-length-2 c = search needs
 
 returns-2 : tie.Need-returns-2
-returns-2 c =
-    valid-form (now (c .before .before .before .before .before .before .before .before .before .before .before .before .before .before .before .args .s)) _ (now (c .before .before .before .before .before .before .before .before .before .before .before .before .before .before .before .args .out)) _ (sym (valid-behind _ _ _ _ (c .before .before .before .before .before .before .before .before .before .before .before .before .before .before .before .pre) (c .before .before .before .before .before .before .before .before .before .before .literal-run .ensures) (c .before .before .before .before .before .before .valid-in .ensures)) ∙ c .before .before .before .before .before .if2 .taken) (c .before .before .write-quoted .ensures)
+returns-2 c = search needs
 
-write-quoted-requires-2 : tie.Need-write-quoted-requires-2
-write-quoted-requires-2 c κs = search needs
+write-quoted-requires : tie.Need-write-quoted-requires
+write-quoted-requires c κs = search needs
 
 same-length-3 : tie.Need-same-length-3
 same-length-3 c = search needs
 
 returns-3 : tie.Need-returns-3
 returns-3 c =
-    other-form (now (c .before .before .before .before .before .before .before .before .before .before .before .before .before .before .before .args .s)) _ (now (c .before .before .before .before .before .before .before .before .before .before .before .before .before .before .before .args .out)) _ (sym (valid-behind _ _ _ _ (c .before .before .before .before .before .before .before .before .before .before .before .before .before .before .before .pre) (c .before .before .before .before .before .before .before .before .before .before .literal-run .ensures) (c .before .before .before .before .before .before .valid-in .ensures)) ∙ c .before .before .before .before .before .if2 .left) (c .before .before .write-quoted2 .ensures)
+    other-form (now (c .before .before .before .before .before .before .before .before .before .before .before .before .before .before .before .args .s)) _ (now (c .before .before .before .before .before .before .before .before .before .before .before .before .before .before .before .args .out)) _ (sym (valid-behind _ _ _ _ (c .before .before .before .before .before .before .before .before .before .before .before .before .before .before .before .pre) (c .before .before .before .before .before .before .before .before .before .before .literal-run .ensures) (c .before .before .before .before .before .before .valid-in .ensures)) ∙ c .before .before .before .before .before .if2 .left) (c .before .before .write-quoted .ensures)
 
 pub write-from-spec : {M : Type 1} → statement M
 write-from-spec =
@@ -81,9 +81,9 @@ write-from-spec =
     part-valid-in-start
     part-valid-in-end
     valid-in-requires
-    write-quoted-requires
+    write-valid-requires
     same-length-2
     returns-2
-    write-quoted-requires-2
+    write-quoted-requires
     same-length-3
     returns-3)

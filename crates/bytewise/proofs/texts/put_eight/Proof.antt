@@ -1,0 +1,73 @@
+-- The invariant: the text of the first k bytes is stored (ByteTexts).
+-- Assumes nothing.
+use Rattle.bytewise.proofs.texts.put_eight.Statement.{statement}
+use Rattle.bytewise.proofs.texts.put_eight.Tie as tie
+use native.Mathlib.Omega.{arith}
+use Prim.Native.Nat.{_+_, _-_, _≤_}
+use Rattle.bytewise.specs.Bytewise.{Texted}
+use Rattle.bytewise.proofs.ByteTexts.{texted-start, texted-next, texted-length, texted-bound, texted-end, within-six}
+
+abbrev Inv-loop : tie.InvT-loop
+Inv-loop t s from start out₀ k₀ o₀ out k o =
+    (k ≤ 8) × Texted s from (from + k) start out₀ o out
+
+abbrev μ-loop : tie.MeasureT-loop
+μ-loop t s from start out₀ k₀ o₀ out k o =
+    8 - k
+
+loop-holds : tie.Need-loop-holds Inv-loop μ-loop
+loop-holds c =
+    (omega arith, texted-start _ _ _ _)
+
+add-put-text : tie.Need-add-put-text Inv-loop μ-loop
+add-put-text c =
+    omega (arith, c .before .before .before .before .pre .1)
+
+shared-slice-read-put-text : tie.Need-shared-slice-read-put-text Inv-loop μ-loop
+shared-slice-read-put-text c =
+    omega (arith, c .before .before .before .before .before .pre .1)
+
+put-text-requires : tie.Need-put-text-requires Inv-loop μ-loop
+put-text-requires c κs =
+    (c .before .before .before .before .before .before .pre .0, omega (arith, c .before .before .before .before .before .before .pre .1, texted-bound _ _ _ _ _ _ _ (c .before .before .before .loop .inv .1), texted-length _ _ _ _ _ _ _ (c .before .before .before .loop .inv .1)))
+
+add-k : tie.Need-add-k Inv-loop μ-loop
+add-k c =
+    omega arith
+
+add-o : tie.Need-add-o Inv-loop μ-loop
+add-o c =
+    omega (arith, c .before .before .before .before .before .before .before .before .before .pre .1, texted-bound _ _ _ _ _ _ _ (c .before .before .before .before .before .before .loop .inv .1), texted-length _ _ _ _ _ _ _ (c .before .before .before .before .before .before .loop .inv .1), within-six _ _ (c .before .before .put-text .ensures .0))
+
+loop-less : tie.Need-loop-less Inv-loop μ-loop
+loop-less c =
+    omega arith
+
+loop-again : tie.Need-loop-again Inv-loop μ-loop
+loop-again c =
+    (omega arith, texted-next _ _ _ _ _ _ _ _ _ (omega (arith, c .before .before .before .before .before .before .before .before .before .pre .1)) (c .before .before .before .before .before .before .loop .inv .1) (c .before .before .put-text .ensures))
+
+same-length : tie.Need-same-length Inv-loop μ-loop
+same-length c =
+    texted-length _ _ _ _ _ _ _ (c .before .loop .inv .1)
+
+returns : tie.Need-returns Inv-loop μ-loop
+returns c =
+    texted-end _ _ _ _ _ _ _ _ (omega (arith, c .before .loop .inv .0)) (omega arith) (c .before .loop .inv .1)
+
+pub put-eight-spec : {M : Type 1} → statement M
+put-eight-spec =
+    tie.close
+    (tie.spec
+    Inv-loop
+    μ-loop
+    loop-holds
+    add-put-text
+    shared-slice-read-put-text
+    put-text-requires
+    add-k
+    add-o
+    loop-less
+    loop-again
+    same-length
+    returns)
