@@ -2,7 +2,7 @@
 //! state, left alone or drained, and calls on states made by hand.
 
 use crate::run::{difference, hex, lend, room, Entry, Outcome, Run};
-use crate::sides::{as_answer, as_state, call_reference};
+use crate::sides::{as_answer, as_state};
 use j8::raw::{self, j8_fed, j8_upload};
 use j8_inputs::damaged::family;
 use j8_inputs::random::Random;
@@ -72,6 +72,28 @@ pub const STATES: Entry = Entry {
 };
 
 const TEMPTING: &[u8] = b"\n\n\n\"'\\uby{} \t\r#0fd\x00\x1f\x7f\x80\xc3\xe2\xed\xff";
+
+/// A call of the reference on any state.
+fn call_reference(state: j8_upload, call: Call, line: &mut [u8], out: &mut [u8]) -> j8_fed {
+    let upload = Upload {
+        taken: state.taken,
+        lfs: state.lfs,
+        held: state.held,
+        used: state.used,
+        ended: state.ended != 0,
+        refusal: state.refusal,
+        line: state.line,
+        place: state.place,
+    };
+    let (upload, answer) = match call {
+        Call::Feed(piece) => upload.feed(piece, line, out),
+        Call::Finish => upload.finish(line, out),
+    };
+    j8_fed {
+        upload: as_state(upload),
+        answer: as_answer(answer),
+    }
+}
 
 /// The two buffers of an upload, as each side has them.
 struct Buffers {
