@@ -1,6 +1,6 @@
 #!/usr/bin/env bash
 # Damages a copy of the reference, of the layer over the C functions or of a generator in one place, and sees that the comparison
-# finds it. A comparison that can't fail would show nothing. Each line below: what, file, entry, what must be printed, sed's edit.
+# finds it; the same for the load test. A test that can't fail would show nothing. Arguments: only the faults whose entry is one of them.
 set -u
 cd "$(dirname "$0")/../.." || exit 1
 folder=target/faults
@@ -11,11 +11,15 @@ mkdir "$folder/rust"
 cp -r rust/Cargo.toml rust/Cargo.lock rust/build.rs rust/README.md rust/src rust/examples rust/reference rust/inputs rust/compare "$folder/rust/"
 export J8_LIB_DIR=$lib CARGO_TARGET_DIR=$PWD/$folder/target
 
+only=("$@")
 found=0 missed=0
 
-# try WHAT FILE ENTRY PRINTED EDIT [SECONDS]
+# try WHAT FILE ENTRY PRINTED EDIT [SECONDS]: EDIT is for sed, PRINTED what must be said of it.
 try() {
   local what=$1 file=$folder/rust/$2 entry=$3 printed=$4 edit=$5 log=$folder/log
+  local command=("$CARGO_TARGET_DIR/release/compare" "$entry")
+  [ "$entry" = load ] && command=("$CARGO_TARGET_DIR/release/load")
+  [ ${#only[@]} -eq 0 ] || [[ " ${only[*]} " == *" $entry "* ]] || return
   cp "$file" "$folder/whole"
   sed -i -E "$edit" "$file"
   if cmp -s "$file" "$folder/whole"; then
@@ -23,9 +27,11 @@ try() {
     missed=$((missed + 1))
     return
   fi
-  (cd "$folder/rust" && cargo build --offline --release --quiet -p j8-compare) || { echo "NO BUILD: $what"; missed=$((missed + 1)); cp "$folder/whole" "$file"; return; }
-  if ! J8_SECONDS=${6:-3} "$CARGO_TARGET_DIR/release/compare" "$entry" >"$log" 2>&1 && grep -q -- "$printed" "$log"; then
-    echo "found: $what ($entry, $(grep -m 1 -oE 'case [0-9]+|never .*|signal: [0-9]+' "$log"))"
+  if ! (cd "$folder/rust" && cargo build --offline --release --quiet -p j8-compare); then
+    echo "NO BUILD: $what"
+    missed=$((missed + 1))
+  elif ! J8_SECONDS=${6:-3} "${command[@]}" >"$log" 2>&1 && grep -q -- "$printed" "$log"; then
+    echo "found: $what ($entry, $(grep -m 1 -oE 'case [0-9]+|never .*|signal: [0-9]+|upload [0-9]+|grown .*' "$log"))"
     found=$((found + 1))
   else
     echo "MISSED: $what ($entry)"
@@ -59,13 +65,17 @@ try 'a false count of members' reference/src/json8/write.rs json8_write "$mismat
 try 'a byte behind the room written' src/raw.rs string_write "$mismatch" 's/^(pub fn string_write\(.*\{)$/\1 unsafe { out.as_mut_ptr().add(out.len()).write(0xa5) };/'
 try 'a byte before the line buffer written' src/raw.rs upload "$mismatch" 's/^(pub fn upload_feed\(.*\{)$/\1 unsafe { line.as_mut_ptr().sub(1).write(0xa5) };/'
 try 'the last byte of a store written' src/raw.rs json8_read "$mismatch" 's/^(pub fn json8_read\(.*\{)$/\1 if let Some(last) = store.last_mut() { *last ^= 1; }/'
-try 'the text of a table written' src/raw.rs json8_write "$mismatch" 's/^(pub fn json8_write\(.*\{)$/\1 if !text.is_empty() { unsafe { text.as_ptr().cast_mut().write(0xa5) } };/'
-try 'the number behind a table written' src/raw.rs json8_show "$mismatch" 's/^(pub fn json8_show\(.*\{)$/\1 unsafe { table.as_ptr().cast_mut().add(table.len()).write(5) };/'
+try 'the text of a table written' src/raw.rs json8_write "$mismatch" 's/^(pub fn json8_write\(.*\{)$/\1 if !text.is_empty() { unsafe { std::hint::black_box(text.as_ptr().cast_mut()).write(0xa5) } };/'
+try 'the number behind a table written' src/raw.rs json8_show "$mismatch" 's/^(pub fn json8_show\(.*\{)$/\1 unsafe { std::hint::black_box(table.as_ptr().cast_mut()).add(table.len()).write(5) };/'
+try 'a byte of a text written' src/raw.rs string_read "$mismatch" 's/^(pub fn string_read\(.*\{)$/\1 if let [.., last] = text { unsafe { std::hint::black_box(std::ptr::from_ref(last).cast_mut()).write(0xa5) } };/'
+try 'a byte behind a piece written' src/raw.rs upload_states "$mismatch" 's/^(pub fn upload_feed\(.*\{)$/\1 unsafe { std::hint::black_box(piece.as_ptr().cast_mut()).add(piece.len()).write(0xa5) };/'
 try 'a fresh upload that is ended' src/raw.rs upload "$mismatch" 's/unsafe \{ j8_upload_fresh\(\) \}/j8_upload { ended: 1, ..unsafe { j8_upload_fresh() } }/'
 try 'a finish that keeps a held byte' src/raw.rs upload "$mismatch" 's/^(pub fn upload_finish\()upload(: .*\{)$/\1mut upload\2 upload.held = upload.held.saturating_sub(1);/'
 try 'a crash' src/raw.rs lines_write 'compare --replay lines_write 1 ' 's/^(pub fn lines_write\(.*\{)$/\1 if records.len() == 77 { std::process::abort() };/'
 # Of the generators: one that no longer reaches something. It takes a whole run to be sure.
 try 'no upload about the limit made' inputs/src/lines.rs upload 'upload_feed never answered 17' 's/once_in\(600\)/once_in(1 << 31)/' 20
+try 'an upload that is never freed' compare/src/load.rs load 'load: FAILED' 's/drop\(\(text, line, output, upload\)\)/drop((text, line, output)); std::mem::forget(upload)/'
+try 'a record that is lost' src/raw.rs load '^WRONG' 's/^(pub fn upload_finish\()upload(: .*\{)$/\1mut upload\2 upload.held = 0;/'
 
 echo "faults: $found found, $missed not"
 [ "$missed" -eq 0 ]

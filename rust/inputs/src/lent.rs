@@ -78,9 +78,12 @@ impl<T: Item> Lent<T> {
 
     /// Whether the part holds just these and the margins are the pattern.
     pub fn is(&self, items: &[T]) -> bool {
-        self.items() == items
-            && self.is_pattern(0..self.before)
-            && self.is_pattern(self.whole.len() - MARGIN..self.whole.len())
+        // A part that is only read was lent as such, and the compiler may take it that
+        // nothing has changed. So it is told to look again.
+        let now = std::hint::black_box(self);
+        now.items() == items
+            && now.is_pattern(0..now.before)
+            && now.is_pattern(now.whole.len() - MARGIN..now.whole.len())
     }
 
     fn is_pattern(&self, mut places: std::ops::Range<usize>) -> bool {
