@@ -124,15 +124,13 @@ impl Buffers {
             Call::Finish => ("upload_finish", "upload_finish, kept", &[][..]),
         };
         let lent = lend(random, piece);
-        // The buffers as they were, for a message. A long output is told in full only
-        // as far as it is used: behind that it is the pattern.
-        let line_before = self.theirs.0.items()[..line_room].to_vec();
-        let held = state.held.min(line_room);
+        // The line held as it was, for a message; nothing else of the buffers is read.
+        let held = self.theirs.0.items()[..state.held.min(line_room)].to_vec();
         let what = || {
             format!(
                 "{function} {} on {state:?}, line buffer of {line_room} that begins {}, output of {out_room}",
                 hex(piece),
-                hex(&line_before[..held])
+                hex(&held)
             )
         };
         run.before(what);
@@ -225,29 +223,24 @@ fn calls(random: &mut Random, run: &mut Run) -> Outcome {
     let (mut state, mut handed) = (fresh, Vec::new());
     let (mut done, mut last) = (Vec::new(), None);
     for &call in &list {
+        let mut rooms = (line_room, out_room);
         if random.once_in(20) {
-            // Unfit now and then: it changes nothing.
+            // Unfit now and then, by a short line buffer or a short output.
             let short = random.pick(&[0, 1, LINE_MAX - 1]);
-            let (line_room, less) = match random.below(2) {
-                0 => (short, out_room),
-                _ => (line_room, state.used.saturating_sub(1)),
-            };
-            let unfit = line_room < LINE_MAX || less < state.used;
-            let less = if unfit { less } else { out_room };
-            let fed = buffers.call(random, run, state, call, (line_room, less))?;
-            if unfit && (fed.answer.number != 1 || fed.upload != state) {
+            match random.below(2) {
+                0 => rooms.0 = short,
+                _ => rooms.1 = state.used.checked_sub(1).unwrap_or(out_room),
+            }
+        }
+        let fed = buffers.call(random, run, state, call, rooms)?;
+        if rooms != (line_room, out_room) {
+            // It changes nothing, and is left out of the list below.
+            if fed.answer.number != 1 || fed.upload != state {
                 return Err(format!("an unfit call on {state:?}: {fed:?}"));
             }
-            if unfit {
-                continue;
-            }
-            state = fed.upload;
-            last = Some(fed.answer);
-        } else {
-            let fed = buffers.call(random, run, state, call, (line_room, out_room))?;
-            state = fed.upload;
-            last = Some(fed.answer);
+            continue;
         }
+        (state, last) = (fed.upload, Some(fed.answer));
         done.push(call);
         if drained {
             handed.extend_from_slice(&buffers.ours.1.items()[..state.used]);
@@ -255,7 +248,7 @@ fn calls(random: &mut Random, run: &mut Run) -> Outcome {
         }
     }
 
-    // The J8 Lines definition knows no pieces. Calls that were unfit are left out.
+    // The J8 Lines definition knows no pieces.
     let Some(last) = last else { return Ok(()) };
     let (text, finished) = joined(&done);
     let before = done[..done.len() - 1]
