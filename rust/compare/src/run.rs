@@ -162,15 +162,16 @@ pub fn hex(bytes: &[u8]) -> String {
     parts.join(".")
 }
 
-/// What differs between a buffer as the library left it and as it should be: the margins
-/// with it.
+/// What differs between a buffer as the library left it and as it should be, the margins with
+/// it: the first 64 items from the first difference on.
 pub fn difference<T: Item + std::fmt::Debug>(
     name: &str,
     ours: &Lent<T>,
     theirs: &Lent<T>,
 ) -> String {
-    match ours == theirs {
-        true => format!("{name}: alike"),
-        false => format!("{name}: NOT alike\n  library {ours:x?}\n  should be {theirs:x?}"),
-    }
+    let Some((count, place, ours, theirs)) = ours.difference(theirs) else {
+        return format!("{name}: alike");
+    };
+    let (ours, theirs) = (&ours[..ours.len().min(64)], &theirs[..theirs.len().min(64)]);
+    format!("{name}: NOT alike in {count} places, from {place} on\n  library   {ours:x?}\n  should be {theirs:x?}")
 }

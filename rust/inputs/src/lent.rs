@@ -86,6 +86,19 @@ impl<T: Item> Lent<T> {
             && now.is_pattern(now.whole.len() - MARGIN..now.whole.len())
     }
 
+    /// How many items differ from those of a copy, the place of the first in the part, less
+    /// than 0 before it, and the items of both from there on.
+    pub fn difference<'a>(
+        &'a self,
+        other: &'a Lent<T>,
+    ) -> Option<(usize, isize, &'a [T], &'a [T])> {
+        let pairs = || self.whole.iter().zip(&other.whole);
+        let first = pairs().position(|(one, other)| one != other)?;
+        let count = pairs().filter(|(one, other)| one != other).count();
+        let place = first as isize - self.before as isize;
+        Some((count, place, &self.whole[first..], &other.whole[first..]))
+    }
+
     fn is_pattern(&self, mut places: std::ops::Range<usize>) -> bool {
         places.all(|i| self.whole[i] == T::pattern(i, self.flip))
     }
