@@ -31,7 +31,7 @@ try() {
     echo "NO BUILD: $what"
     missed=$((missed + 1))
   elif ! J8_SECONDS=${6:-3} "${command[@]}" >"$log" 2>&1 && grep -q -- "$printed" "$log"; then
-    echo "found: $what ($entry, $(grep -m 1 -oE 'case [0-9]+|never .*|signal: [0-9]+|upload [0-9]+|grown .*' "$log"))"
+    echo "found: $what ($entry, $(grep -m 1 -oE 'case [0-9]+|never .*|signal: [0-9]+|upload [0-9]+|grown .*' "$log" | head -n 1))"
     found=$((found + 1))
   else
     echo "MISSED: $what ($entry)"
