@@ -61,7 +61,8 @@ try 'the end of a range in 32 bits' reference/src/json8.rs json8_show "$mismatch
 try 'no stored key written' reference/src/json8/write.rs json8_write "$mismatch" 's/\[PLAIN \| DECODED, \.\.\]/[PLAIN, ..]/'
 try 'a number of the other kind written' reference/src/json8/write.rs json8_write "$mismatch" 's/number_kind\(token\) != Some\(kind\)/number_kind(token).is_none()/'
 try 'a false count of members' reference/src/json8/write.rs json8_write "$mismatch" 's/page\)\? != length/page)? > length/'
-# Over the C functions: a byte outside what is lent, a lent byte, an input, a field, a crash.
+# Over the C functions: a byte outside what is lent, a lent byte, an input, a field, a crash. A pointer to an input goes by black_box: the compiler
+# leaves out a write where it knows that nothing may be written, and there would be no fault to find.
 try 'a byte behind the room written' src/raw.rs string_write "$mismatch" 's/^(pub fn string_write\(.*\{)$/\1 unsafe { out.as_mut_ptr().add(out.len()).write(0xa5) };/'
 try 'a byte before the line buffer written' src/raw.rs upload "$mismatch" 's/^(pub fn upload_feed\(.*\{)$/\1 unsafe { line.as_mut_ptr().sub(1).write(0xa5) };/'
 try 'the last byte of a store written' src/raw.rs json8_read "$mismatch" 's/^(pub fn json8_read\(.*\{)$/\1 if let Some(last) = store.last_mut() { *last ^= 1; }/'
