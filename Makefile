@@ -1,6 +1,7 @@
 # make test: the gate. make demo: the main job on samples. make archive: target/staticlib/libj8.a for C and Rust. make command: the command j8.
 # make install PREFIX=..: command, archive, header and j8.pc. make stack, make size: what the functions take.
-.PHONY: test demo archive command examples install uninstall stack size bench clean
+# make compare, make load, make faults: docs/TESTING.md.
+.PHONY: test demo archive command examples install uninstall stack size compare load faults bench clean
 
 VERSION = $(shell sed -n 's/^.define J8_VERSION "\(.*\)"$$/\1/p' include/j8.h)
 PREFIX = /usr/local
@@ -66,6 +67,18 @@ size: archive
 	  bytes=$$(size target/c_size | awk 'NR == 2 { print $$1 }'); \
 	  [ $$group = NONE ] && none=$$bytes || echo "$$group: $$((bytes - none)) bytes of code and constants"; \
 	done
+
+# Every function beside the reference, J8_SECONDS for each entry (20), from J8_SEED (1), J8_JOBS at once (the cores).
+compare: archive
+	@cd rust && cargo run --offline --release --quiet -p j8-compare --bin compare
+
+# J8_UPLOADS uploads (10,000) through one process.
+load: archive
+	@cd rust && cargo run --offline --release --quiet -p j8-compare --bin load
+
+# Faults put into a copy of the reference, of the layer over C or of a generator: the comparison must find each.
+faults: archive
+	@bash rust/compare/faults.sh
 
 # Needs serde_json, and takes along the other peers, from Debian's packages: bench/README.md.
 bench: archive

@@ -4,15 +4,14 @@
 //! seed.
 
 mod json8;
-#[path = "json8/made.rs"]
-mod made;
-mod random;
 
 use j8::raw::j8_nodes;
 use j8::{Json8, Kind, Node, Nodes};
+use j8_inputs::made::{damage, make, probe, room, shape, table_room, text, Shape, Tree};
+use j8_inputs::random::{self, Random};
+use j8_inputs::tables;
+use j8_inputs::trees::Parts;
 use json8::{done, refused, Lent, LIBRARY, NOT_SHOWN, REFERENCE};
-use made::{damage, make, probe, Made, Shape, Tree};
-use random::Random;
 use std::collections::BTreeMap;
 
 fn cases() -> u64 {
@@ -48,24 +47,6 @@ fn brief(text: &[u8]) -> String {
 }
 
 // ------------------------------------------------------------------ texts
-
-/// A room for a result of `exact` items.
-fn room(random: &mut Random, exact: usize) -> usize {
-    match random.below(8) {
-        0..=2 => exact,
-        3 => exact.saturating_sub(1),
-        4 => random.below(exact + 9),
-        5 => exact.saturating_sub(4),
-        6 if random.once_in(4) => 0,
-        _ => exact + random.below(50),
-    }
-}
-
-/// Numbers that suffice for any table of this text: two nodes never share a byte,
-/// and a byte stands between them.
-fn table_room(text: &[u8]) -> usize {
-    4 * text.len().div_ceil(2).min(1_024)
-}
 
 /// Reads a text by both sides in the same rooms; what they answer and leave must
 /// be the same.
@@ -111,39 +92,6 @@ fn compare_strings(nodes: Nodes, what: &str) {
         let ours = nodes.get(node).and_then(|node| node.as_bytes());
         assert_eq!(ours, expected, "{what}: node {node}");
     }
-}
-
-/// A shape that is small, or about one of the limits or two.
-fn shape(random: &mut Random, plain: bool, over: usize) -> Shape {
-    let wide = random.once_in(60);
-    let deep = match random.below(30) {
-        0 => 29 + random.below(4 + over),
-        1 => random.below(12),
-        _ => 0,
-    };
-    let nodes = if wide {
-        1_020 + random.below(5 + over)
-    } else {
-        2 + random.below(30)
-    };
-    Shape {
-        plain,
-        nodes,
-        wide,
-        deep,
-    }
-}
-
-/// A text of some shape, now and then about the longest.
-fn text(random: &mut Random) -> Made {
-    let plain = random.once_in(10);
-    let shape = shape(random, plain, 4);
-    let mut made = make(random, shape);
-    if random.once_in(300) {
-        let length = 32_764 + random.below(8);
-        made.pad(random, plain, length);
-    }
-    made
 }
 
 #[test]
@@ -323,50 +271,15 @@ fn plain_json() {
 
 // ------------------------------------------------------ tables made by hand
 
-/// A number about the edges of a buffer, of the kinds, or of 32 bits.
-fn number(random: &mut Random, length: usize) -> u32 {
-    let length = length as u32;
-    match random.below(12) {
-        0 => length,
-        1 => length + 1,
-        2 => length.wrapping_sub(1),
-        3 => u32::MAX - random.below(3) as u32,
-        4 => u32::MAX - length,
-        5 => (u32::MAX - length).wrapping_add(1 + random.below(3) as u32),
-        6 => 1 << random.below(32),
-        7 | 8 => random.below(12) as u32,
-        _ => random.below(length as usize + 1) as u32,
-    }
-}
-
 #[test]
 fn tables_made_by_hand() {
     let mut random = Random::new();
     let mut seen: BTreeMap<(u32, u32, bool), u64> = BTreeMap::new();
     let mut wrapped = 0;
     for case in 0..cases() {
-        let text: Vec<u8> = (0..random.below(12)).map(|_| random.byte()).collect();
-        let store: Vec<u8> = (0..random.below(12)).map(|_| random.byte()).collect();
-        // A last node that is cut short, too.
-        let mut table: Vec<u32> = Vec::new();
-        for _ in 0..random.below(4) {
-            let kind = match random.below(8) {
-                0..=2 => 5,
-                3..=5 => 6,
-                6 => random.below(10) as u32,
-                _ => random.pick(&[0x105, 0x106, 0x0005_0000, 1 << 31 | 5, u32::MAX]),
-            };
-            let length = if kind == 5 { text.len() } else { store.len() };
-            let (place, count) = (number(&mut random, length), number(&mut random, length));
-            let rest = length.saturating_sub(place as usize);
-            table.extend([kind, count, place, number(&mut random, rest)]);
-        }
-        table.truncate(table.len() - random.pick(&[0, 0, 0, 1, 2, 3]).min(table.len()));
+        let Parts { table, text, store } = tables::by_hand(&mut random);
         let before = (table.clone(), text.clone(), store.clone());
-        // Four times the greater ones is small again.
-        let quarter = usize::MAX / 4 + 1;
-        let nodes = [0, 1, 2, 3, 4, quarter, quarter + 1, 2 * quarter, usize::MAX];
-        for node in nodes {
+        for node in tables::NODES {
             let ours = (LIBRARY.show)(&table, &text, &store, node);
             let theirs = (REFERENCE.show)(&table, &text, &store, node);
             let what = || format!("case {case}: node {node} of {table:?}, {text:?}, {store:?}");

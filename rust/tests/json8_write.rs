@@ -2,16 +2,15 @@
 //! reference, buffers compared whole; values; the limits; empty parts.
 
 mod cases;
-#[path = "json8/lent.rs"]
-mod lent;
 #[path = "json8/written.rs"]
 mod written;
 
 use cases::{bytes, each_case};
 use j8::raw::j8_result;
 use j8::{Error, Json8, Refusal, Table, Value};
-use lent::Lent;
-use written::{done, library, reference, refused, Parts};
+use j8_inputs::trees::Parts;
+use j8_inputs::Lent;
+use written::{done, library, reference, refused};
 
 // --------------------------------------------------------- json8_write.txt
 

@@ -3,24 +3,17 @@
 //! with a fixed seed. J8_CASES asks for more than 100,000 of each, and as much
 //! more of the rest; J8_SEED for another seed.
 
-#[path = "json8/lent.rs"]
-mod lent;
-#[path = "json8/made.rs"]
-mod made;
-mod random;
-#[path = "json8/trees.rs"]
-mod trees;
 #[path = "json8/written.rs"]
 mod written;
 
 use j8::raw::j8_result;
 use j8::{Json8, Table, Value};
-use lent::Lent;
-use made::{Made, Shape, Tree};
-use random::Random;
+use j8_inputs::made::{self, text};
+use j8_inputs::random::{self, Random};
+use j8_inputs::trees::{self, form, meaning, size, sized, sound, Damage, Parts, DAMAGES};
+use j8_inputs::Lent;
 use std::collections::BTreeMap;
-use trees::{form, size, Damage, DAMAGES};
-use written::{done, library, reference, refused, Parts};
+use written::{done, library, reference, refused};
 
 fn cases() -> u64 {
     random::cases(100_000)
@@ -47,51 +40,6 @@ fn assert_seen<T: ToString>(seen: &Seen, all: &[T]) {
 fn brief(text: &[u8]) -> String {
     let head = &text[..text.len().min(400)];
     format!("{} bytes: {}", text.len(), head.escape_ascii())
-}
-
-/// A size about the limits now and then: nodes, whether all are used, and depth.
-fn sizes(random: &mut Random) -> (usize, bool, usize) {
-    let wide = random.once_in(80);
-    let nodes = match wide {
-        true => 1_020 + random.below(9),
-        false => 2 + random.below(25),
-    };
-    let deep = match random.below(30) {
-        0 => 29 + random.below(7),
-        1 => random.below(12),
-        _ => 0,
-    };
-    (nodes, wide, deep)
-}
-
-/// A value of some size, now and then with a string about the longest.
-fn value(random: &mut Random) -> Value {
-    let (nodes, wide, deep) = sizes(random);
-    let value = trees::value(random, nodes, wide, deep);
-    if !random.once_in(500) {
-        return value;
-    }
-    let piece = random.pick(&[b"a".as_slice(), b"\\"]);
-    let count = (32_700 + random.below(80)) / if piece == b"a" { 1 } else { 2 };
-    Value::List(vec![value, Value::String(piece.repeat(count))])
-}
-
-/// A text of some shape, now and then about the longest.
-fn text(random: &mut Random) -> Made {
-    let (nodes, wide, deep) = sizes(random);
-    let plain = random.once_in(10);
-    let shape = Shape {
-        plain,
-        nodes,
-        wide,
-        deep,
-    };
-    let mut made = made::make(random, shape);
-    if random.once_in(300) {
-        let length = 32_764 + random.below(8);
-        made.pad(random, plain, length);
-    }
-    made
 }
 
 // ----------------------------------------------------------- both sides
@@ -141,55 +89,6 @@ fn compare_rooms(random: &mut Random, parts: &Parts, what: &str) -> u32 {
         assert_eq!(short, refused(12), "{what}, room {room}: {parts:?}");
     }
     0
-}
-
-/// Whether a value is within the limits of nodes and brackets.
-fn is_within(value: &Value) -> bool {
-    let (nodes, depth) = size(value);
-    nodes <= 1_024 && depth <= 32
-}
-
-/// Parts that are sound but for the limits, where they come from, and whether
-/// they are within the limits.
-fn sound(random: &mut Random) -> (Parts, &'static str, bool) {
-    match random.below(3) {
-        0 => {
-            let value = value(random);
-            let table = Table::new(&value);
-            let parts = Parts {
-                table: table.numbers().to_vec(),
-                text: table.text().to_vec(),
-                store: table.store().to_vec(),
-            };
-            (parts, "value", is_within(&value))
-        }
-        1 => {
-            let made = text(random);
-            let parts = Parts {
-                table: made.table.concat(),
-                text: made.text,
-                store: made.store,
-            };
-            (parts, "made", is_within(&meaning(&made.tree)))
-        }
-        _ => loop {
-            let (made, other) = (text(random), text(random));
-            let bytes = match random.below(20) {
-                0 => made::probe(random, 1, 2),
-                1..=9 => made::damage(random, &made, &other),
-                _ => made.text,
-            };
-            if let Ok(read) = Json8::read(bytes) {
-                let nodes = read.nodes();
-                let parts = Parts {
-                    table: nodes.table().to_vec(),
-                    text: nodes.text().to_vec(),
-                    store: nodes.store().to_vec(),
-                };
-                break (parts, "read", true);
-            }
-        },
-    }
 }
 
 #[test]
@@ -297,22 +196,6 @@ fn every_number() {
 
 // -------------------------------------------------------- there and back
 
-/// What a text of the generator says.
-fn meaning(tree: &Tree) -> Value {
-    match tree {
-        Tree::Null => Value::Null,
-        Tree::False => Value::Bool(false),
-        Tree::True => Value::Bool(true),
-        Tree::Integer(token) | Tree::Number(token) => Value::Number(token.clone()),
-        Tree::String(bytes) => Value::String(bytes.clone()),
-        Tree::List(members) => Value::List(members.iter().map(meaning).collect()),
-        Tree::Dict(pairs) => {
-            let pair = |(key, tree): &(Vec<u8>, _)| (key.clone(), meaning(tree));
-            Value::Dict(pairs.iter().map(pair).collect())
-        }
-    }
-}
-
 /// The text that is written of a value is read to the value again, and then
 /// written the same. Gives what was read, if it isn't too long for that.
 fn comes_back(value: &Value, text: &[u8], what: &str) -> Option<Json8> {
@@ -345,7 +228,7 @@ fn values_come_back() {
     let mut seen = Seen::new();
     let mut back = 0;
     while back < cases() {
-        let value = value(&mut random);
+        let value = sized(&mut random);
         let table = Table::new(&value);
         let (nodes, depth) = size(&value);
         let what = format!("case {back}");

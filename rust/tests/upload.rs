@@ -7,8 +7,9 @@ mod lines;
 use cases::{bytes, each_case};
 use j8::raw::{j8_answer, j8_result, j8_upload};
 use j8::{Error, LentUpload, Record, Refusal, Upload, UploadState};
+use j8_inputs::lines::record;
 use j8_reference::lines::{definition, definition_answer, joined, Call, LINE_MAX};
-use lines::{as_answer, as_state, pattern, record, Lent, Side, LIBRARY, REFERENCE};
+use lines::{as_answer, as_state, pattern, Lent, Side, LIBRARY, REFERENCE};
 
 /// The numbers of a field, divided by commas.
 fn numbers<const N: usize>(field: &str) -> [usize; N] {

@@ -4,8 +4,7 @@
 use j8::raw::{self, j8_nodes, j8_shown};
 use j8_reference::json8;
 
-mod lent;
-pub use lent::Lent;
+pub use j8_inputs::Lent;
 
 // ------------------------------------------------------------- both sides
 

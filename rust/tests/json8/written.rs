@@ -1,15 +1,8 @@
 //! What the tests of the JSON8 writer share: the library and the reference as
-//! calls of one shape, and the parts that they are lent.
+//! calls of one shape.
 
 use j8::raw::j8_result;
-
-/// A table with the text and the store that it speaks of.
-#[derive(Clone, Debug, PartialEq, Eq)]
-pub struct Parts {
-    pub table: Vec<u32>,
-    pub text: Vec<u8>,
-    pub store: Vec<u8>,
-}
+use j8_inputs::trees::Parts;
 
 pub fn library(parts: &Parts, out: &mut [u8]) -> j8_result {
     let Parts { table, text, store } = parts;

@@ -196,8 +196,3 @@ pub fn pattern(length: usize, flip: bool) -> Vec<u8> {
     bytes.truncate(length);
     bytes
 }
-
-pub fn record(kind: u16, payload: &[u8]) -> Vec<u8> {
-    let length = u16::try_from(payload.len()).expect("a payload for a record");
-    [&length.to_le_bytes(), &kind.to_le_bytes(), payload].concat()
-}

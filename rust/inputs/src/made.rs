@@ -395,6 +395,57 @@ impl Maker<'_> {
     }
 }
 
+/// A shape that is small, or about one of the limits or two.
+pub fn shape(random: &mut Random, plain: bool, over: usize) -> Shape {
+    let wide = random.once_in(60);
+    let deep = match random.below(30) {
+        0 => 29 + random.below(4 + over),
+        1 => random.below(12),
+        _ => 0,
+    };
+    let nodes = if wide {
+        1_020 + random.below(5 + over)
+    } else {
+        2 + random.below(30)
+    };
+    Shape {
+        plain,
+        nodes,
+        wide,
+        deep,
+    }
+}
+
+/// A text of some shape, now and then about the longest.
+pub fn text(random: &mut Random) -> Made {
+    let plain = random.once_in(10);
+    let shape = shape(random, plain, 4);
+    let mut made = make(random, shape);
+    if random.once_in(300) {
+        let length = 32_764 + random.below(8);
+        made.pad(random, plain, length);
+    }
+    made
+}
+
+/// A room for a result of `exact` items.
+pub fn room(random: &mut Random, exact: usize) -> usize {
+    match random.below(8) {
+        0..=2 => exact,
+        3 => exact.saturating_sub(1),
+        4 => random.below(exact + 9),
+        5 => exact.saturating_sub(4),
+        6 if random.once_in(4) => 0,
+        _ => exact + random.below(50),
+    }
+}
+
+/// Numbers that suffice for any table of this text: two nodes never share a byte,
+/// and a byte stands between them.
+pub fn table_room(text: &[u8]) -> usize {
+    4 * text.len().div_ceil(2).min(1_024)
+}
+
 // ---------------------------------------------------------------- damaged
 
 /// Tokens and parts of them, right in some places and wrong in most.

@@ -1,9 +1,17 @@
 //! Random values with any bytes in their strings, what must be written of them,
 //! and tables damaged in every way.
 
+use crate::made::{self, text, Tree};
 use crate::random::Random;
-use crate::written::Parts;
-use j8::Value;
+use j8::{Json8, Table, Value};
+
+/// A table with the text and the store that it speaks of.
+#[derive(Clone, Debug, PartialEq, Eq)]
+pub struct Parts {
+    pub table: Vec<u32>,
+    pub text: Vec<u8>,
+    pub store: Vec<u8>,
+}
 
 // ----------------------------------------------------------------- values
 
@@ -176,7 +184,108 @@ fn quoted(bytes: &[u8]) -> Vec<u8> {
     out
 }
 
+/// A size about the limits now and then: nodes, whether all are used, and depth.
+fn sizes(random: &mut Random) -> (usize, bool, usize) {
+    let wide = random.once_in(80);
+    let nodes = match wide {
+        true => 1_020 + random.below(9),
+        false => 2 + random.below(25),
+    };
+    let deep = match random.below(30) {
+        0 => 29 + random.below(7),
+        1 => random.below(12),
+        _ => 0,
+    };
+    (nodes, wide, deep)
+}
+
+/// A value of some size, now and then with a string about the longest.
+pub fn sized(random: &mut Random) -> Value {
+    let (nodes, wide, deep) = sizes(random);
+    let value = value(random, nodes, wide, deep);
+    if !random.once_in(500) {
+        return value;
+    }
+    let piece = random.pick(&[b"a".as_slice(), b"\\"]);
+    let count = (32_700 + random.below(80)) / if piece == b"a" { 1 } else { 2 };
+    Value::List(vec![value, Value::String(piece.repeat(count))])
+}
+
+/// A value whose text has the length of the longest that is read back, or nearly.
+pub fn longest(random: &mut Random) -> Value {
+    let value = value(random, 10, false, 0);
+    let target = 32_768 - 2 + random.below(5);
+    // The brackets of the list, its comma and the string's quotes.
+    let missing = target - form(&value).len().min(target - 5) - 5;
+    Value::List(vec![value, Value::String(vec![b'a'; missing])])
+}
+
+/// What a text of the generator says.
+pub fn meaning(tree: &Tree) -> Value {
+    match tree {
+        Tree::Null => Value::Null,
+        Tree::False => Value::Bool(false),
+        Tree::True => Value::Bool(true),
+        Tree::Integer(token) | Tree::Number(token) => Value::Number(token.clone()),
+        Tree::String(bytes) => Value::String(bytes.clone()),
+        Tree::List(members) => Value::List(members.iter().map(meaning).collect()),
+        Tree::Dict(pairs) => {
+            let pair = |(key, tree): &(Vec<u8>, _)| (key.clone(), meaning(tree));
+            Value::Dict(pairs.iter().map(pair).collect())
+        }
+    }
+}
+
 // ----------------------------------------------------------------- tables
+
+/// Whether a value is within the limits of nodes and brackets.
+fn is_within(value: &Value) -> bool {
+    let (nodes, depth) = size(value);
+    nodes <= 1_024 && depth <= 32
+}
+
+/// Parts that are sound but for the limits, where they come from, and whether
+/// they are within the limits.
+pub fn sound(random: &mut Random) -> (Parts, &'static str, bool) {
+    match random.below(3) {
+        0 => {
+            let value = sized(random);
+            let table = Table::new(&value);
+            let parts = Parts {
+                table: table.numbers().to_vec(),
+                text: table.text().to_vec(),
+                store: table.store().to_vec(),
+            };
+            (parts, "value", is_within(&value))
+        }
+        1 => {
+            let made = text(random);
+            let parts = Parts {
+                table: made.table.concat(),
+                text: made.text,
+                store: made.store,
+            };
+            (parts, "made", is_within(&meaning(&made.tree)))
+        }
+        _ => loop {
+            let (made, other) = (text(random), text(random));
+            let bytes = match random.below(20) {
+                0 => made::probe(random, 1, 2),
+                1..=9 => made::damage(random, &made, &other),
+                _ => made.text,
+            };
+            if let Ok(read) = Json8::read(bytes) {
+                let nodes = read.nodes();
+                let parts = Parts {
+                    table: nodes.table().to_vec(),
+                    text: nodes.text().to_vec(),
+                    store: nodes.store().to_vec(),
+                };
+                break (parts, "read", true);
+            }
+        },
+    }
+}
 
 /// Bytes before those that the table speaks of.
 pub fn shift(random: &mut Random, parts: &mut Parts) {
@@ -242,7 +351,7 @@ pub const DAMAGES: [Damage; 10] = [
 
 /// A number about the old one, about a limit, about 2^32 minus another, or
 /// anything.
-fn changed(random: &mut Random, old: u32, limit: usize, other: u32) -> u32 {
+pub fn changed(random: &mut Random, old: u32, limit: usize, other: u32) -> u32 {
     let limit = limit as u32;
     match random.below(14) {
         0 => 0,

@@ -1,5 +1,5 @@
-//! Random numbers with a fixed seed. J8_CASES asks for more cases, J8_SEED for
-//! another seed.
+//! Random numbers. In `cargo test` the seed is fixed: J8_CASES asks for more cases,
+//! J8_SEED for another seed.
 
 fn setting(name: &str) -> Option<u64> {
     let value = std::env::var(name).ok()?;
@@ -14,10 +14,29 @@ pub fn cases(least: u64) -> u64 {
 /// xorshift64*
 pub struct Random(u64);
 
+impl Default for Random {
+    fn default() -> Self {
+        Self::new()
+    }
+}
+
 impl Random {
     pub fn new() -> Self {
         // The state must not be 0, or it would stay so.
         Random(setting("J8_SEED").unwrap_or(0x9e37_79b9_7f4a_7c15).max(1))
+    }
+
+    /// The numbers of one case. Mixed, so that neighbouring cases and seeds have
+    /// nothing in common.
+    pub fn of(seed: u64, case: u64) -> Self {
+        let mix = |z: u64| {
+            let z = (z ^ z >> 30).wrapping_mul(0xbf58_476d_1ce4_e5b9);
+            let z = (z ^ z >> 27).wrapping_mul(0x94d0_49bb_1331_11eb);
+            z ^ z >> 31
+        };
+        let golden = 0x9e37_79b9_7f4a_7c15_u64;
+        let start = mix(seed.wrapping_add(golden)).wrapping_add(case.wrapping_mul(golden));
+        Random(mix(start).max(1))
     }
 
     fn next(&mut self) -> u64 {
@@ -30,6 +49,11 @@ impl Random {
     /// From 0 to `n - 1`.
     pub fn below(&mut self, n: usize) -> usize {
         ((self.next() >> 32) as usize) % n
+    }
+
+    /// From `low` to `high`.
+    pub fn from(&mut self, low: u32, high: u32) -> u32 {
+        low + self.below((high - low + 1) as usize) as u32
     }
 
     /// True once in `n`.
