@@ -1,6 +1,6 @@
 //! Compiles the C and C++ peers if their packages are there; without them the
 //! benchmark runs with the Rust ones alone. Every function has a section of its
-//! own, and J8_LAYOUT, a number above 0, has the linker shuffle them by it.
+//! own, so that the linker can shuffle them.
 
 use std::path::Path;
 use std::process::Command;
@@ -12,13 +12,6 @@ fn runs(command: &mut Command) -> bool {
 fn main() {
     println!("cargo:rerun-if-changed=src/peers.cpp");
     println!("cargo:rustc-check-cfg=cfg(peers)");
-    println!("cargo:rerun-if-env-changed=J8_LAYOUT");
-    if let Ok(seed) = std::env::var("J8_LAYOUT") {
-        if seed != "0" {
-            // lld's option; rustc links by lld from 1.90 on.
-            println!("cargo:rustc-link-arg-bins=-Wl,--shuffle-sections=.text*={seed}");
-        }
-    }
     let folder = std::env::var("OUT_DIR").expect("cargo sets OUT_DIR");
     let (object, archive) = (
         Path::new(&folder).join("peers.o"),
@@ -26,7 +19,15 @@ fn main() {
     );
     let compiled = runs(
         Command::new("g++")
-            .args(["-O2", "-std=c++17", "-Wall", "-ffunction-sections", "-c", "src/peers.cpp", "-o"])
+            .args([
+                "-O2",
+                "-std=c++17",
+                "-Wall",
+                "-ffunction-sections",
+                "-c",
+                "src/peers.cpp",
+                "-o",
+            ])
             .arg(&object),
     );
     if !(compiled && runs(Command::new("ar").arg("crs").arg(&archive).arg(&object))) {

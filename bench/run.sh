@@ -1,12 +1,12 @@
 #!/usr/bin/env bash
 # The whole benchmark: builds of several code layouts, their times, the instructions, and from these docs/BENCHMARKS.md and docs/plots.
-# J8_ROUNDS: rounds for each layout (120). J8_LAYOUTS: how many (8).
+# J8_ROUNDS: rounds for each layout (90). J8_LAYOUTS: how many (12).
 set -eu
 cd "$(dirname "$0")"
 
-rounds=${J8_ROUNDS:-120}
-layouts=${J8_LAYOUTS:-8}
-# A layout's rounds are in three processes, since an address space may be unlucky too, and the layouts take turns.
+rounds=${J8_ROUNDS:-90}
+layouts=${J8_LAYOUTS:-12}
+# A layout's rounds are in three processes, since an address space may be unlucky too, each with its heap shifted; and the layouts take turns.
 passes=3
 run=target/run
 
@@ -16,19 +16,24 @@ mkdir -p $run
 
 for ((layout = 0; layout < layouts; layout++)); do
   echo "layout $layout: building"
-  J8_LAYOUT=$layout cargo build --offline --release --quiet
+  shuffle=()
+  # lld's option, by which rustc links from 1.90 on.
+  [ "$layout" = 0 ] || shuffle=(-C "link-arg=-Wl,--shuffle-sections=.text*=$layout")
+  cargo rustc --offline --release --quiet -- "${shuffle[@]}"
   cp target/release/j8-bench $run/bench-$layout
 done
 
 for ((pass = 1; pass <= passes; pass++)); do
   for ((layout = 0; layout < layouts; layout++)); do
     echo "pass $pass of $passes, layout $layout: measuring"
-    J8_ROUNDS=$(((rounds + passes - 1) / passes)) $run/bench-$layout measure >$run/layout-$layout.pass-$pass.tsv
+    J8_ROUNDS=$(((rounds + passes - 1) / passes)) $run/bench-$layout measure $pass >$run/layout-$layout.pass-$pass.tsv
   done
 done
 
 echo "counting instructions"
-valgrind --tool=callgrind --toggle-collect=j8_bench_counted --dump-after=j8_bench_counted \
+# Valgrind counts each repetition of a string instruction, so that memset would count once a byte; the C library has loops as well.
+loops=glibc.cpu.x86_rep_movsb_threshold=1000000000:glibc.cpu.x86_rep_stosb_threshold=1000000000
+GLIBC_TUNABLES=$loops valgrind --tool=callgrind --toggle-collect=j8_bench_counted --dump-after=j8_bench_counted \
   --callgrind-out-file=$run/counted $run/bench-0 count >$run/counts.tsv 2>$run/valgrind.log
 
 {

@@ -22,6 +22,9 @@ const WARM_CALLS: usize = 3;
 /// the allocator.
 const COUNTED_CALLS: usize = 4;
 
+/// Bytes that a pass shifts the heap by: no divisor of a page.
+const HEAP_SHIFT: usize = 1_360;
+
 fn kinds(job: &str) -> [&'static str; 4] {
     match job {
         "read" | "write" => strings::KINDS,
@@ -43,9 +46,7 @@ fn case(plan: Plan) -> Case {
 fn plans(job: &'static str) -> Vec<Plan> {
     let sizes: Vec<(usize, usize)> = match job {
         "read" | "write" => strings::SIZES.map(|size| (size, 0)).to_vec(),
-        "upload" => upload::PIECES
-            .map(|(piece, size)| (size, piece))
-            .to_vec(),
+        "upload" => upload::PIECES.map(|(piece, size)| (size, piece)).to_vec(),
         _ => json8::SIZES.map(|size| (size, 0)).to_vec(),
     };
     all(job, &sizes)
@@ -145,8 +146,10 @@ fn line(series: &str, plan: Plan, bytes: usize, name: &str, value: f64) {
     println!("{series}\t{job}\t{kind}\t{size}\t{piece}\t{bytes}\t{name}\t{value}");
 }
 
-/// All times of this build, a line each, for the report.
-fn measure() {
+/// All times of this build, a line each, for the report. Each pass has its heap
+/// shifted: where buffers lie to each other in a page moves times too.
+fn measure(pass: usize) {
+    race::keep(std::hint::black_box([0u8; HEAP_SHIFT].repeat(pass)));
     let rounds = rounds();
     for job in JOBS {
         for plan in plans(job) {
@@ -194,10 +197,7 @@ fn count(words: &[String]) {
         let size = plan.size.to_string();
         let any_size = counted_plans().iter().any(|p| named(&p.size.to_string()));
         let any_kind = kinds(plan.job).into_iter().any(named);
-        if !job_wanted(plan.job)
-            || (any_kind && !named(plan.kind))
-            || (any_size && !named(&size))
-        {
+        if !job_wanted(plan.job) || (any_kind && !named(plan.kind)) || (any_size && !named(&size)) {
             continue;
         }
         let mut case = case(plan);
@@ -218,7 +218,7 @@ fn count(words: &[String]) {
 fn main() {
     let words: Vec<String> = std::env::args().skip(1).collect();
     match words.first().map(String::as_str) {
-        Some("measure") => measure(),
+        Some("measure") => measure(words.get(1).map_or(0, |pass| pass.parse().expect("a pass"))),
         Some("count") => count(&words[1..]),
         Some("report") => report::write(Path::new(&words[1]), Path::new(&words[2])),
         _ => tables(&words),

@@ -3,7 +3,8 @@
 use std::fmt::Write;
 
 const COLOURS: [&str; 9] = [
-    "#0b5fa5", "#d1491b", "#2a8a3e", "#8a3fa0", "#b8860b", "#c2185b", "#00838f", "#5d4037", "#616161",
+    "#0b5fa5", "#d1491b", "#2a8a3e", "#8a3fa0", "#b8860b", "#c2185b", "#00838f", "#5d4037",
+    "#616161",
 ];
 
 const GREY: &str = "#d8d8d8";
@@ -100,13 +101,16 @@ pub struct Row {
 /// Ratios: a dot at the median and a bar from the least to the greatest layout,
 /// on a scale of powers, with a line at 1.
 pub fn ratios(title: &str, axis: &str, names: &[&str], rows: &[Row]) -> String {
-    const LEFT: f64 = 150.0;
-    const PLOT: f64 = 560.0;
+    const LEFT: f64 = 200.0;
+    const PLOT: f64 = 540.0;
     const TOP: f64 = 70.0;
     const STEP: f64 = 9.0;
     const GAP: f64 = 9.0;
 
-    let every: Vec<Range> = rows.iter().flat_map(|row| row.values.iter().flatten().copied()).collect();
+    let every: Vec<Range> = rows
+        .iter()
+        .flat_map(|row| row.values.iter().flatten().copied())
+        .collect();
     let least = every.iter().map(|r| r.least).fold(1.0, f64::min);
     let greatest = every.iter().map(|r| r.greatest).fold(1.0, f64::max);
     let ticks = ticks(least, greatest);
@@ -117,28 +121,92 @@ pub fn ratios(title: &str, axis: &str, names: &[&str], rows: &[Row]) -> String {
     let bottom = TOP + rows.iter().map(|row| shown(row) * STEP + GAP).sum::<f64>();
     let mut svg = String::new();
     label(&mut svg, 16.0, 26.0, "start", 16, "bold", title);
-    label(&mut svg, 16.0, 46.0, "start", 12, "normal", "dot: the median of the layouts; bar: from the least to the greatest");
+    label(
+        &mut svg,
+        16.0,
+        46.0,
+        "start",
+        12,
+        "normal",
+        "dot: the median of the layouts; bar: from the least to the greatest",
+    );
     for tick in &ticks {
         let x = x_of(*tick);
-        let (colour, width) = if *tick == 1.0 { (TEXT, 1.5) } else { (GREY, 1.0) };
+        let (colour, width) = if *tick == 1.0 {
+            (TEXT, 1.5)
+        } else {
+            (GREY, 1.0)
+        };
         stroke(&mut svg, (x, TOP), (x, bottom), colour, width);
-        label(&mut svg, x, bottom + 17.0, "middle", 12, "normal", &tick.to_string());
+        label(
+            &mut svg,
+            x,
+            bottom + 17.0,
+            "middle",
+            12,
+            "normal",
+            &tick.to_string(),
+        );
     }
-    label(&mut svg, LEFT + PLOT / 2.0, bottom + 38.0, "middle", 12, "normal", axis);
-    label(&mut svg, x_of(1.0) - 6.0, TOP - 5.0, "end", 11, "normal", "j8 slower");
-    label(&mut svg, x_of(1.0) + 6.0, TOP - 5.0, "start", 11, "normal", "j8 faster");
+    label(
+        &mut svg,
+        LEFT + PLOT / 2.0,
+        bottom + 38.0,
+        "middle",
+        12,
+        "normal",
+        axis,
+    );
+    label(
+        &mut svg,
+        x_of(1.0) - 6.0,
+        TOP - 5.0,
+        "end",
+        11,
+        "normal",
+        "j8 slower",
+    );
+    label(
+        &mut svg,
+        x_of(1.0) + 6.0,
+        TOP - 5.0,
+        "start",
+        11,
+        "normal",
+        "j8 faster",
+    );
 
     let mut y = TOP + GAP / 2.0;
     for (number, row) in rows.iter().enumerate() {
         let height = shown(row) * STEP;
         if number > 0 {
-            stroke(&mut svg, (16.0, y - GAP / 2.0), (LEFT + PLOT, y - GAP / 2.0), GREY, 0.5);
+            stroke(
+                &mut svg,
+                (16.0, y - GAP / 2.0),
+                (LEFT + PLOT, y - GAP / 2.0),
+                GREY,
+                0.5,
+            );
         }
-        label(&mut svg, LEFT - 10.0, y + height / 2.0 + 4.0, "end", 12, "normal", &row.name);
+        label(
+            &mut svg,
+            LEFT - 10.0,
+            y + height / 2.0 + 4.0,
+            "end",
+            12,
+            "normal",
+            &row.name,
+        );
         for (series, range) in row.values.iter().enumerate() {
             let Some(range) = range else { continue };
             let (colour, middle) = (COLOURS[series % COLOURS.len()], y + STEP / 2.0);
-            stroke(&mut svg, (x_of(range.least), middle), (x_of(range.greatest), middle), colour, 3.0);
+            stroke(
+                &mut svg,
+                (x_of(range.least), middle),
+                (x_of(range.greatest), middle),
+                colour,
+                3.0,
+            );
             dot(&mut svg, (x_of(range.median), middle), colour);
             y += STEP;
         }
@@ -167,7 +235,8 @@ pub fn curves(title: &str, x_axis: &str, y_axis: &str, curves: &[Curve]) -> Stri
     let (least, greatest) = points().fold((f64::MAX, 0f64), |(a, b), (_, y)| (a.min(y), b.max(y)));
     let y_ticks = ticks(least, greatest);
     let (y_from, y_to) = (y_ticks[0], y_ticks[y_ticks.len() - 1]);
-    let (x_least, x_greatest) = points().fold((f64::MAX, 0f64), |(a, b), (x, _)| (a.min(x), b.max(x)));
+    let (x_least, x_greatest) =
+        points().fold((f64::MAX, 0f64), |(a, b), (x, _)| (a.min(x), b.max(x)));
     let (x_from, x_to) = (x_least.log2().floor(), x_greatest.log2().ceil());
     let x_of = |bytes: f64| LEFT + PLOT * (bytes.log2() - x_from) / (x_to - x_from);
     let y_of = |cost: f64| BOTTOM - HEIGHT * (cost / y_from).ln() / (y_to / y_from).ln();
@@ -177,7 +246,15 @@ pub fn curves(title: &str, x_axis: &str, y_axis: &str, curves: &[Curve]) -> Stri
     for tick in &y_ticks {
         let y = y_of(*tick);
         stroke(&mut svg, (LEFT, y), (LEFT + PLOT, y), GREY, 1.0);
-        label(&mut svg, LEFT - 8.0, y + 4.0, "end", 12, "normal", &format!("{}", (tick * 1e4).round() / 1e4));
+        label(
+            &mut svg,
+            LEFT - 8.0,
+            y + 4.0,
+            "end",
+            12,
+            "normal",
+            &format!("{}", (tick * 1e4).round() / 1e4),
+        );
     }
     for power in x_from as u32..=x_to as u32 {
         let (size, x) = (1usize << power, x_of(f64::from(power).exp2()));
@@ -185,7 +262,15 @@ pub fn curves(title: &str, x_axis: &str, y_axis: &str, curves: &[Curve]) -> Stri
         let name = bytes(size).replace(" MiB", " Mi").replace(" KiB", " Ki");
         label(&mut svg, x, BOTTOM + 17.0, "middle", 11, "normal", &name);
     }
-    label(&mut svg, LEFT + PLOT / 2.0, BOTTOM + 38.0, "middle", 12, "normal", x_axis);
+    label(
+        &mut svg,
+        LEFT + PLOT / 2.0,
+        BOTTOM + 38.0,
+        "middle",
+        12,
+        "normal",
+        x_axis,
+    );
     let _ = writeln!(
         svg,
         "<text transform=\"translate(24 {:.1}) rotate(-90)\" text-anchor=\"middle\" font-size=\"12\" fill=\"{TEXT}\">{y_axis}</text>",
@@ -193,7 +278,11 @@ pub fn curves(title: &str, x_axis: &str, y_axis: &str, curves: &[Curve]) -> Stri
     );
     for (index, curve) in curves.iter().enumerate() {
         let colour = COLOURS[index % COLOURS.len()];
-        let at: Vec<(f64, f64)> = curve.points.iter().map(|(x, y)| (x_of(*x), y_of(*y))).collect();
+        let at: Vec<(f64, f64)> = curve
+            .points
+            .iter()
+            .map(|(x, y)| (x_of(*x), y_of(*y)))
+            .collect();
         for pair in at.windows(2) {
             stroke(&mut svg, pair[0], pair[1], colour, 2.0);
         }

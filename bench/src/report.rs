@@ -57,7 +57,11 @@ const JOBS: [Job; 5] = [
             "IgnoredAny",
             "reference",
         ],
-        marks: &[("Value", 1.0, true), ("cJSON", 1.0, true), ("yajl", 1.0, true)],
+        marks: &[
+            ("Value", 1.0, true),
+            ("cJSON", 1.0, true),
+            ("yajl", 1.0, true),
+        ],
     },
     Job {
         word: "json8_write",
@@ -118,7 +122,10 @@ fn gather(folder: &Path, series: &str, layouts: usize, passes: usize) -> BTreeMa
 }
 
 fn slot(rows: &mut Rows, key: Key, bytes: usize) -> &mut BTreeMap<String, Vec<f64>> {
-    let at = rows.iter().position(|(k, _)| *k == key).unwrap_or(rows.len());
+    let at = rows
+        .iter()
+        .position(|(k, _)| *k == key)
+        .unwrap_or(rows.len());
     if at == rows.len() {
         rows.push((key, Figures::default()));
     }
@@ -137,7 +144,9 @@ fn counts(folder: &Path) -> BTreeMap<String, Rows> {
         let dump = fs::read_to_string(&file).expect("a dump of callgrind");
         let total = |word| dump.lines().find_map(|line: &str| line.strip_prefix(word));
         let instructions = total("summary: ").or(total("totals: "));
-        let instructions: f64 = instructions.and_then(|n| n.trim().parse().ok()).expect("a sum");
+        let instructions: f64 = instructions
+            .and_then(|n| n.trim().parse().ok())
+            .expect("a sum");
         slot(jobs.entry(job).or_default(), key, bytes).insert(name, vec![instructions / calls]);
     }
     jobs
@@ -164,7 +173,9 @@ fn met(job: &Job, key: &Key, figures: &Figures) -> Option<(usize, usize)> {
     let mut all: Option<Vec<bool>> = None;
     for (peer, mark, above) in job.marks {
         if let Some(ratios) = ratio(figures, peer) {
-            let good = ratios.iter().map(|r| if *above { r > mark } else { r >= mark });
+            let good = ratios
+                .iter()
+                .map(|r| if *above { r > mark } else { r >= mark });
             all = Some(match all {
                 None => good.collect(),
                 Some(before) => before.iter().zip(good).map(|(a, b)| *a && b).collect(),
@@ -176,7 +187,7 @@ fn met(job: &Job, key: &Key, figures: &Figures) -> Option<(usize, usize)> {
 
 fn verdict(met: Option<(usize, usize)>) -> String {
     match met {
-        None => "none".into(),
+        None => "-".into(),
         Some((good, all)) if good == all => "met".into(),
         Some((0, _)) => "**missed**".into(),
         Some((good, all)) => format!("**{good} of {all} layouts**"),
@@ -203,12 +214,19 @@ fn cut(value: f64) -> String {
 }
 
 fn span(range: Range) -> String {
-    format!("{} ({}–{})", cut(range.median), cut(range.least), cut(range.greatest))
+    format!(
+        "{} ({}–{})",
+        cut(range.median),
+        cut(range.least),
+        cut(range.greatest)
+    )
 }
 
 fn row_name(job: &Job, key: &Key) -> String {
-    let size = if job.word == "upload" { key.2 } else { key.1 };
-    format!("{}, {}", key.0, bytes(size))
+    match job.word {
+        "upload" => format!("{}, pieces of {}", key.0, bytes(key.2)),
+        _ => format!("{}, {}", key.0, bytes(key.1)),
+    }
 }
 
 // ----------------------------------------------------------------- tables
@@ -241,7 +259,12 @@ fn ratio_table(out: &mut String, job: &Job, rows: &Rows) {
         let mut cells = vec![
             key.0.clone(),
             bytes(size),
-            format!("{} ({}–{})", short(own.median), short(own.least), short(own.greatest)),
+            format!(
+                "{} ({}–{})",
+                short(own.median),
+                short(own.least),
+                short(own.greatest)
+            ),
         ];
         for peer in job.peers {
             cells.push(range(figures, peer).map_or("-".into(), span));
@@ -252,7 +275,12 @@ fn ratio_table(out: &mut String, job: &Job, rows: &Rows) {
 }
 
 fn ratio_plot(job: &Job, rows: &Rows) -> String {
-    let peers: Vec<&str> = job.peers.iter().copied().filter(|p| *p != "j8 exact").collect();
+    let peers: Vec<&str> = job
+        .peers
+        .iter()
+        .copied()
+        .filter(|p| *p != "j8 exact")
+        .collect();
     let lines: Vec<Row> = rows
         .iter()
         .map(|(key, figures)| Row {
@@ -260,10 +288,18 @@ fn ratio_plot(job: &Job, rows: &Rows) -> String {
             values: peers.iter().map(|peer| range(figures, peer)).collect(),
         })
         .collect();
-    let names: Vec<String> = peers.iter().map(|peer| shown_name(peer).replace('`', "")).collect();
+    let names: Vec<String> = peers
+        .iter()
+        .map(|peer| shown_name(peer).replace('`', ""))
+        .collect();
     let names: Vec<&str> = names.iter().map(String::as_str).collect();
     let axis = "speed of j8 over the peer's (times)";
-    plot::ratios(&format!("{}: j8 beside its peers", job.title), axis, &names, &lines)
+    plot::ratios(
+        &format!("{}: j8 beside its peers", job.title),
+        axis,
+        &names,
+        &lines,
+    )
 }
 
 /// How far the layouts move a contestant: the greatest time over the least.
@@ -298,16 +334,25 @@ fn spread_table(out: &mut String, tables: &BTreeMap<String, Rows>) {
 
 fn count_tables(out: &mut String, counted: &BTreeMap<String, Rows>) {
     for job in &JOBS {
-        let Some(rows) = counted.get(job.word) else { continue };
+        let Some(rows) = counted.get(job.word) else {
+            continue;
+        };
         let _ = writeln!(out, "\n{}:\n", job.title);
-        let size_name = if job.word == "upload" { "size" } else { job.rows };
+        let size_name = if job.word == "upload" {
+            "size"
+        } else {
+            job.rows
+        };
         let mut columns = vec!["text".to_string(), size_name.into(), "j8".into()];
         columns.extend(job.peers.iter().map(|peer| shown_name(peer)));
         head(out, &columns);
         for (key, figures) in rows {
             let mut cells = vec![key.0.clone(), bytes(key.1)];
             for name in [OURS].iter().chain(job.peers) {
-                let each = figures.values.get(*name).map(|v| v[0] / figures.bytes as f64);
+                let each = figures
+                    .values
+                    .get(*name)
+                    .map(|v| v[0] / figures.bytes as f64);
                 cells.push(each.map_or("-".into(), |each| format!("{each:.2}")));
             }
             let _ = writeln!(out, "| {} |", cells.join(" | "));
@@ -388,14 +433,28 @@ fn cache(index: u32) -> String {
     fs::read_to_string(file).map_or("unknown".into(), |size| size.trim().to_string())
 }
 
+fn own_version() -> String {
+    let header = include_str!("../../include/j8.h");
+    let line = header
+        .lines()
+        .find_map(|line| line.strip_prefix("#define J8_VERSION "));
+    line.map_or("unknown".into(), |version| {
+        version.trim_matches('"').to_string()
+    })
+}
+
 fn machine(out: &mut String, facts: &BTreeMap<String, String>) {
     head(out, &["", ""].map(String::from));
     let version = |package| said("dpkg-query", &["-W", "-f", "${Version}", package]);
     let cores = std::thread::available_parallelism().map_or(0, |n| n.get());
     for (name, value) in [
+        ("this library", own_version()),
         ("processor", after("/proc/cpuinfo", "model name")),
         ("cores", cores.to_string()),
-        ("caches", format!("L1d {}, L2 {}, L3 {}", cache(0), cache(2), cache(3))),
+        (
+            "caches",
+            format!("L1d {}, L2 {}, L3 {}", cache(0), cache(2), cache(3)),
+        ),
         ("memory", after("/proc/meminfo", "MemTotal")),
         ("kernel", said("uname", &["-sr"])),
         ("Rust", said("rustc", &["--version"])),
@@ -409,7 +468,10 @@ fn machine(out: &mut String, facts: &BTreeMap<String, String>) {
         ("run", format!("{} to {} UTC", facts["start"], facts["end"])),
         (
             "load of the machine",
-            format!("{} before and {} after (1, 5 and 15 minutes)", facts["load before"], facts["load after"]),
+            format!(
+                "{} before and {} after (1, 5 and 15 minutes)",
+                facts["load before"], facts["load after"]
+            ),
         ),
     ] {
         let _ = writeln!(out, "| {name} | {value} |");
@@ -421,13 +483,23 @@ fn machine(out: &mut String, facts: &BTreeMap<String, String>) {
 fn marks(out: &mut String, tables: &BTreeMap<String, Rows>) {
     head(
         out,
-        &["job", "mark", "rows", "met in every layout", "in some", "in none"].map(String::from),
+        &[
+            "job",
+            "mark",
+            "rows",
+            "met in every layout",
+            "in some",
+            "in none",
+        ]
+        .map(String::from),
     );
     let mut missed = Vec::new();
     for job in &JOBS {
         let (mut every, mut some, mut none) = (0, 0, 0);
         for (key, figures) in &tables[job.word] {
-            let Some((good, all)) = met(job, key, figures) else { continue };
+            let Some((good, all)) = met(job, key, figures) else {
+                continue;
+            };
             match good {
                 g if g == all => {
                     every += 1;
@@ -438,7 +510,9 @@ fn marks(out: &mut String, tables: &BTreeMap<String, Rows>) {
             }
             let mut against = Vec::new();
             for (peer, mark, above) in job.marks {
-                let Some(range) = range(figures, peer) else { continue };
+                let Some(range) = range(figures, peer) else {
+                    continue;
+                };
                 if range.least < *mark || (*above && range.least <= *mark) {
                     against.push(format!("{} against {}", span(range), shown_name(peer)));
                 }
@@ -469,7 +543,11 @@ fn marks(out: &mut String, tables: &BTreeMap<String, Rows>) {
     match missed.is_empty() {
         true => out.push_str("\nEvery mark is met in every layout.\n"),
         false => {
-            let _ = writeln!(out, "\nRows that miss a mark in a layout or more:\n\n{}", missed.join("\n"));
+            let _ = writeln!(
+                out,
+                "\nRows that miss a mark in a layout or more:\n\n{}",
+                missed.join("\n")
+            );
         }
     }
 }
@@ -499,7 +577,9 @@ pub fn write(folder: &Path, docs: &Path) {
     let (before, behind) = include_str!("../document.md")
         .split_once("<!-- tables -->")
         .expect("a place for the tables");
-    let (before, how) = before.split_once("<!-- marks -->").expect("a place for the marks");
+    let (before, how) = before
+        .split_once("<!-- marks -->")
+        .expect("a place for the marks");
     out.push_str(&fill(before));
     marks(&mut out, &tables);
     out.push_str(&fill(how));
@@ -511,10 +591,18 @@ pub fn write(folder: &Path, docs: &Path) {
         save(&format!("{}.svg", job.word), ratio_plot(job, rows));
     }
 
-    let (counts_text, rest) = behind.split_once("<!-- counts -->").expect("a place for the counts");
-    let (curve_text, rest) = rest.split_once("<!-- curves -->").expect("a place for the curves");
-    let (spread_text, rest) = rest.split_once("<!-- spread -->").expect("a place for the spread");
-    let (machine_text, rest) = rest.split_once("<!-- machine -->").expect("a place for the machine");
+    let (counts_text, rest) = behind
+        .split_once("<!-- counts -->")
+        .expect("a place for the counts");
+    let (curve_text, rest) = rest
+        .split_once("<!-- curves -->")
+        .expect("a place for the curves");
+    let (spread_text, rest) = rest
+        .split_once("<!-- spread -->")
+        .expect("a place for the spread");
+    let (machine_text, rest) = rest
+        .split_once("<!-- machine -->")
+        .expect("a place for the machine");
     out.push_str(&fill(counts_text.trim_start()));
     count_tables(&mut out, &counted);
     out.push_str(&fill(curve_text));
@@ -526,7 +614,10 @@ pub fn write(folder: &Path, docs: &Path) {
             &[("read: ", of("read")), ("written: ", of("write"))],
         ),
     );
-    save("cost_uploads.svg", curve_plot("Uploads: cost a byte by size", &[("", of("upload"))]));
+    save(
+        "cost_uploads.svg",
+        curve_plot("Uploads: cost a byte by size", &[("", of("upload"))]),
+    );
     save(
         "cost_json8.svg",
         curve_plot(
@@ -534,8 +625,15 @@ pub fn write(folder: &Path, docs: &Path) {
             &[("read: ", of("json8")), ("written: ", of("json8_write"))],
         ),
     );
-    for (name, title) in [("strings", "Strings"), ("uploads", "Uploads"), ("json8", "JSON8")] {
-        let _ = writeln!(out, "\n![{title}: cost a byte by size](plots/cost_{name}.svg)");
+    for (name, title) in [
+        ("strings", "Strings"),
+        ("uploads", "Uploads"),
+        ("json8", "JSON8"),
+    ] {
+        let _ = writeln!(
+            out,
+            "\n![{title}: cost a byte by size](plots/cost_{name}.svg)"
+        );
     }
     for job in &JOBS {
         curve_table(&mut out, job, of(job.word));
@@ -545,6 +643,9 @@ pub fn write(folder: &Path, docs: &Path) {
     out.push_str(&fill(machine_text));
     machine(&mut out, &facts);
     out.push_str(&fill(rest));
+    while out.contains("\n\n\n") {
+        out = out.replace("\n\n\n", "\n\n");
+    }
     fs::write(docs.join("BENCHMARKS.md"), out).expect("the document is saved");
     println!("written: docs/BENCHMARKS.md and docs/plots");
 }

@@ -163,7 +163,11 @@ pub fn case(plan: Plan) -> Case {
             (
                 "reference",
                 Box::new(move || {
-                    black_box(reference(black_box(text), piece, black_box(&mut their_lent)));
+                    black_box(reference(
+                        black_box(text),
+                        piece,
+                        black_box(&mut their_lent),
+                    ));
                 }),
             ),
             (
