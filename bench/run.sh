@@ -1,13 +1,14 @@
 #!/usr/bin/env bash
 # The whole benchmark: builds of several code layouts, their times, the instructions, and from these docs/BENCHMARKS.md and docs/plots.
-# J8_ROUNDS: rounds for each layout (90). J8_LAYOUTS: how many (12).
+# J8_ROUNDS: rounds for each layout (120). J8_LAYOUTS: how many (12).
 set -eu
 cd "$(dirname "$0")"
 
-rounds=${J8_ROUNDS:-90}
+rounds=${J8_ROUNDS:-120}
 layouts=${J8_LAYOUTS:-12}
-# A layout's rounds are in three processes, since an address space may be unlucky too, each with its heap shifted; and the layouts take turns.
-passes=3
+# A layout's rounds are in several processes, each with its heap shifted, since an address space may be unlucky too. The layouts take turns, so that
+# a time when the machine is slow meets all of them and no row in all its rounds.
+passes=6
 run=target/run
 
 rm -rf $run

@@ -81,12 +81,18 @@ fn all(job: &'static str, sizes: &[(usize, usize)]) -> Vec<Plan> {
     plans
 }
 
-/// The rows whose instructions are counted: 1 KiB and more, and an upload in
-/// packets.
+/// The rows whose instructions are counted: 1 KiB and more; of uploads packets, of
+/// a short and of the longest text.
 fn counted_plans() -> Vec<Plan> {
-    let rows = JOBS.into_iter().flat_map(plans);
-    rows.filter(|plan| plan.size >= 1_024 && [0, upload::PACKET].contains(&plan.piece))
-        .collect()
+    let uploads = [16_384, j8::UPLOAD_MAX].map(|size| (size, upload::PACKET));
+    let mut rows = Vec::new();
+    for job in JOBS {
+        match job {
+            "upload" => rows.extend(all(job, &uploads)),
+            _ => rows.extend(plans(job).into_iter().filter(|plan| plan.size >= 1_024)),
+        }
+    }
+    rows
 }
 
 fn rounds() -> usize {

@@ -237,7 +237,8 @@ pub fn curves(title: &str, x_axis: &str, y_axis: &str, curves: &[Curve]) -> Stri
     let (y_from, y_to) = (y_ticks[0], y_ticks[y_ticks.len() - 1]);
     let (x_least, x_greatest) =
         points().fold((f64::MAX, 0f64), |(a, b), (x, _)| (a.min(x), b.max(x)));
-    let (x_from, x_to) = (x_least.log2().floor(), x_greatest.log2().ceil());
+    // A text of a few bytes less than its size belongs to it.
+    let (x_from, x_to) = ((x_least * 1.05).log2().floor(), x_greatest.log2().ceil());
     let x_of = |bytes: f64| LEFT + PLOT * (bytes.log2() - x_from) / (x_to - x_from);
     let y_of = |cost: f64| BOTTOM - HEIGHT * (cost / y_from).ln() / (y_to / y_from).ln();
 
