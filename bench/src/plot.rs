@@ -100,7 +100,7 @@ pub struct Row {
 
 /// Ratios: a dot at the median and a bar from the least to the greatest layout,
 /// on a scale of powers, with a line at 1.
-pub fn ratios(title: &str, axis: &str, names: &[&str], rows: &[Row]) -> String {
+pub fn ratios(title: &str, plotted: &str, axis: &str, names: &[&str], rows: &[Row]) -> String {
     const LEFT: f64 = 200.0;
     const PLOT: f64 = 540.0;
     const TOP: f64 = 70.0;
@@ -128,7 +128,7 @@ pub fn ratios(title: &str, axis: &str, names: &[&str], rows: &[Row]) -> String {
         "start",
         12,
         "normal",
-        "dot: the median of the layouts; bar: from the least to the greatest",
+        &format!("{plotted}; dot: the median of the layouts; bar: from the least to the greatest"),
     );
     for tick in &ticks {
         let x = x_of(*tick);

@@ -16,6 +16,8 @@ struct Job {
     title: &'static str,
     /// What a size is.
     rows: &'static str,
+    /// What a row of the plot is.
+    plotted: &'static str,
     peers: &'static [&'static str],
     /// The least ratio to each of these peers, and whether it must be above it.
     marks: &'static [(&'static str, f64, bool)],
@@ -26,6 +28,7 @@ const JOBS: [Job; 5] = [
         word: "read",
         title: "Strings, read",
         rows: "name's bytes",
+        plotted: "a row: kind and bytes of the name",
         peers: &["serde_json", "reference"],
         marks: &[("serde_json", 1.0, false)],
     },
@@ -33,6 +36,7 @@ const JOBS: [Job; 5] = [
         word: "write",
         title: "Strings, written",
         rows: "name's bytes",
+        plotted: "a row: kind and bytes of the name",
         peers: &["serde_json", "reference"],
         marks: &[("serde_json", 1.0, false)],
     },
@@ -40,6 +44,7 @@ const JOBS: [Job; 5] = [
         word: "upload",
         title: "Uploads",
         rows: "pieces of",
+        plotted: "a row: bytes of a name, its form, and bytes of a piece",
         peers: &["loop", "reference"],
         marks: &[("loop", 0.7, false), ("reference", 1.0, false)],
     },
@@ -47,6 +52,7 @@ const JOBS: [Job; 5] = [
         word: "json8",
         title: "JSON8, read",
         rows: "size",
+        plotted: "a row: kind and size of the text",
         peers: &[
             "Value",
             "cJSON",
@@ -67,6 +73,7 @@ const JOBS: [Job; 5] = [
         word: "json8_write",
         title: "JSON8, written",
         rows: "size",
+        plotted: "a row: kind and size of the text",
         peers: &[
             "Value",
             "cJSON",
@@ -293,13 +300,9 @@ fn ratio_plot(job: &Job, rows: &Rows) -> String {
         .map(|peer| shown_name(peer).replace('`', ""))
         .collect();
     let names: Vec<&str> = names.iter().map(String::as_str).collect();
+    let title = format!("{}: j8 beside its peers", job.title);
     let axis = "speed of j8 over the peer's (times)";
-    plot::ratios(
-        &format!("{}: j8 beside its peers", job.title),
-        axis,
-        &names,
-        &lines,
-    )
+    plot::ratios(&title, job.plotted, axis, &names, &lines)
 }
 
 /// How far the layouts move a contestant: the greatest time over the least.
