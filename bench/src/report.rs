@@ -576,6 +576,7 @@ pub fn write(folder: &Path, docs: &Path) {
         text.replace("{layouts}", &layouts.to_string())
             .replace("{passes}", &passes.to_string())
             .replace("{rounds}", &rounds.to_string())
+            .replace("{each}", &(rounds / passes).to_string())
     };
     let (before, behind) = include_str!("../document.md")
         .split_once("<!-- tables -->")
