@@ -1,5 +1,5 @@
 # make test: the gate. make demo: the main job on samples. make archive: target/staticlib/libj8.a for C and Rust. make command: the command j8.
-# make install PREFIX=..: command, archive, header and j8.pc. make stack, make size: what the functions take.
+# make install PREFIX=..: command, archive, header and j8.pc. make stack, make size: what the functions take. make bench: their speed beside others.
 # make compare, make load, make faults: docs/TESTING.md.
 .PHONY: test demo archive command examples install uninstall stack size compare load faults bench clean
 
@@ -80,9 +80,10 @@ load: archive
 faults: archive
 	@bash rust/compare/faults.sh
 
-# Needs serde_json, and takes along the other peers, from Debian's packages: bench/README.md.
+# Installs the peers from Debian's packages, measures, and writes docs/BENCHMARKS.md and docs/plots: some minutes.
 bench: archive
-	cd bench && cargo run --offline --release
+	bash bench/install.sh
+	bash bench/run.sh
 
 clean:
 	rm -rf target rust/target bench/target

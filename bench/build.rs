@@ -1,5 +1,6 @@
 //! Compiles the C and C++ peers if their packages are there; without them the
-//! benchmark runs with the Rust ones alone.
+//! benchmark runs with the Rust ones alone. Every function has a section of its
+//! own, so that the linker can shuffle them.
 
 use std::path::Path;
 use std::process::Command;
@@ -18,7 +19,15 @@ fn main() {
     );
     let compiled = runs(
         Command::new("g++")
-            .args(["-O2", "-std=c++17", "-Wall", "-c", "src/peers.cpp", "-o"])
+            .args([
+                "-O2",
+                "-std=c++17",
+                "-Wall",
+                "-ffunction-sections",
+                "-c",
+                "src/peers.cpp",
+                "-o",
+            ])
             .arg(&object),
     );
     if !(compiled && runs(Command::new("ar").arg("crs").arg(&archive).arg(&object))) {

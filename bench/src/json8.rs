@@ -1,17 +1,18 @@
 //! Reading settings backups, plain JSON texts all, to a node table, beside the
-//! reference, serde_json and the C and C++ peers. See the README for what is
-//! compared.
+//! reference, serde_json and the C and C++ peers.
 
-use super::race;
+use super::race::{keep, Call, Case, Plan, OURS};
 use serde::de::IgnoredAny;
 use serde_json::Value;
 use std::hint::black_box;
 
 pub const SIZES: [usize; 3] = [1_024, 8_192, 32_768];
 
+pub const KIND_NAMES: [&str; 4] = [KINDS[0].name, KINDS[1].name, KINDS[2].name, KINDS[3].name];
+
 /// What a text is made of: its head, its tail, and an entry of each number.
-pub struct Kind {
-    pub name: &'static str,
+struct Kind {
+    name: &'static str,
     head: &'static str,
     tail: &'static str,
     entry: fn(usize) -> String,
@@ -19,7 +20,7 @@ pub struct Kind {
 
 /// Entries have 32 bytes a node or more, so that the longest text stays within
 /// 1,024 nodes.
-pub const KINDS: [Kind; 4] = [
+const KINDS: [Kind; 4] = [
     Kind {
         name: "settings",
         head: "{\n  \"model\": \"Office 2400\"",
@@ -74,7 +75,7 @@ pub const KINDS: [Kind; 4] = [
     },
 ];
 
-pub fn backup(kind: &Kind, size: usize) -> Vec<u8> {
+fn backup(kind: &Kind, size: usize) -> Vec<u8> {
     let mut text = kind.head.to_string();
     for number in 0.. {
         let entry = (kind.entry)(number);
@@ -137,14 +138,17 @@ fn ours(text: &[u8], table: &mut [u32], store: &mut [u8]) -> j8::raw::j8_nodes {
     }
 }
 
-struct Row {
-    nodes: usize,
-    /// Ours, the reference, IgnoredAny, Value, and the peers in their order.
-    least: Vec<f64>,
+/// The peers' names, in their order.
+const PEER_NAMES: [&str; 5] = ["yajl", "cJSON", "RapidJSON", "RapidJSON+UTF-8", "simdjson"];
+
+pub fn text_of(plan: Plan) -> Vec<u8> {
+    let kind = KINDS.iter().find(|kind| kind.name == plan.kind);
+    backup(kind.expect("a kind of text"), plan.size)
 }
 
-fn read(text: &[u8], rounds: usize) -> Row {
-    let padded = [text, &[0; BEHIND]].concat();
+pub fn case(plan: Plan) -> Case {
+    let text = keep(text_of(plan)).as_slice();
+    let padded = keep([text, &[0; BEHIND]].concat());
     let (mut table, mut store) = (vec![0; j8::TABLE_ROOM], vec![0; text.len()]);
     let (mut their_table, mut their_store) = (table.clone(), store.clone());
 
@@ -165,75 +169,52 @@ fn read(text: &[u8], rounds: usize) -> Row {
         );
     }
 
-    let mut calls: Vec<Box<dyn FnMut() + '_>> = vec![
-        Box::new(|| {
-            black_box(ours(
-                black_box(text),
-                black_box(&mut table),
-                black_box(&mut store),
-            ));
+    let mut calls: Vec<(&'static str, Call)> = vec![
+        (
+            OURS,
+            Box::new(move || {
+                black_box(ours(
+                    black_box(text),
+                    black_box(&mut table),
+                    black_box(&mut store),
+                ));
+            }),
+        ),
+        (
+            "Value",
+            Box::new(move || {
+                let _ = black_box(serde_json::from_slice::<Value>(black_box(text)));
+            }),
+        ),
+    ];
+    for (name, peer) in PEER_NAMES.into_iter().zip(PEERS) {
+        calls.push((
+            name,
+            Box::new(move || {
+                // SAFETY: as above.
+                black_box(unsafe { peer(black_box(padded).as_ptr(), text.len(), false) });
+            }),
+        ));
+    }
+    calls.push((
+        "IgnoredAny",
+        Box::new(move || {
+            let _ = black_box(serde_json::from_slice::<IgnoredAny>(black_box(text)));
         }),
-        Box::new(|| {
+    ));
+    calls.push((
+        "reference",
+        Box::new(move || {
             let _ = black_box(j8_reference::json8::read(
                 black_box(text),
                 black_box(&mut their_table),
                 black_box(&mut their_store),
             ));
         }),
-        Box::new(|| {
-            let _ = black_box(serde_json::from_slice::<IgnoredAny>(black_box(text)));
-        }),
-        Box::new(|| {
-            let _ = black_box(serde_json::from_slice::<Value>(black_box(text)));
-        }),
-    ];
-    for peer in PEERS {
-        let padded = &padded;
-        calls.push(Box::new(move || {
-            // SAFETY: as above.
-            black_box(unsafe { peer(black_box(padded).as_ptr(), text.len(), false) });
-        }));
-    }
-    let mut contestants: Vec<&mut dyn FnMut()> = Vec::new();
-    for call in &mut calls {
-        contestants.push(&mut **call);
-    }
-    Row {
-        nodes: got.nodes,
-        least: race(&mut contestants, rounds),
-    }
-}
-
-pub fn run(rounds: usize) {
-    println!();
-    println!("JSON8: a settings backup read to nodes, us a text, ns a byte of it, and how many times as long the others take");
-    print!(
-        "{:<8} {:>6} {:>5}  {:>7} {:>7}  {:>6} {:>7} {:>6}",
-        "text", "bytes", "nodes", "j8", "a byte", "ref", "ignored", "value"
-    );
-    println!(
-        " {:>6} {:>6} {:>6} {:>6} {:>8}",
-        "yajl", "cJSON", "rapid", "+UTF-8", "simdjson"
-    );
-    for kind in &KINDS {
-        for size in SIZES {
-            let text = backup(kind, size);
-            let Row { nodes, least } = read(&text, rounds);
-            print!(
-                "{:<8} {:>6} {nodes:>5}  {:>7.2} {:>7.3} ",
-                kind.name,
-                text.len(),
-                least[0] / 1000.0,
-                least[0] / text.len() as f64
-            );
-            // One column each, whether the peers are there or not.
-            for (index, width) in [6, 7, 6, 6, 6, 6, 6, 8].into_iter().enumerate() {
-                match least.get(1 + index) {
-                    Some(theirs) => print!(" {:>width$.2}", theirs / least[0]),
-                    None => print!(" {:>width$}", "-"),
-                }
-            }
-            println!();
-        }
+    ));
+    Case {
+        plan,
+        bytes: text.len(),
+        contestants: calls,
     }
 }

@@ -1,8 +1,8 @@
 //! Writing the tables of the reader's settings backups, beside the reference,
-//! serde_json and the C and C++ peers. See the README for what is compared.
+//! serde_json and the C and C++ peers.
 
-use super::json8::{backup, KINDS, SIZES};
-use super::race;
+use super::json8::text_of;
+use super::race::{keep, Call, Case, Plan, OURS};
 use serde_json::Value;
 use std::ffi::{c_char, c_void, CStr};
 use std::hint::black_box;
@@ -116,18 +116,12 @@ fn reference(nodes: j8::Nodes, out: &mut [u8]) -> usize {
     j8_reference::json8::write(table, text, store, out).expect("what was read is fit")
 }
 
-struct Row {
-    nodes: usize,
-    /// The bytes that we write.
-    written: usize,
-    /// Ours, ours in exact room, the reference, serde_json, and the peers in
-    /// their order.
-    least: Vec<f64>,
-}
+/// The peers' names, in their order.
+const PEER_NAMES: [&str; 3] = ["RapidJSON", "RapidJSON+UTF-8", "cJSON"];
 
-fn write(text: &[u8], rounds: usize) -> Row {
-    let read = j8::Json8::read(text).expect("our reader takes the text");
-    let nodes = read.nodes();
+pub fn case(plan: Plan) -> Case {
+    let text = keep(text_of(plan)).as_slice();
+    let nodes = keep(j8::Json8::read(text).expect("our reader takes the text")).nodes();
     let value: Value = serde_json::from_slice(text).expect("the text is JSON");
     // Six for each node and byte suffice for any table, so nobody has to measure.
     let room = 6 * (nodes.len() + text.len() + nodes.store().len());
@@ -155,76 +149,45 @@ fn write(text: &[u8], rounds: usize) -> Row {
     let back = j8::Json8::read(written.as_slice()).expect("our reader takes what we write");
     assert!(back.root().to_value() == nodes.root().to_value());
 
-    let mut calls: Vec<Box<dyn FnMut() + '_>> = vec![
-        Box::new(|| {
-            black_box(ours(black_box(nodes), black_box(&mut our_out)));
-        }),
-        Box::new(|| {
-            black_box(ours(black_box(nodes), black_box(&mut exact_out)));
-        }),
-        Box::new(|| {
+    let mut calls: Vec<(&'static str, Call)> = vec![
+        (
+            OURS,
+            Box::new(move || {
+                black_box(ours(black_box(nodes), black_box(&mut our_out)));
+            }),
+        ),
+        (
+            "Value",
+            Box::new(move || {
+                serde_out.clear();
+                let _ = black_box(serde_json::to_writer(&mut serde_out, black_box(&value)));
+                black_box(&serde_out);
+            }),
+        ),
+    ];
+    for (name, mut tree) in PEER_NAMES.into_iter().zip(trees) {
+        calls.push((
+            name,
+            Box::new(move || {
+                black_box(black_box(&mut tree).write());
+            }),
+        ));
+    }
+    calls.push((
+        "reference",
+        Box::new(move || {
             black_box(reference(black_box(nodes), black_box(&mut their_out)));
         }),
-        Box::new(|| {
-            serde_out.clear();
-            let _ = black_box(serde_json::to_writer(&mut serde_out, black_box(&value)));
-            black_box(&serde_out);
+    ));
+    calls.push((
+        "j8 exact",
+        Box::new(move || {
+            black_box(ours(black_box(nodes), black_box(&mut exact_out)));
         }),
-    ];
-    for tree in &mut trees {
-        calls.push(Box::new(move || {
-            black_box(black_box(&mut *tree).write());
-        }));
-    }
-    let mut contestants: Vec<&mut dyn FnMut()> = Vec::new();
-    for call in &mut calls {
-        contestants.push(&mut **call);
-    }
-    Row {
-        nodes: nodes.len(),
-        written: written.len(),
-        least: race(&mut contestants, rounds),
-    }
-}
-
-pub fn run(rounds: usize) {
-    println!();
-    println!("JSON8: the nodes of a settings backup written, us a text, ns a byte of what is written, and how many times as long the others take");
-    println!(
-        "{:<8} {:>7} {:>5}  {:>7} {:>7}  {:>6} {:>6} {:>6} {:>6} {:>6} {:>6}",
-        "text",
-        "written",
-        "nodes",
-        "j8",
-        "a byte",
-        "exact",
-        "ref",
-        "serde",
-        "rapid",
-        "+UTF-8",
-        "cJSON"
-    );
-    for kind in &KINDS {
-        for size in SIZES {
-            let Row {
-                nodes,
-                written,
-                least,
-            } = write(&backup(kind, size), rounds);
-            print!(
-                "{:<8} {written:>7} {nodes:>5}  {:>7.2} {:>7.3} ",
-                kind.name,
-                least[0] / 1000.0,
-                least[0] / written as f64
-            );
-            // One column each, whether the peers are there or not.
-            for column in 1..7 {
-                match least.get(column) {
-                    Some(theirs) => print!(" {:>6.2}", theirs / least[0]),
-                    None => print!(" {:>6}", "-"),
-                }
-            }
-            println!();
-        }
+    ));
+    Case {
+        plan,
+        bytes: written.len(),
+        contestants: calls,
     }
 }

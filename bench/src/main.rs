@@ -1,200 +1,232 @@
-//! Reading and writing J8 strings, beside serde_json and the reference, the
-//! upload of J8 Lines, and reading and writing JSON8. See the README for what is
-//! compared.
+//! The benchmark: strings, uploads and JSON8 beside other libraries. The README
+//! says how it is run, and docs/BENCHMARKS.md what is compared.
 
 mod json8;
 mod json8_write;
+mod plot;
+mod race;
+mod report;
+mod strings;
 mod upload;
 
-use std::hint::black_box;
-use std::time::Instant;
+use race::{race, race_case, Call, Case, Plan, OURS};
+use std::path::Path;
 
-/// How long one contestant's turn in a round takes, about.
-const TURN_NANOSECONDS: u128 = 100_000;
+/// The tables, by the words that name them on the command line.
+const JOBS: [&str; 5] = ["read", "write", "upload", "json8", "json8_write"];
 
-const SIZES: [usize; 4] = [16, 64, 1024, 16384];
+/// Calls before the counted ones, so that memory which is kept is there.
+const WARM_CALLS: usize = 3;
 
-/// Kinds of names, each made by repeating a part. The text of 16,384 bytes
-/// must stay within the 32,768 that are read.
-const KINDS: [(&str, &[u8]); 4] = [
-    ("plain", b"scans/2024/Marketing-Invoices_04/"),
-    ("accented", "Éléments reçus/Größe à côté/".as_bytes()),
-    ("escapes", b"a\"b\\c\td\ne\rf\x0cg\x01h\""),
-    ("odd bytes", b"caf\xe9/gr\xfc\xdfe/"),
-];
+/// Calls that are counted; what a call does may depend a little on the state of
+/// the allocator.
+const COUNTED_CALLS: usize = 4;
 
-/// `size` bytes of the part repeated. The end is filled up with `x` where a
-/// character would be cut.
-fn name(part: &[u8], size: usize) -> Vec<u8> {
-    let mut name: Vec<u8> = part.iter().copied().cycle().take(size).collect();
-    if let (Ok(_), Err(cut)) = (std::str::from_utf8(part), std::str::from_utf8(&name)) {
-        name[cut.valid_up_to()..].fill(b'x');
+/// Bytes that a pass shifts the heap by: no divisor of a page.
+const HEAP_SHIFT: usize = 1_360;
+
+fn kinds(job: &str) -> [&'static str; 4] {
+    match job {
+        "read" | "write" => strings::KINDS,
+        "upload" => upload::KINDS,
+        _ => json8::KIND_NAMES,
     }
-    name
 }
 
-/// The least nanoseconds a call of each contestant, over interleaved rounds.
-fn race(contestants: &mut [&mut dyn FnMut()], rounds: usize) -> Vec<f64> {
-    let calls: Vec<u32> = contestants
-        .iter_mut()
-        .map(|call| {
-            // The first calls also warm up.
-            let start = Instant::now();
-            let mut done = 0;
-            while start.elapsed().as_nanos() < TURN_NANOSECONDS {
+fn case(plan: Plan) -> Case {
+    match plan.job {
+        "read" | "write" => strings::case(plan),
+        "upload" => upload::case(plan),
+        "json8" => json8::case(plan),
+        _ => json8_write::case(plan),
+    }
+}
+
+/// The rows of a job's table.
+fn plans(job: &'static str) -> Vec<Plan> {
+    let sizes: Vec<(usize, usize)> = match job {
+        "read" | "write" => strings::SIZES.map(|size| (size, 0)).to_vec(),
+        "upload" => upload::PIECES.map(|(piece, size)| (size, piece)).to_vec(),
+        _ => json8::SIZES.map(|size| (size, 0)).to_vec(),
+    };
+    all(job, &sizes)
+}
+
+/// The sizes of a job's curve, each twice the one before it, up to the limit.
+fn curve_sizes(job: &str) -> Vec<(usize, usize)> {
+    let (least, limit, piece) = match job {
+        "read" | "write" => (16, strings::LIMIT, 0),
+        "upload" => (4_096, j8::UPLOAD_MAX, upload::PACKET),
+        _ => (1_024, 32_768, 0),
+    };
+    let doubled = std::iter::successors(Some(least), |size| Some(2 * size));
+    doubled
+        .take_while(|size| *size <= limit)
+        .map(|size| (size, piece))
+        .collect()
+}
+
+fn all(job: &'static str, sizes: &[(usize, usize)]) -> Vec<Plan> {
+    let mut plans = Vec::new();
+    for kind in kinds(job) {
+        for &(size, piece) in sizes {
+            plans.push(Plan {
+                job,
+                kind,
+                size,
+                piece,
+            });
+        }
+    }
+    plans
+}
+
+/// The rows whose instructions are counted: 1 KiB and more; of uploads packets, of
+/// a short and of the longest text.
+fn counted_plans() -> Vec<Plan> {
+    let uploads = [16_384, j8::UPLOAD_MAX].map(|size| (size, upload::PACKET));
+    let mut rows = Vec::new();
+    for job in JOBS {
+        match job {
+            "upload" => rows.extend(all(job, &uploads)),
+            _ => rows.extend(plans(job).into_iter().filter(|plan| plan.size >= 1_024)),
+        }
+    }
+    rows
+}
+
+fn rounds() -> usize {
+    match std::env::var("J8_ROUNDS") {
+        Ok(value) => value.parse().expect("J8_ROUNDS is a number"),
+        Err(_) => 200,
+    }
+}
+
+/// Tables for the eye, of this build alone.
+fn tables(wanted: &[String]) {
+    let rounds = rounds();
+    println!("Least of {rounds} interleaved rounds. A ratio above 1 means that j8 is faster.");
+    println!("One build only: where its code lies moves the times. `make bench` has several.");
+    for job in JOBS {
+        if !(wanted.is_empty() || wanted.iter().any(|word| word == job)) {
+            continue;
+        }
+        for (row, plan) in plans(job).into_iter().enumerate() {
+            let mut case = case(plan);
+            let least = race_case(&mut case, rounds);
+            if row == 0 {
+                println!();
+                println!("{job}: ns a call, ns a byte of the text, and how many times as long the others take");
+                print!(
+                    "{:<12} {:>7} {:>6}  {:>9} {:>7} ",
+                    "kind", "bytes", "piece", OURS, "a byte"
+                );
+                for (name, _) in &case.contestants[1..] {
+                    print!(" {name:>10}");
+                }
+                println!();
+            }
+            print!(
+                "{:<12} {:>7} {:>6}  {:>9.1} {:>7.3} ",
+                plan.kind,
+                case.bytes,
+                plan.piece,
+                least[0],
+                least[0] / case.bytes as f64
+            );
+            for ((name, _), time) in case.contestants.iter().zip(&least).skip(1) {
+                print!(" {:>1$.2}", time / least[0], name.len().max(10));
+            }
+            println!();
+        }
+    }
+}
+
+fn line(series: &str, plan: Plan, bytes: usize, name: &str, value: f64) {
+    let Plan {
+        job,
+        kind,
+        size,
+        piece,
+    } = plan;
+    println!("{series}\t{job}\t{kind}\t{size}\t{piece}\t{bytes}\t{name}\t{value}");
+}
+
+/// All times of this build, a line each, for the report. Each pass has its heap
+/// shifted: where buffers lie to each other in a page moves times too.
+fn measure(pass: usize) {
+    race::keep(std::hint::black_box([0u8; HEAP_SHIFT].repeat(pass)));
+    let rounds = rounds();
+    for job in JOBS {
+        for plan in plans(job) {
+            let mut case = case(plan);
+            let least = race_case(&mut case, rounds);
+            for ((name, _), time) in case.contestants.iter().zip(least) {
+                line("table", plan, case.bytes, name, time);
+            }
+        }
+        // A curve's sizes run against each other.
+        for kind in kinds(job) {
+            let curve = all(job, &curve_sizes(job));
+            let mut cases: Vec<Case> = curve
+                .into_iter()
+                .filter(|plan| plan.kind == kind)
+                .map(case)
+                .collect();
+            let mut ours: Vec<&mut Call> = cases
+                .iter_mut()
+                .map(|case| &mut case.contestants[0].1)
+                .collect();
+            let least = race(&mut ours, rounds);
+            for (case, time) in cases.iter().zip(least) {
+                line("curve", case.plan, case.bytes, OURS, time);
+            }
+        }
+    }
+}
+
+/// Callgrind counts while this runs, and dumps what it counted when it ends.
+#[no_mangle]
+#[inline(never)]
+fn j8_bench_counted(call: &mut Call) {
+    for _ in 0..COUNTED_CALLS {
+        call();
+    }
+}
+
+/// Runs the contestants of the counted rows, one after another, and prints a line
+/// for each; with words only those whose job, kind, size and name are among them.
+fn count(words: &[String]) {
+    let named = |word: &str| words.iter().any(|w| w == word);
+    let job_wanted = |job| !JOBS.into_iter().any(named) || named(job);
+    for plan in counted_plans() {
+        let size = plan.size.to_string();
+        let any_size = counted_plans().iter().any(|p| named(&p.size.to_string()));
+        let any_kind = kinds(plan.job).into_iter().any(named);
+        if !job_wanted(plan.job) || (any_kind && !named(plan.kind)) || (any_size && !named(&size)) {
+            continue;
+        }
+        let mut case = case(plan);
+        let any_name = case.contestants.iter().any(|(name, _)| named(name));
+        for (name, call) in &mut case.contestants {
+            if any_name && !named(name) {
+                continue;
+            }
+            for _ in 0..WARM_CALLS {
                 call();
-                done += 1;
             }
-            done
-        })
-        .collect();
-    let mut least = vec![f64::INFINITY; contestants.len()];
-    for round in 0..rounds {
-        for turn in 0..contestants.len() {
-            // Nobody always runs after the same neighbour.
-            let who = (turn + round) % contestants.len();
-            let start = Instant::now();
-            for _ in 0..calls[who] {
-                contestants[who]();
-            }
-            let each = start.elapsed().as_nanos() as f64 / f64::from(calls[who]);
-            least[who] = least[who].min(each);
+            j8_bench_counted(call);
+            line("count", plan, case.bytes, name, COUNTED_CALLS as f64);
         }
     }
-    least
-}
-
-fn heading(job: &str) {
-    println!();
-    println!("{job}: ns a call, ns a byte of the name, and how many times as long the others take");
-    println!(
-        "{:<10} {:>6} {:>6}  {:>9} {:>7}  {:>9} {:>9}  {:>8} {:>9}",
-        "name", "bytes", "text", "j8", "a byte", "reference", "serde", "ref/j8", "serde/j8"
-    );
-}
-
-fn row(kind: &str, size: usize, text: usize, least: &[f64]) {
-    let (ours, reference) = (least[0], least[1]);
-    print!(
-        "{kind:<10} {size:>6} {text:>6}  {ours:>9.1} {:>7.3}  {reference:>9.1}",
-        ours / size as f64
-    );
-    match least.get(2) {
-        Some(serde) => println!(
-            " {serde:>9.1}  {:>8.2} {:>9.2}",
-            reference / ours,
-            serde / ours
-        ),
-        None => println!(" {:>9}  {:>8.2} {:>9}", "-", reference / ours, "-"),
-    }
-}
-
-fn read(kind: &str, name: &[u8], text: &[u8], rounds: usize) {
-    let mut out = vec![0; text.len()];
-    let length = j8::read(text, &mut out).expect("our reader takes the text");
-    assert_eq!(&out[..length], name);
-    let length = j8_reference::read(text, &mut out).expect("the reference takes the text");
-    assert_eq!(&out[..length], name);
-
-    let (mut our_out, mut their_out) = (out.clone(), out);
-    let mut ours = || {
-        // Through the C interface itself.
-        let text = black_box(text);
-        let out = black_box(&mut our_out[..]);
-        // SAFETY: both parts come from slices that don't overlap.
-        black_box(unsafe {
-            j8::raw::j8_string_read(text.as_ptr(), text.len(), out.as_mut_ptr(), out.len())
-        });
-    };
-    let mut reference = || {
-        let out = black_box(&mut their_out[..]);
-        let _ = black_box(j8_reference::read(black_box(text), out));
-    };
-    let mut serde = || {
-        let _ = black_box(serde_json::from_slice::<String>(black_box(text)));
-    };
-    let least = if std::str::from_utf8(name).is_ok() {
-        let theirs: String = serde_json::from_slice(text).expect("the text is JSON");
-        assert_eq!(theirs.as_bytes(), name);
-        race(&mut [&mut ours, &mut reference, &mut serde], rounds)
-    } else {
-        race(&mut [&mut ours, &mut reference], rounds)
-    };
-    row(kind, name.len(), text.len(), &least);
-}
-
-fn write(kind: &str, name: &[u8], text: &[u8], rounds: usize) {
-    let mut out = vec![0; j8::write_room(name.len())];
-    let length = j8_reference::write(name, &mut out).expect("the room suffices");
-    assert_eq!(&out[..length], text);
-
-    let (mut our_out, mut their_out) = (out.clone(), out);
-    let mut serde_out = Vec::new();
-    let mut ours = || {
-        let name = black_box(name);
-        let out = black_box(&mut our_out[..]);
-        // SAFETY: both parts come from slices that don't overlap.
-        black_box(unsafe {
-            j8::raw::j8_string_write(name.as_ptr(), name.len(), out.as_mut_ptr(), out.len())
-        });
-    };
-    let mut reference = || {
-        let out = black_box(&mut their_out[..]);
-        let _ = black_box(j8_reference::write(black_box(name), out));
-    };
-    let least = match std::str::from_utf8(name) {
-        Ok(name) => {
-            serde_json::to_writer(&mut serde_out, name).expect("a vector takes all");
-            assert_eq!(serde_out, text);
-            // serde_json is handed a `str` and need not check the bytes; we do.
-            let mut serde = || {
-                serde_out.clear();
-                let _ = black_box(serde_json::to_writer(&mut serde_out, black_box(name)));
-                black_box(&serde_out);
-            };
-            race(&mut [&mut ours, &mut reference, &mut serde], rounds)
-        }
-        Err(_) => race(&mut [&mut ours, &mut reference], rounds),
-    };
-    row(kind, name.len(), text.len(), &least);
 }
 
 fn main() {
-    let rounds = match std::env::var("J8_ROUNDS") {
-        Ok(value) => value.parse().expect("J8_ROUNDS is a number"),
-        Err(_) => 200,
-    };
-    println!("Least of {rounds} interleaved rounds. A ratio above 1 means that j8 is faster.");
-    println!(
-        "Lent buffers are not cleared between calls; serde_json's Vec is emptied, not zeroed."
-    );
-
-    // Only the tables named on the command line, or all.
-    let wanted: Vec<String> = std::env::args().skip(1).collect();
-    let wants = |job: &str| wanted.is_empty() || wanted.iter().any(|word| word == job);
-    for (job, run) in [
-        ("read", read as fn(&str, &[u8], &[u8], usize)),
-        ("write", write),
-    ] {
-        if !wants(job) {
-            continue;
-        }
-        heading(job);
-        for (kind, part) in KINDS {
-            for size in SIZES {
-                let name = name(part, size);
-                let text = j8::write_to_vec(&name);
-                run(kind, &name, &text, rounds);
-            }
-        }
-    }
-    if wants("upload") {
-        upload::run(rounds);
-    }
-    if wants("json8") {
-        json8::run(rounds);
-    }
-    if wants("json8_write") {
-        json8_write::run(rounds);
+    let words: Vec<String> = std::env::args().skip(1).collect();
+    match words.first().map(String::as_str) {
+        Some("measure") => measure(words.get(1).map_or(0, |pass| pass.parse().expect("a pass"))),
+        Some("count") => count(&words[1..]),
+        Some("report") => report::write(Path::new(&words[1]), Path::new(&words[2])),
+        _ => tables(&words),
     }
 }

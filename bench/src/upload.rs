@@ -1,20 +1,32 @@
 //! Feeding a backup of J8 Lines in pieces, beside the reference and a plain
-//! loop over the whole text. See the README for what is compared.
+//! loop over the whole text.
 
-use super::race;
+use super::race::{keep, Case, Plan, OURS};
 use j8_reference::lines;
 use std::hint::black_box;
 
-const PIECES: [usize; 4] = [1, 64, 1_460, 65_536];
+/// Lengths of a piece. The text for pieces of one byte is shorter, since a call
+/// is made for each.
+pub const PIECES: [(usize, usize); 4] = [
+    (1, 65_536),
+    (64, j8::UPLOAD_MAX),
+    (PACKET, j8::UPLOAD_MAX),
+    (65_536, j8::UPLOAD_MAX),
+];
 
-/// Bytes a name. With its quotes and LF each stays within a line.
-const NAMES: [usize; 2] = [40, 1_000];
+/// A packet's bytes.
+pub const PACKET: usize = 1_460;
 
-/// Texts from 16 KiB to 1 MiB, the longest that is taken.
-const SIZES: [usize; 4] = [16_384, 65_536, 262_144, j8::UPLOAD_MAX];
+/// Bytes a name, and whether it is quoted. With its quotes and LF each stays
+/// within a line.
+const NAMES: [(&str, usize, bool); 4] = [
+    ("40 bare", 40, false),
+    ("1,000 bare", 1_000, false),
+    ("40 quoted", 40, true),
+    ("1,000 quoted", 1_000, true),
+];
 
-/// The piece of the second table.
-const PIECE: usize = 1_460;
+pub const KINDS: [&str; 4] = [NAMES[0].0, NAMES[1].0, NAMES[2].0, NAMES[3].0];
 
 /// A text of about `size` bytes, whole lines only: names of `length` bytes, bare
 /// or as the Lines writer has them.
@@ -113,15 +125,13 @@ fn plain(text: &[u8], out: &mut Vec<u8>) {
 
 /// Ours and the reference must give the same records, and their payloads what
 /// the plain loop has where the names are bare.
-fn agree(text: &[u8], quoted: bool) {
+fn agree(text: &[u8], quoted: bool, piece: usize) {
     let (mut ours_in, mut theirs_in) = (Buffers::new(), Buffers::new());
-    let used = ours(text, PIECE, &mut ours_in);
-    assert_eq!(used, reference(text, PIECE, &mut theirs_in));
+    let used = ours(text, PACKET, &mut ours_in);
+    assert_eq!(used, reference(text, PACKET, &mut theirs_in));
     assert!(ours_in.out[..used] == theirs_in.out[..used]);
-    for piece in PIECES {
-        assert_eq!(used, ours(text, piece, &mut theirs_in));
-        assert!(ours_in.out[..used] == theirs_in.out[..used]);
-    }
+    assert_eq!(used, ours(text, piece, &mut theirs_in));
+    assert!(ours_in.out[..used] == theirs_in.out[..used]);
     let mut copied = Vec::new();
     plain(text, &mut copied);
     let names = j8::Records::new(&ours_in.out[..used]);
@@ -129,99 +139,44 @@ fn agree(text: &[u8], quoted: bool) {
     assert_eq!(copied.len(), used + more);
 }
 
-/// Pieces of each length, the reference on the same, and the plain loop.
-fn pieces(length: usize, quoted: bool, rounds: usize) {
-    let text = backup(length, quoted, j8::UPLOAD_MAX);
-    agree(&text, quoted);
+pub fn case(plan: Plan) -> Case {
+    let (_, length, quoted) = NAMES
+        .into_iter()
+        .find(|(kind, ..)| *kind == plan.kind)
+        .expect("a kind of names");
+    let text = keep(backup(length, quoted, plan.size));
+    agree(text, quoted, plan.piece);
     let text = text.as_slice();
-    let mut lent: Vec<Buffers> = (0..2 * PIECES.len()).map(|_| Buffers::new()).collect();
+    let piece = plan.piece;
+    let (mut our_lent, mut their_lent) = (Buffers::new(), Buffers::new());
     let mut copied = Vec::with_capacity(j8::UPLOAD_OUTPUT_MAX);
-
-    let mut calls: Vec<Box<dyn FnMut() + '_>> = Vec::new();
-    for (index, buffers) in lent.iter_mut().enumerate() {
-        let piece = PIECES[index / 2];
-        let upload = if index % 2 == 0 { ours } else { reference };
-        calls.push(Box::new(move || {
-            black_box(upload(black_box(text), piece, black_box(buffers)));
-        }));
-    }
-    calls.push(Box::new(|| {
-        plain(black_box(text), &mut copied);
-        black_box(&copied);
-    }));
-    let mut contestants: Vec<&mut dyn FnMut()> = Vec::new();
-    for call in &mut calls {
-        contestants.push(&mut **call);
-    }
-    let least = race(&mut contestants, rounds);
-
-    let form = if quoted { "quoted" } else { "bare" };
-    let loop_time = least[2 * PIECES.len()];
-    for (index, piece) in PIECES.iter().enumerate() {
-        let (ours, reference) = (least[2 * index], least[2 * index + 1]);
-        println!(
-            "{length:>5} {form:<6} {:>8} {piece:>6}  {:>8.1} {:>7.3} {:>9.3} {:>7.3}  {:>7.2} {:>8.2}",
-            text.len(),
-            ours / 1000.0,
-            ours / text.len() as f64,
-            reference / text.len() as f64,
-            loop_time / text.len() as f64,
-            reference / ours,
-            loop_time / ours,
-        );
-    }
-}
-
-/// One piece length over texts of each size.
-fn sizes(length: usize, quoted: bool, rounds: usize) {
-    let texts: Vec<Vec<u8>> = SIZES.map(|size| backup(length, quoted, size)).to_vec();
-    let mut lent: Vec<Buffers> = SIZES.iter().map(|_| Buffers::new()).collect();
-    let mut calls: Vec<Box<dyn FnMut() + '_>> = Vec::new();
-    for (text, buffers) in texts.iter().zip(&mut lent) {
-        calls.push(Box::new(move || {
-            black_box(ours(black_box(text), PIECE, black_box(buffers)));
-        }));
-    }
-    let mut contestants: Vec<&mut dyn FnMut()> = Vec::new();
-    for call in &mut calls {
-        contestants.push(&mut **call);
-    }
-    let least = race(&mut contestants, rounds);
-
-    let form = if quoted { "quoted" } else { "bare" };
-    let first = least[0] / texts[0].len() as f64;
-    for (text, time) in texts.iter().zip(least) {
-        let each = time / text.len() as f64;
-        println!(
-            "{length:>5} {form:<6} {:>8}  {:>8.1} {each:>7.3}  {:>12.2}",
-            text.len(),
-            time / 1000.0,
-            each / first
-        );
-    }
-}
-
-pub fn run(rounds: usize) {
-    println!();
-    println!("upload: a backup in pieces, us an upload, ns a byte of the text, and how many times as long the others take");
-    println!(
-        "{:>5} {:<6} {:>8} {:>6}  {:>8} {:>7} {:>9} {:>7}  {:>7} {:>8}",
-        "name", "form", "text", "piece", "j8", "a byte", "reference", "loop", "ref/j8", "loop/j8"
-    );
-    for quoted in [false, true] {
-        for length in NAMES {
-            pieces(length, quoted, rounds);
-        }
-    }
-    println!();
-    println!("upload: pieces of {PIECE} bytes of longer and longer texts; the last column is the cost a byte over the first's");
-    println!(
-        "{:>5} {:<6} {:>8}  {:>8} {:>7}  {:>12}",
-        "name", "form", "text", "us", "a byte", "to the first"
-    );
-    for quoted in [false, true] {
-        for length in NAMES {
-            sizes(length, quoted, rounds);
-        }
+    Case {
+        plan,
+        bytes: text.len(),
+        contestants: vec![
+            (
+                OURS,
+                Box::new(move || {
+                    black_box(ours(black_box(text), piece, black_box(&mut our_lent)));
+                }),
+            ),
+            (
+                "reference",
+                Box::new(move || {
+                    black_box(reference(
+                        black_box(text),
+                        piece,
+                        black_box(&mut their_lent),
+                    ));
+                }),
+            ),
+            (
+                "loop",
+                Box::new(move || {
+                    plain(black_box(text), &mut copied);
+                    black_box(&copied);
+                }),
+            ),
+        ],
     }
 }
