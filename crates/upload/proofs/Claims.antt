@@ -7,11 +7,12 @@ use native.Mathlib.Omega.{arith}
 use lib.ListN.{length}
 use Rattle.upload.specs.Lines.{lineLimit}
 use Rattle.upload.specs.Calls.{Called, feeds, finishes, run, began, joined, finished, defined}
-use Rattle.upload.specs.Claims.{Every-List-Of-Calls, Pieces-Do-Not-Matter, Records-After-Finish, Written-Lines-Read-Back, Every-List-Is-Encoded, Whole-Case, caseText}
+use Rattle.upload.specs.Claims.{Every-List-Of-Calls, Pieces-Do-Not-Matter, Records-After-Finish, Written-Lines-Read-Back, Every-List-Is-Encoded, Whole-Case, Handing-On-Changes-Nothing, caseText}
 use Rattle.upload.proofs.Answers.{each-answer, same-pieces}
 use Rattle.upload.proofs.CaseComputed.{case-state, case-out}
 use Rattle.upload.proofs.Encoded.{textOf, cutsOf, all-lists}
 use Rattle.upload.proofs.Finished.{as-finished}
+use Rattle.upload.proofs.Handing.{handing-on}
 use Rattle.upload.proofs.WholeList.{whole-list}
 use Rattle.upload.proofs.WrittenTexts.{text-read, all-read}
 
@@ -43,3 +44,6 @@ whole-case line out h k =
     let z : lineLimit ≤ length line = omega arith in
     let e = whole-list (feeds caseText ∷ finishes ∷ []) line out z in
     (refl, rw e (case-state line out k), rw e (case-out line out k))
+
+pub handing-on-changes-nothing : Handing-On-Changes-Nothing
+handing-on-changes-nothing = handing-on

@@ -9,4 +9,5 @@ pub mod Runs
 pub mod Playing
 pub mod Encoded
 pub mod CaseComputed
+pub mod Handing
 pub mod Claims

@@ -10,12 +10,13 @@ use mathlib.Core.List.{List, [], _∷_, _++_}
 use mathlib.Core.Path.{_≡_}
 use lib.ListN.{length, take}
 use Rattle.strings.specs.Claims.{IsBytes}
+use Rattle.prelude.specs.Refusals.{noRoom}
 use Rattle.lines.specs.Records.{lineRecord, Fault, none, refuse}
 use Rattle.lines.specs.Write.{soundFrom, writeQuoted}
 use Rattle.upload.specs.declared.uploads.Upload.{Upload}
 use Rattle.upload.specs.declared.uploads.Answer.{Answer}
 use Rattle.upload.specs.Lines.{LF, uploadLimit, lineLimit, cut, records, front, firstFault, openFault, Whole, j8Lines}
-use Rattle.upload.specs.Calls.{Call, feeds, finishes, call, run, began, joined, finished, defined, decode}
+use Rattle.upload.specs.Calls.{Called, Call, feeds, finishes, call, run, began, joined, finished, defined, decode}
 
 -- the answers of a list of calls, in order, from a state and two buffers
 unfoldable pub answers : Whole → List Call → List Answer
@@ -129,3 +130,72 @@ Whole-Case =
     (line out : List ℕ) → length line ≡ lineLimit → length out ≡ 23
     → (length caseText ≡ 22) × (run (began line out) (feeds caseText ∷ finishes ∷ []) .whole .state ≡ caseState)
     × (run (began line out) (feeds caseText ∷ finishes ∷ []) .whole .out ≡ caseOut)
+
+-- Records handed on between two calls: `used` is set to 0, and nothing else is changed (include/j8.h).
+abbrev pub emptied : Upload → Upload
+emptied s =
+    record {
+      taken = s .taken;
+      lfs = s .lfs;
+      held = s .held;
+      used = 0;
+      ended = s .ended;
+      refusal = s .refusal;
+      line = s .line;
+      place = s .place;
+    }
+
+-- the records that an output holds
+abbrev pub recordsIn : Whole → List ℕ
+recordsIn m = take (m .state .used) (m .out)
+
+-- a call, or the records handed on
+pub data Turn : Type 0 where
+  calls : Call → Turn
+  hands : Turn
+
+-- the records handed on so far, and what the last call left
+pub record Handing : Type 0 where
+  pub handed : List ℕ
+  pub last : Called
+
+unfoldable pub turn : Handing → Turn → Handing
+turn d (calls c) = record { handed = d .handed; last = call (d .last .whole) c }
+turn d hands =
+    record {
+      handed = d .handed ++ recordsIn (d .last .whole);
+      last =
+          record {
+            whole = record { state = emptied (d .last .whole .state); line = d .last .whole .line; out = d .last .whole .out };
+            answer = d .last .answer;
+          };
+    }
+
+unfoldable pub turns : Handing → List Turn → Handing
+turns d [] = d
+turns d (t ∷ ts) = turns (turn d t) ts
+
+abbrev pub handing : List ℕ → List ℕ → List Turn → Handing
+handing line out ts = turns (record { handed = []; last = began line out }) ts
+
+-- the calls alone
+unfoldable pub callsOf : List Turn → List Call
+callsOf [] = []
+callsOf (calls c ∷ ts) = c ∷ callsOf ts
+callsOf (hands ∷ ts) = callsOf ts
+
+-- two uploads that differ only in where their records stand: those of one are handed on in part
+pub record Alike (handed : List ℕ) (d m : Called) : Type 0 where
+  pub state : emptied (d .whole .state) ≡ emptied (m .whole .state)
+  pub line : d .whole .line ≡ m .whole .line
+  pub records : handed ++ recordsIn (d .whole) ≡ recordsIn (m .whole)
+  pub answer : d .answer ≡ m .answer
+
+-- An upload whose records are handed on between its calls, in an output of any length, is like one that is left alone, unless a record
+-- finds no room in one of the two outputs
+abbrev pub Handing-On-Changes-Nothing : Type 0
+Handing-On-Changes-Nothing =
+    (ts : List Turn) (line small large : List ℕ)
+    → (handing line small ts .last .whole .state .refusal ≡ noRoom → ⊥)
+    → (run (began line large) (callsOf ts) .whole .state .refusal ≡ noRoom → ⊥)
+    → Alike (handing line small ts .handed) (handing line small ts .last) (run (began line large) (callsOf ts))
