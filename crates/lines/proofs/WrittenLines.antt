@@ -18,8 +18,8 @@ use Rattle.units.specs.declared.styles.Style.the-variants.{Json, Unicode, Bytes
 use Rattle.units.specs.Styles.{quote}
 use Rattle.strings.specs.Read.{opening, readString}
 use Rattle.strings.specs.Write.{writeUnits, mark, quoted, writeString}
-use Rattle.strings.specs.Claims.{IsBytes}
-use Rattle.strings.proofs.RoundTrip.{bytes-drop, bytes-take, round-trip}
+use Rattle.string_claims.specs.Claims.{IsBytes}
+use Rattle.string_claims.proofs.RoundTrip.{bytes-drop, bytes-take, round-trip}
 use Rattle.lines.specs.Line.{blank, leads, strip, kindOf, holds, fromString, readStripped, readLine}
 use Rattle.lines.specs.Records.{headSize, head, recordOf, lineRecord, none, lineFault}
 use Rattle.lines.specs.Write.{sizeAt, kindAt, payloadAt, sound, soundFrom}

@@ -16,7 +16,7 @@ use Rattle.prelude.proofs.Stores.{sets-over, empty-front}
 use Rattle.strings.specs.declared.answers.Written.{Written}
 use Rattle.strings.specs.declared.answers.Written.the-variants.{Wrote, Full}
 use Rattle.strings.specs.Write.{writeString, writtenIn, wroteInto}
-use Rattle.strings.proofs.Claims.{written-length}
+use Rattle.string_claims.proofs.Claims.{written-length}
 use Rattle.json8_write.specs.Steps.{Put}
 use Rattle.json8_write.proofs.Puts.{put-as}
 use Rattle.messages.specs.Texts.{words, decimal}

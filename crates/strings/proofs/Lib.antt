@@ -1,14 +1,9 @@
 pub mod AmpleRoom
-pub mod Claims
-pub mod Ends
 pub mod Lengths
 pub mod Places
-pub mod Plain
 pub mod Reading
-pub mod RoundTrip
 pub mod Runs
 pub mod Steps
-pub mod Utf8Denoted
 pub mod ValidTexts
 pub mod WholeTexts
 pub mod Writing

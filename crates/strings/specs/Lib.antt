@@ -1,4 +1,3 @@
 pub mod Read
 pub mod Turns
 pub mod Write
-pub mod Claims

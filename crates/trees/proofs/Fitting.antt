@@ -11,8 +11,8 @@ use lib.ListN.{length, take, drop}
 use borrow.Author.Tests.{eqb-true, eqb-false, leb-true, ltb-true}
 use Rattle.prelude.proofs.Cases.{never}
 use Rattle.prelude.proofs.Picks.{pick-case}
-use Rattle.strings.specs.Claims.{IsBytes}
-use Rattle.strings.proofs.RoundTrip.{bytes-take, bytes-drop}
+use Rattle.string_claims.specs.Claims.{IsBytes}
+use Rattle.string_claims.proofs.RoundTrip.{bytes-take, bytes-drop}
 use Rattle.tokens.specs.Numbers.{numberKind}
 use Rattle.json8.specs.declared.nodes.Sort.{Sort}
 use Rattle.json8.specs.declared.nodes.Sort.the-variants.{Items, Pairs}

@@ -12,9 +12,9 @@ use borrow.Author.Tests.{eqb-true, eqb-false}
 use Rattle.prelude.proofs.Cases.{split}
 use Rattle.prelude.proofs.Picks.{pick-case}
 use Rattle.prelude.proofs.Suffix.{by-suffix}
-use Rattle.strings.specs.Claims.{IsBytes}
+use Rattle.string_claims.specs.Claims.{IsBytes}
 use Rattle.strings.specs.Read.{StringRead, accepted, refused as unread, readToken}
-use Rattle.strings.proofs.RoundTrip.{bytes-drop}
+use Rattle.string_claims.proofs.RoundTrip.{bytes-drop}
 use Rattle.tokens.specs.declared.blanks.Blank.{Blank}
 use Rattle.tokens.specs.declared.blanks.Blank.the-variants.{Clear, Ill}
 use Rattle.tokens.specs.declared.words.Word.{Word as WordFound}

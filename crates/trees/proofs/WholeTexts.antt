@@ -10,7 +10,7 @@ use lib.Dec.{ltb}
 use borrow.Author.Tests.{le-ltb, ltb-false, le-leb}
 use Rattle.prelude.specs.Pick.{pick}
 use Rattle.prelude.proofs.Cases.{split, never}
-use Rattle.strings.specs.Claims.{IsBytes}
+use Rattle.string_claims.specs.Claims.{IsBytes}
 use Rattle.strings.specs.Read.{textMax}
 use Rattle.tokens.specs.Blanks.{blanksFrom}
 use Rattle.json8.specs.declared.answers.Parsed.the-variants.{Done}

@@ -11,10 +11,10 @@ use Rattle.prelude.specs.Pick.{pick}
 use Rattle.prelude.proofs.Picks.{pick-case}
 use Rattle.utf8.specs.Utf8.{validUtf8}
 use Rattle.units.specs.declared.styles.Style.the-variants.{Json, Bytes}
-use Rattle.strings.specs.Claims.{IsBytes}
+use Rattle.string_claims.specs.Claims.{IsBytes}
 use Rattle.strings.specs.Read.{opening}
 use Rattle.strings.specs.Write.{quoted, writeString}
-use Rattle.strings.proofs.RoundTrip.{token-back}
+use Rattle.string_claims.proofs.RoundTrip.{token-back}
 use Rattle.tokens.specs.declared.words.Word.the-variants.{Value}
 use Rattle.tokens.specs.declared.starts.Start.{Start}
 use Rattle.tokens.specs.declared.starts.Start.the-variants.{String as StringStart, Word as WordStart, Number as NumberStart}

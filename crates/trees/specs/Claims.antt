@@ -5,7 +5,7 @@ use mathlib.Core.Bool.{false}
 use mathlib.Core.List.{List, [], _∷_, _++_}
 use mathlib.Core.Path.{_≡_}
 use lib.ListN.{length}
-use Rattle.strings.specs.Claims.{IsBytes}
+use Rattle.string_claims.specs.Claims.{IsBytes}
 use Rattle.strings.specs.Read.{textMax}
 use Rattle.tokens.specs.Words.{isWord}
 use Rattle.tokens.specs.Numbers.{isNumber}

@@ -1,4 +1,3 @@
-pub mod Agreement
 pub mod BlockLaws
 pub mod EscapeLaws
 pub mod EscapeStores

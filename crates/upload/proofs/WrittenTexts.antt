@@ -12,9 +12,9 @@ use lib.Seq.{append-snoc, length-take-le}
 use Rattle.prelude.specs.Pick.{pick}
 use Rattle.units.proofs.WrittenUnits.{Plain}
 use Rattle.strings.specs.Write.{writeString}
-use Rattle.strings.specs.Claims.{IsBytes}
-use Rattle.strings.proofs.RoundTrip.{bytes-drop}
-use Rattle.strings.proofs.Plain.{write-plain}
+use Rattle.string_claims.specs.Claims.{IsBytes}
+use Rattle.string_claims.proofs.RoundTrip.{bytes-drop}
+use Rattle.string_claims.proofs.Plain.{write-plain}
 use Rattle.lines.specs.Records.{headSize, lineRecord, none, lineFault}
 use Rattle.lines.specs.Write.{sizeAt, payloadAt, sound, soundFrom, linesFrom, writeQuoted}
 use Rattle.lines.specs.Passes.{lineAt}

@@ -9,7 +9,7 @@ use mathlib.Core.Bool.{true, false}
 use mathlib.Core.List.{List, [], _∷_, _++_}
 use mathlib.Core.Path.{_≡_}
 use lib.ListN.{length, take}
-use Rattle.strings.specs.Claims.{IsBytes}
+use Rattle.string_claims.specs.Claims.{IsBytes}
 use Rattle.prelude.specs.Refusals.{noRoom}
 use Rattle.lines.specs.Records.{lineRecord, Fault, none, refuse}
 use Rattle.lines.specs.Write.{soundFrom, writeQuoted}

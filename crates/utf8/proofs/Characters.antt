@@ -145,19 +145,6 @@ pub ascii-len : (a : ℕ) (r : List ℕ) → a < 0x80 → charLen (a ∷ r) ≡ 
 unfolding classOf pick
 ascii-len a r h = class-one a r (ltb-true (classOf a) 5 (at-below (λ (b : ℕ). ltb (classOf b) 5) 0x80 refl a h))
 
--- no character begins with a continuation byte
-pub tail-none : (a : ℕ) (r : List ℕ) → 0x80 ≤ a → a < 0xc0 → charLen (a ∷ r) ≡ 0
-unfolding charLen lenBy pick classOf
-tail-none a r h g =
-    simp (
-      le-ltb a 0x20 (omega arith),
-      ne-eqb a 0x22 (λ z. omega arith),
-      ne-eqb a 0x27 (λ z. omega arith),
-      ne-eqb a 0x5c (λ z. omega arith),
-      le-ltb a 0x80 h,
-      lt-ltb a 0xc0 g,
-    )
-
 pub valid-skip : (k : ℕ) (s : List ℕ) → validFrom k s ≡ validFrom 0 (drop k s)
 unfolding validFrom
 valid-skip zero s = refl

@@ -11,14 +11,15 @@ use Rattle.units.specs.Hex.{hexVal, hexDigits, hexFrom}
 use Rattle.units.specs.Escapes.{lookup, lowHalf, codeUnit, fourDigits, scalar, braced, rawByte, escape}
 use Rattle.units.specs.Units.{unitAt}
 use Rattle.units.proofs.Sizes.{took-size}
 use Rattle.strings.specs.Read.{readUnits, opening, readToken, readString}
 use Rattle.strings.specs.Write.{writeBytes, writeString}
-use Rattle.strings.specs.Claims.{Example-Strings, Written-Reads-Back, Bytes-Form-Reads-Back, Written-Token-Reads-Back, Bytes-Form-Token-Reads-Back, Unicode-Is-Utf8, Writer-Is-Injective, Written-Is-One-Line, Bytes-Form-Is-One-Line, Places-Inside, Cut-Off-At-End, Units-Progress, Written-Length, Read-Length}
-use Rattle.strings.proofs.RoundTrip.{quoted-back, token-back, text-back, write-injective}
+use Rattle.string_claims.specs.Claims.{Example-Strings, Written-Reads-Back, Bytes-Form-Reads-Back, Written-Token-Reads-Back, Bytes-Form-Token-Reads-Back, Ends-At-Its-Quote, Unicode-Is-Utf8, Writer-Is-Injective, Written-Is-One-Line, Bytes-Form-Is-One-Line, Places-Inside, Cut-Off-At-End, Units-Progress, Written-Length, Read-Length}
+use Rattle.string_claims.proofs.Ends.{token-cut}
+use Rattle.string_claims.proofs.RoundTrip.{quoted-back, token-back, text-back, write-injective}
 use Rattle.strings.proofs.Places.{string-inside, text-inside}
-use Rattle.strings.proofs.Utf8Denoted.{unicode-valid}
-use Rattle.strings.proofs.Plain.{quoted-plain, write-plain, plain-at}
+use Rattle.string_claims.proofs.Utf8Denoted.{unicode-valid}
+use Rattle.string_claims.proofs.Plain.{quoted-plain, write-plain, plain-at}
 use Rattle.strings.proofs.Lengths.{write-length, string-length}
 
 pub example-strings : Example-Strings
 unfolding classOf lowOf highOf twoBytes threeBytes fourBytes longLen lenBy charLen encode hexVal hexDigits hexFrom lookup lowHalf codeUnit fourDigits scalar braced rawByte escape unitAt readUnits opening readToken readString pick
@@ -35,6 +36,9 @@ written-token-reads-back = token-back
 
 pub bytes-form-token-reads-back : Bytes-Form-Token-Reads-Back
 bytes-form-token-reads-back s t b = quoted-back Bytes s t b tt
+
+pub ends-at-its-quote : Ends-At-Its-Quote
+ends-at-its-quote s t bs e h = token-cut s bs e h t
 
 pub unicode-is-utf8 : Unicode-Is-Utf8
 unicode-is-utf8 s bs n e o r = rw r at (unicode-valid s n o)

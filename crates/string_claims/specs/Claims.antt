@@ -8,15 +8,15 @@ use Prim.Native.String
 use mathlib.Core.Bool.{true}
 use mathlib.Core.List.{List, [], _∷_, _++_, map}
 use mathlib.Core.Path.{_≡_}
-use lib.ListN.{length, getD}
+use lib.ListN.{length, getD, take}
 use Rattle.prelude.specs.Refusals.{cutOff, badEscape, surrogate, tooLarge, byteEscape, trailing}
 use Rattle.utf8.specs.Utf8.{validUtf8}
 use Rattle.units.specs.declared.styles.Style.{Style}
 use Rattle.units.specs.declared.styles.Style.the-variants.{Unicode}
 use Rattle.units.specs.Styles.{took}
 use Rattle.units.specs.Units.{unitAt}
 use Rattle.strings.specs.Read.{StringRead, accepted, refused, opens, opening, readToken, readString, readText, textMax}
 use Rattle.strings.specs.Write.{writeBytes, writeString}
 
 -- a list of numbers is a byte string
 abbrev pub IsBytes : List ℕ → Type 0
@@ -70,6 +70,10 @@ Written-Token-Reads-Back = (s t : List ℕ) → IsBytes s → readToken (writeSt
 
 abbrev pub Bytes-Form-Token-Reads-Back : Type 0
 Bytes-Form-Token-Reads-Back = (s t : List ℕ) → IsBytes s → readToken (writeBytes s ++ t) ≡ accepted s (length (writeBytes s))
+
+-- "ends at its closing quote": what follows that takes no part in the reading
+abbrev pub Ends-At-Its-Quote : Type 0
+Ends-At-Its-Quote = (s t bs : List ℕ) (e : ℕ) → readToken s ≡ accepted bs e → readToken (take e s ++ t) ≡ accepted bs e
 
 -- what `u''` and `''` denote is UTF-8
 abbrev pub Unicode-Is-Utf8 : Type 0

@@ -12,10 +12,10 @@ use Rattle.units.specs.declared.styles.Style.{Style}
 use Rattle.units.specs.Styles.{quote, StringUnit, close, took, fault}
 use Rattle.units.specs.Units.{unitAt}
 use Rattle.units.proofs.Sizes.{took-size, close-quote}
-use Rattle.units.proofs.Agreement.{unit-agree, append-agree}
+use Rattle.string_claims.proofs.Agreement.{unit-agree, append-agree}
 use Rattle.strings.specs.Read.{StringRead, accepted, refused, more, after, readUnits, Opening, opens, unopened, opening, readFrom, readToken}
 use Rattle.strings.proofs.Places.{Marked, opening-fits}
 use Rattle.strings.proofs.Steps.{read-skip, read-close, read-took}
 
 -- what stands before the closing quote and behind it, and the reading of the first with any text behind its quote
 pub record Ended (st : Style) (p : ℕ) (s bs : List ℕ) (e : ℕ) : Type 0 where

@@ -1,0 +1,6 @@
+pub mod Agreement
+pub mod Claims
+pub mod Ends
+pub mod Plain
+pub mod RoundTrip
+pub mod Utf8Denoted

@@ -1,0 +1,1 @@
+// What is claimed of strings as they are read and written: definitions and claims alone.
