@@ -1,4 +1,5 @@
--- What the C functions return: "number 0: done, place 0, length is the result's; else a refusal at place, length 0" (include/j8.h).
+-- What the C functions return, in the words of include/j8.h: "number 0: done; place is 0, and length is the length of the result.
+-- Otherwise number is the refusal and place its place; length is 0."
 -- Assumes nothing.
 use Prim.Native.Nat.{ℕ}
 use mathlib.Core.List.{List}

@@ -13,12 +13,14 @@ use Rattle.j8.specs.declared.tables.J8Nodes.{J8Nodes}
 use Rattle.j8.specs.declared.tables.J8Shown.{J8Shown}
 use Rattle.j8.specs.Results.{done, refusal}
 
--- "number 0: place 0, nodes and stored bytes written; else nodes and stored 0"
+-- "number 0: done; place is 0, nodes is how many nodes the table holds, at least one, and stored how many bytes the store holds.
+-- Otherwise number is the refusal and place its place; nodes and stored are 0."
 abbrev pub nodesResult : Parsed → J8Nodes
 nodesResult (Done nodes stored) = record { number = 0; place = 0; nodes = nodes; stored = stored }
 nodesResult (Refused number place) = record { number = number; place = place; nodes = 0; stored = 0 }
 
--- "number 0: a part of the store if stored is 1, of the text if 0; number 1: stored, place and length 0"
+-- "number 0: its bytes are length bytes from place on, all of them inside: of the store if stored is 1, of the text if stored is 0.
+-- number 1: there is nothing to show; stored, place and length are 0."
 abbrev pub shownResult : Shown → J8Shown
 shownResult (InText place size) = record { number = 0; stored = 0; place = place; length = size }
 shownResult (InStore place size) = record { number = 0; stored = 1; place = place; length = size }

@@ -14,11 +14,11 @@ use Rattle.j8.specs.declared.uploads.J8Upload.{J8Upload}
 use Rattle.j8.specs.declared.uploads.J8Answer.{J8Answer}
 use Rattle.j8.specs.declared.uploads.J8Fed.{J8Fed}
 
--- "ended: not 0 means ended"
+-- "a call takes all but 0 as 1"
 unfoldable pub isEnded : ℕ → Bool
 isEnded n = pick (eqb n 0) false true
 
--- "a call returns 0 or 1"
+-- "whether a finish ended the upload: 0 or 1"
 unfoldable pub endedNumber : Bool → ℕ
 endedNumber over = pick over 1 0
 

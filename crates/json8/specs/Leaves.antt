@@ -55,7 +55,7 @@ unfoldable pub slashed : List ℕ → Bool
 slashed [] = false
 slashed (x ∷ r) = pick (eqb x 0x5c) true (slashed r)
 
--- "5 string without a backslash (its bytes in the text, marks left off)", "6 string with one (decoded bytes appended to the store in
+-- "5 string without a backslash (its bytes in the text, marks left off .. too)", "6 string with one (decoded bytes appended to the store in
 -- order)"; k is the length of the mark, e that of the token
 unfoldable pub stringNode : Bool → ℕ → ℕ → ℕ → ℕ → List ℕ → Read
 stringNode false p m k e bs = got e 0 (node 5 1 (p + k) (e - (k + 1)) ∷ []) []

@@ -13,7 +13,7 @@ use Rattle.json8.specs.Values.{value}
 use Rattle.json8.specs.declared.answers.Parsed.{Parsed}
 use Rattle.json8.specs.declared.answers.Parsed.the-variants.{Done, Refused}
 
--- "bytes after the JSON8 value other than whitespace and comments"
+-- "bytes .. after the JSON8 value other than whitespace and comments"
 unfoldable pub finish : Reader
 finish p n m [] = got 0 0 [] []
 finish p n m (x ∷ r) = refused trailing p
@@ -41,7 +41,7 @@ abbrev pub parsedOf : Read → Parsed
 parsedOf (got l tag ns bs) = Done (length ns) (length bs)
 parsedOf (refused number at) = Refused number at
 
--- what the table and the store hold afterwards: "A refused JSON8 text leaves every lent byte and number unchanged."
+-- what the table and the store hold afterwards: "A refused .. JSON8 text .. leaves every lent byte and number unchanged."
 abbrev pub tableAfter : Read → List ℕ → List ℕ
 tableAfter (got l tag ns bs) t = flat ns ++ drop (length (flat ns)) t
 tableAfter (refused number at) t = t

@@ -1,4 +1,4 @@
--- The Lines writer: it "takes records and puts each string quoted, one LF after each, however long; 1 if a record is cut short or its
+-- The Lines writer: it "takes records .. and puts each string quoted, one LF after each, however long; 1 if a record is cut short or its
 -- kind doesn't fit its payload, then 12".
 -- Assumes nothing.
 use Prim.Native.Nat.{ℕ, zero, suc, _+_, _*_}

@@ -6,7 +6,7 @@ use Prim.Native.Nat.{ℕ}
 abbrev pub unfit : ℕ
 unfit = 1
 
--- "string or JSON8 text over 32,768 bytes, or a line over 1,024"
+-- "string or JSON8 text over 32,768 bytes .., or a line over 1,024"
 abbrev pub tooLong : ℕ
 tooLong = 2
 

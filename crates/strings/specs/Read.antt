@@ -1,4 +1,4 @@
--- Reading a J8 string: "A text is an opening mark, units, a closing quote. Reading goes left to right, and the first failing unit
+-- Reading a J8 string: "A text is an opening mark, units, a closing quote. .. Reading goes left to right, and the first failing unit
 -- decides."
 -- Assumes nothing.
 use Prim.Native.Nat.{ℕ, zero, suc, pred, _+_}
@@ -76,7 +76,7 @@ abbrev pub fitted : ℕ → StringRead → StringRead
 fitted room (accepted bs e) = pick (ltb room (length bs)) (refused noRoom 0) (accepted bs e)
 fitted room (refused number at) = refused number at
 
--- "string text over 32,768 bytes (0)"
+-- "string .. text over 32,768 bytes (0)"
 abbrev pub textMax : ℕ
 textMax = 32768
 

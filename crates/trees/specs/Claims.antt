@@ -59,7 +59,7 @@ pub record FrontRead (t : Tree) (s : List ℕ) : Type 0 where
   pub read : value depthMax 0 0 0 s ≡ got (length (render t)) 0 nodes bytes
   pub means : treeOf nodes s bytes ≡ just t
 
--- the same without the cap, for every sound tree, "with nothing behind it or a byte that goes on neither a word nor a number"
+-- the same without the cap, for every sound tree, with nothing behind it or a byte that goes on neither a word nor a number
 abbrev pub Written-Tree-Reads-Back : Type 0
 Written-Tree-Reads-Back = (t : Tree) (r : List ℕ) → Sound t → Stops r → FrontRead t (render t ++ r)
 

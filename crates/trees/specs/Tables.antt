@@ -44,7 +44,7 @@ abbrev pub countAt : List Node → ℕ
 countAt [] = 0
 countAt (v ∷ r) = v .count
 
--- "string ranges inside their buffer", as they are shown; none but kinds 5 and 6 have bytes
+-- "string .. ranges inside their buffer", as they are shown; none but kinds 5 and 6 have bytes
 abbrev pub bytesOf : List ℕ → List ℕ → Shown → Maybe (List ℕ)
 bytesOf text store (InText place size) = just (take size (drop place text))
 bytesOf text store (InStore place size) = just (take size (drop place store))

@@ -42,8 +42,8 @@ isLow r = eqb (getD r 0 0) 92 && eqb (getD r 1 0) 117 && eqb (hexRun 4 (drop 2 r
 unfoldable pub lowHalf : List ℕ → ℕ
 lowHalf r = pick (isLow r) (hexNumber 4 (drop 2 r)) 0
 
--- the number v, and the low half w behind it or 0: "A high half directly followed by an escaped low half is one character. Any
--- other half gives the three bytes of the ordinary pattern for its number"
+-- the number v, and the low half w behind it or 0: "A high half .. directly followed by an escaped low half .. is one
+-- character. Any other half gives the three bytes of the ordinary pattern for its number"
 unfoldable pub codeUnit : ℕ → ℕ → StringUnit
 codeUnit v w =
     pick (high v && ltb 0 w)
