@@ -11,12 +11,8 @@ use Rattle.strings.specs.Read.{textMax}
 use Rattle.json8.specs.Nodes.{Node, Read, got, refused}
 use Rattle.json8.specs.Values.{value}
 use Rattle.json8.specs.Read.{readAll, fitted, readOf}
-use Rattle.json8.specs.Claims.{Tables-Nest, Tables-Fit, Values-Progress, Refusals-Inside}
+use Rattle.json8.specs.Claims.{Tables-Fit, Values-Progress, Refusals-Inside}
 use Rattle.json8.proofs.Fair.{Fair, value-fair, read-fair}
-use Rattle.json8.proofs.Nesting.{all-tree}
-
-pub tables-nest : Tables-Nest
-tables-nest s l tag ns bs e = rw e at (all-tree s)
 
 pub tables-fit : Tables-Fit
 tables-fit s l tag ns bs e =

@@ -5,6 +5,5 @@ pub mod Backslashes
 pub mod Single
 pub mod Choices
 pub mod Whole
-pub mod Nesting
 pub mod Showing
 pub mod Claims

@@ -6,14 +6,9 @@ use mathlib.Core.Path.{_≡_}
 use lib.ListN.{length}
 use Rattle.json8.specs.Nodes.{Node, got, refused, nodeMax}
 use Rattle.json8.specs.Values.{value}
-use Rattle.json8.specs.Read.{depthMax, readAll, readOf}
-use Rattle.json8.specs.Tables.{Tree}
+use Rattle.json8.specs.Read.{readAll, readOf}
 
--- the table of an accepted text is one tree, 32 brackets deep at most: subtrees nest exactly, and the counts are true
-abbrev pub Tables-Nest : Type 0
-Tables-Nest = (s : List ℕ) (l tag : ℕ) (ns : List Node) (bs : List ℕ) → readAll s ≡ got l tag ns bs → Tree depthMax ns
-
--- it has at most 1,024 nodes, and the store no more bytes than the text
+-- the table of an accepted text has at most 1,024 nodes, and the store no more bytes than the text
 abbrev pub Tables-Fit : Type 0
 Tables-Fit =
     (s : List ℕ) (l tag : ℕ) (ns : List Node) (bs : List ℕ) → readAll s ≡ got l tag ns bs

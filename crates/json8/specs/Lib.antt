@@ -3,6 +3,5 @@ pub mod Leaves
 pub mod Values
 pub mod Read
 pub mod Told
-pub mod Tables
 pub mod Show
 pub mod Claims

@@ -1,7 +1,7 @@
 -- The Lines writer: records are judged one after another; the text is what is written already and then the lines of the records left, so the
 -- count passes the room exactly if the text does.
 -- Assumes nothing.
-use Prim.Native.Nat.{ℕ, zero, suc, _+_, _-_, _*_, _≤_, _<_}
+use Prim.Native.Nat.{ℕ, zero, suc, pred, _+_, _-_, _*_, _≤_, _<_}
 use mathlib.Core.Bool.{Bool, true, false, _&&_}
 use mathlib.Core.List.{List, [], _∷_, _++_, append-assoc, append-nil}
 use mathlib.Core.Path.{_≡_, refl, sym, ap, _∙_, subst}
@@ -23,6 +23,7 @@ use Rattle.strings.proofs.Writing.{quoted-positive}
 use Rattle.lines.specs.declared.write.WroteLines.{WroteLines}
 use Rattle.lines.specs.declared.write.WroteLines.the-variants.{Wrote, Refused}
 use Rattle.lines.specs.Line.{kindOf}
+use Rattle.lines.specs.Records.{headSize}
 use Rattle.lines.specs.Write.{sizeAt, kindAt, payloadAt, sound, soundFrom, linesFrom, wroteLines, linesInto}
 use Rattle.lines.specs.Passes.{lineAt, Placed, Filled}
 
@@ -39,13 +40,13 @@ lines-skip (suc k) [] = refl
 lines-skip (suc k) (x ∷ r) = lines-skip k r
 
 -- behind the record at the head
-pub next : (x n : ℕ) (r : List ℕ) → drop (3 + n) r ≡ drop (4 + n) (x ∷ r)
-next x n r = ap (λ (k : ℕ). drop k (x ∷ r)) (let e : suc (3 + n) ≡ 4 + n = omega arith in e)
+pub next : (x n : ℕ) (r : List ℕ) → drop (pred (headSize + n)) r ≡ drop (4 + n) (x ∷ r)
+next x n r = ap (λ (k : ℕ). drop k (x ∷ r)) (let e : suc (pred (4 + n)) ≡ 4 + n = omega arith in e)
 
 pub sound-step : (s : List ℕ) → 0 < length s → sound s ≡ true → soundFrom 0 s ≡ soundFrom 0 (drop (4 + sizeAt s) s)
 unfolding soundFrom
 sound-step [] h e = absurd (omega arith)
-sound-step (x ∷ r) h e = rw e (sound-skip (3 + sizeAt (x ∷ r)) r ∙ ap (soundFrom 0) (next x (sizeAt (x ∷ r)) r))
+sound-step (x ∷ r) h e = rw e (sound-skip (pred (headSize + sizeAt (x ∷ r))) r ∙ ap (soundFrom 0) (next x (sizeAt (x ∷ r)) r))
 
 sound-stop : (s : List ℕ) → 0 < length s → sound s ≡ false → soundFrom 0 s ≡ false
 unfolding soundFrom
@@ -61,7 +62,7 @@ pub lines-step : (s : List ℕ) → 0 < length s → linesFrom 0 s ≡ lineAt s 
 unfolding linesFrom lineAt
 lines-step [] h = absurd (omega arith)
 lines-step (x ∷ r) h =
-    ap (λ (l : List ℕ). writeString (payloadAt (x ∷ r)) ++ (10 ∷ l)) (lines-skip (3 + sizeAt (x ∷ r)) r ∙ ap (linesFrom 0) (next x (sizeAt (x ∷ r)) r))
+    ap (λ (l : List ℕ). writeString (payloadAt (x ∷ r)) ++ (10 ∷ l)) (lines-skip (pred (headSize + sizeAt (x ∷ r))) r ∙ ap (linesFrom 0) (next x (sizeAt (x ∷ r)) r))
     ∙ sym (append-assoc (writeString (payloadAt (x ∷ r))) (10 ∷ []) _)
 
 -- what a sound record is

@@ -1,7 +1,7 @@
 -- What the Lines writer writes reads back, line by line: nothing is stripped from a text in quotes, so the line reads as the string that was
 -- written, and its record is the one that the writer took.
 -- Assumes nothing.
-use Prim.Native.Nat.{ℕ, _+_, _*_, _/_, _%_, _≤_, _<_}
+use Prim.Native.Nat.{ℕ, pred, _+_, _*_, _/_, _%_, _≤_, _<_}
 use mathlib.Core.Bool.{true, false}
 use mathlib.Core.List.{List, [], _∷_, _++_, append-assoc}
 use mathlib.Core.Path.{_≡_, refl, sym, ap, _∙_, subst}
@@ -18,7 +18,7 @@ use Rattle.units.specs.declared.styles.Style.the-variants.{Json, Unicode, Bytes
 use Rattle.units.specs.Styles.{quote}
 use Rattle.strings.specs.Read.{opening, readString}
 use Rattle.strings.specs.Write.{writeUnits, mark, quoted, writeString}
-use Rattle.string_claims.specs.Claims.{IsBytes}
+use Rattle.prelude.specs.Bytes.{IsBytes}
 use Rattle.string_claims.proofs.RoundTrip.{bytes-drop, bytes-take, round-trip}
 use Rattle.lines.specs.Line.{blank, leads, strip, kindOf, holds, fromString, readStripped, readLine}
 use Rattle.lines.specs.Records.{headSize, head, recordOf, lineRecord, none, lineFault}
@@ -110,5 +110,5 @@ module _ (P : List ℕ → Type 0) (empty : P []) (one : (s : List ℕ) → 0 < 
       (λ x r ih e. let n : ℕ = sizeAt (x ∷ r) in
       let h : 0 < length (x ∷ r) = omega arith in
       let f : sound (x ∷ r) ≡ true = sound-first (x ∷ r) h e in
-      let g : soundFrom 0 (drop (3 + n) r) ≡ true = ap (soundFrom 0) (next x n r) ∙ sym (sound-step (x ∷ r) h f) ∙ e in
-      one (x ∷ r) h f (subst P (next x n r) (ih (3 + n) g)))
+      let g : soundFrom 0 (drop (pred (headSize + n)) r) ≡ true = ap (soundFrom 0) (next x n r) ∙ sym (sound-step (x ∷ r) h f) ∙ e in
+      one (x ∷ r) h f (subst P (next x n r) (ih (pred (headSize + n)) g)))

@@ -1,7 +1,7 @@
 -- The Lines writer: it "takes records .. and puts each string quoted, one LF after each, however long; 1 if a record is cut short or its
 -- kind doesn't fit its payload, then 12".
 -- Assumes nothing.
-use Prim.Native.Nat.{ℕ, zero, suc, _+_, _*_}
+use Prim.Native.Nat.{ℕ, zero, suc, pred, _+_, _*_}
 use mathlib.Core.Bool.{Bool, true, false, _&&_}
 use mathlib.Core.List.{List, [], _∷_, _++_}
 use lib.Dec.{leb, eqb}
@@ -31,13 +31,13 @@ sound s = leb (headSize + sizeAt s) (length s) && eqb (kindAt s) (kindOf (payloa
 -- all records are sound; k bytes are skipped
 unfoldable pub soundFrom : ℕ → List ℕ → Bool
 soundFrom k [] = true
-soundFrom zero (x ∷ r) = sound (x ∷ r) && soundFrom (3 + sizeAt (x ∷ r)) r
+soundFrom zero (x ∷ r) = sound (x ∷ r) && soundFrom (pred (headSize + sizeAt (x ∷ r))) r
 soundFrom (suc k) (x ∷ r) = soundFrom k r
 
 -- the lines of the records; k bytes are skipped
 unfoldable pub linesFrom : ℕ → List ℕ → List ℕ
 linesFrom k [] = []
-linesFrom zero (x ∷ r) = writeString (payloadAt (x ∷ r)) ++ (10 ∷ linesFrom (3 + sizeAt (x ∷ r)) r)
+linesFrom zero (x ∷ r) = writeString (payloadAt (x ∷ r)) ++ (10 ∷ linesFrom (pred (headSize + sizeAt (x ∷ r))) r)
 linesFrom (suc k) (x ∷ r) = linesFrom k r
 
 -- the text that the writer gives for records

@@ -23,7 +23,7 @@ use Rattle.units.specs.Written.{written}
 use Rattle.units.proofs.WrittenBack.{Writes, unit-back}
 use Rattle.strings.specs.Read.{accepted, readUnits, opens, opening, readToken, readString, readText, textMax}
 use Rattle.strings.specs.Write.{writeUnits, mark, quoted, writeString}
-use Rattle.string_claims.specs.Claims.{IsBytes}
+use Rattle.prelude.specs.Bytes.{IsBytes}
 use Rattle.strings.proofs.Steps.{read-skip, write-skip, read-close, read-took}
 
 pub bytes-drop : (k : ℕ) (s : List ℕ) → IsBytes s → IsBytes (drop k s)

@@ -2,13 +2,12 @@
 -- proofs/Claims.antt has a term of it.
 -- Assumes nothing.
 use Prim.Native.Nat.{ℕ, _+_, _*_, _≤_, _<_}
-use Prim.Native.Char.{code}
 use Prim.Native.String.{String}
-use Prim.Native.String
 use mathlib.Core.Bool.{true}
 use mathlib.Core.List.{List, [], _∷_, _++_, map}
 use mathlib.Core.Path.{_≡_}
 use lib.ListN.{length, getD, take}
+use Rattle.prelude.specs.Bytes.{IsBytes, ascii}
 use Rattle.prelude.specs.Refusals.{cutOff, badEscape, surrogate, tooLarge, byteEscape, trailing}
 use Rattle.utf8.specs.Utf8.{validUtf8}
 use Rattle.units.specs.declared.styles.Style.{Style}
@@ -17,15 +16,6 @@ use Rattle.units.specs.Styles.{took}
 use Rattle.units.specs.Units.{unitAt}
 use Rattle.strings.specs.Read.{StringRead, accepted, refused, opens, opening, readToken, readString, readText, textMax}
 use Rattle.strings.specs.Write.{writeBytes, writeString}
-
--- a list of numbers is a byte string
-abbrev pub IsBytes : List ℕ → Type 0
-IsBytes s = (i : ℕ) → getD s i 0 < 256
-
--- a text of ASCII characters, as bytes
-abbrev pub ascii : String → List ℕ
-ascii String.[] = []
-ascii (String._∷_ c s) = code c ∷ ascii s
 
 pub record Example : Type 0 where
   pub text : String

@@ -2,10 +2,13 @@
 -- Assumes nothing.
 use Rattle.trees.specs.Trees.{render}
 use Rattle.trees.specs.Tables.{nodesIn}
-use Rattle.trees.specs.Claims.{Written-Table-Reads-Back, Written-Tree-Reads-Back, Fit-Tables-Are-Sound, Read-Table-Is-Fit, Restored-Is-The-Same, Render-Is-Injective, Written-Table-Length}
+use Rattle.trees.specs.Claims.{Tables-Nest, Written-Table-Reads-Back, Written-Tree-Reads-Back, Fit-Tables-Are-Sound, Read-Table-Is-Fit, Restored-Is-The-Same, Render-Is-Injective, Written-Table-Length}
 use Rattle.trees.proofs.Fitting.{tree-sound}
 use Rattle.trees.proofs.Rooms.{tree-room}
-use Rattle.trees.proofs.WholeTexts.{known-tree, written-known, written-read, front-read, render-one, read-fit, text-sound}
+use Rattle.trees.proofs.WholeTexts.{known-tree, written-known, written-read, front-read, render-one, read-nests, read-fit, text-sound}
+
+pub tables-nest : Tables-Nest
+tables-nest s l tag ns bs e = read-nests s l tag ns bs e
 
 pub written-table-reads-back : Written-Table-Reads-Back
 written-table-reads-back table text store t a b e h = written-read t (tree-sound text store a b (nodesIn table) t e) h

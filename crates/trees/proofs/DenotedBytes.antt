@@ -20,7 +20,7 @@ use Rattle.units.specs.Hex.{hexVal, hexDigits, hexFrom, hexRun, hexNumber}
 use Rattle.units.specs.Escapes.{lookup, letters, lettersOf, high, isLow, lowHalf, codeUnit, fourDigits, scalar, isBraced, braced, codePoint, rawByte, short, escape}
 use Rattle.units.specs.Units.{literal, unitAt}
 use Rattle.units.proofs.WrittenBack.{Each, lookup-each}
-use Rattle.string_claims.specs.Claims.{IsBytes}
+use Rattle.prelude.specs.Bytes.{IsBytes}
 use Rattle.strings.specs.Read.{StringRead, accepted, refused, more, after, readUnits, Opening, opens, unopened, opening, readFrom, readToken}
 use Rattle.strings.proofs.Steps.{read-skip}
 use Rattle.string_claims.proofs.RoundTrip.{bytes-take, bytes-drop}

@@ -11,7 +11,7 @@ use lib.ListN.{length, take, drop}
 use borrow.Author.Tests.{eqb-true, eqb-false, leb-true, ltb-true}
 use Rattle.prelude.proofs.Cases.{never}
 use Rattle.prelude.proofs.Picks.{pick-case}
-use Rattle.string_claims.specs.Claims.{IsBytes}
+use Rattle.prelude.specs.Bytes.{IsBytes}
 use Rattle.string_claims.proofs.RoundTrip.{bytes-take, bytes-drop}
 use Rattle.tokens.specs.Numbers.{numberKind}
 use Rattle.json8.specs.declared.nodes.Sort.{Sort}

@@ -16,7 +16,7 @@ use Rattle.prelude.proofs.Cases.{split, never}
 use Rattle.units.specs.declared.styles.Style.{Style}
 use Rattle.units.specs.Styles.{quote}
 use Rattle.units.specs.Units.{literalRun}
-use Rattle.string_claims.specs.Claims.{IsBytes}
+use Rattle.prelude.specs.Bytes.{IsBytes}
 use Rattle.strings.specs.Read.{accepted, readToken, Opening, opens, unopened, opening}
 use Rattle.tokens.specs.Words.{isWord, wordOf}
 use Rattle.tokens.specs.Numbers.{isNumber, numberKind, numberOf, legal, numberFrom, numberAt}

@@ -12,7 +12,7 @@ use borrow.Author.Tests.{eqb-true, eqb-false}
 use Rattle.prelude.proofs.Cases.{split}
 use Rattle.prelude.proofs.Picks.{pick-case}
 use Rattle.prelude.proofs.Suffix.{by-suffix}
-use Rattle.string_claims.specs.Claims.{IsBytes}
+use Rattle.prelude.specs.Bytes.{IsBytes}
 use Rattle.strings.specs.Read.{StringRead, accepted, refused as unread, readToken}
 use Rattle.string_claims.proofs.RoundTrip.{bytes-drop}
 use Rattle.tokens.specs.declared.blanks.Blank.{Blank}

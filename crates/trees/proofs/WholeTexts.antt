@@ -10,7 +10,7 @@ use lib.Dec.{ltb}
 use borrow.Author.Tests.{le-ltb, ltb-false, le-leb}
 use Rattle.prelude.specs.Pick.{pick}
 use Rattle.prelude.proofs.Cases.{split, never}
-use Rattle.string_claims.specs.Claims.{IsBytes}
+use Rattle.prelude.specs.Bytes.{IsBytes}
 use Rattle.strings.specs.Read.{textMax}
 use Rattle.tokens.specs.Blanks.{blanksFrom}
 use Rattle.json8.specs.declared.answers.Parsed.the-variants.{Done}
@@ -126,6 +126,11 @@ render-one t u a b e = same-tree t u (render t ++ []) (render u ++ []) (ap (λ (
 
 -- an accepted text
 module _ (s : List ℕ) where
+  pub read-nests : (l tag : ℕ) (ns : List Node) (bs : List ℕ) → readAll s ≡ got l tag ns bs → (t : Tree) × (treeOf ns s bs ≡ just t)
+  read-nests l tag ns bs e =
+      let f : Holds s (Trees s depthMax) 0 (got l tag ns bs) = rw e at (all-meant s) in
+      (f .2 .0, tree-is s ns bs (f .2 .0) (f .2 .1) (tables-fit s l tag ns bs e .0))
+
   fit-read : (table store : List ℕ) (n m : ℕ) (r : Read) → length s ≤ textMax → readAll s ≡ r → Holds s (Trees s depthMax) 0 r
       → parsedOf (fitted (length table / 4) (length store) r) ≡ Done n m → (t : Tree) × (textTree s ≡ just t) × ReadAs t s table store
   unfolding pick

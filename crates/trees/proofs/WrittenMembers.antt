@@ -12,7 +12,7 @@ use lib.Seq.{drop-drop}
 use borrow.Author.Tests.{eq-eqb}
 use Rattle.prelude.specs.Pick.{pick}
 use Rattle.prelude.proofs.Cases.{never}
-use Rattle.string_claims.specs.Claims.{IsBytes}
+use Rattle.prelude.specs.Bytes.{IsBytes}
 use Rattle.strings.specs.Write.{writeString}
 use Rattle.tokens.specs.declared.starts.Start.{Start}
 use Rattle.tokens.specs.Blanks.{isSpace, blanksFrom}

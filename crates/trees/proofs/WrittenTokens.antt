@@ -11,7 +11,7 @@ use Rattle.prelude.specs.Pick.{pick}
 use Rattle.prelude.proofs.Picks.{pick-case}
 use Rattle.utf8.specs.Utf8.{validUtf8}
 use Rattle.units.specs.declared.styles.Style.the-variants.{Json, Bytes}
-use Rattle.string_claims.specs.Claims.{IsBytes}
+use Rattle.prelude.specs.Bytes.{IsBytes}
 use Rattle.strings.specs.Read.{opening}
 use Rattle.strings.specs.Write.{quoted, writeString}
 use Rattle.string_claims.proofs.RoundTrip.{token-back}

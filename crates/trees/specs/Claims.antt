@@ -5,7 +5,7 @@ use mathlib.Core.Bool.{false}
 use mathlib.Core.List.{List, [], _∷_, _++_}
 use mathlib.Core.Path.{_≡_}
 use lib.ListN.{length}
-use Rattle.string_claims.specs.Claims.{IsBytes}
+use Rattle.prelude.specs.Bytes.{IsBytes}
 use Rattle.strings.specs.Read.{textMax}
 use Rattle.tokens.specs.Words.{isWord}
 use Rattle.tokens.specs.Numbers.{isNumber}
@@ -29,6 +29,11 @@ treeIn s (refused number at) = unfit
 
 abbrev pub textTree : List ℕ → Maybe Tree
 textTree s = treeIn s (readAll s)
+
+-- the nodes of an accepted text are one tree: subtrees nest exactly, the counts are true, and at most 32 brackets are open
+abbrev pub Tables-Nest : Type 0
+Tables-Nest =
+    (s : List ℕ) (l tag : ℕ) (ns : List Node) (bs : List ℕ) → readAll s ≡ got l tag ns bs → (t : Tree) × (treeOf ns s bs ≡ just t)
 
 -- a text read into a table and a store is accepted, and what they hold then means this tree
 pub record ReadAs (t : Tree) (s table store : List ℕ) : Type 0 where

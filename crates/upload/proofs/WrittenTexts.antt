@@ -12,7 +12,7 @@ use lib.Seq.{append-snoc, length-take-le}
 use Rattle.prelude.specs.Pick.{pick}
 use Rattle.units.proofs.WrittenUnits.{Plain}
 use Rattle.strings.specs.Write.{writeString}
-use Rattle.string_claims.specs.Claims.{IsBytes}
+use Rattle.prelude.specs.Bytes.{IsBytes}
 use Rattle.string_claims.proofs.RoundTrip.{bytes-drop}
 use Rattle.string_claims.proofs.Plain.{write-plain}
 use Rattle.lines.specs.Records.{headSize, lineRecord, none, lineFault}

@@ -2,14 +2,11 @@
 -- a term of it.
 -- Assumes nothing.
 use Prim.Native.Nat.{ℕ, _+_, _≤_}
-use Prim.Native.Char.{code}
-use Prim.Native.String.{String}
-use Prim.Native.String
 use mathlib.Core.Bool.{true, false}
 use mathlib.Core.List.{List, [], _∷_, _++_}
 use mathlib.Core.Path.{_≡_}
 use lib.ListN.{length, take}
-use Rattle.string_claims.specs.Claims.{IsBytes}
+use Rattle.prelude.specs.Bytes.{IsBytes, ascii}
 use Rattle.prelude.specs.Refusals.{noRoom}
 use Rattle.lines.specs.Records.{lineRecord, Fault, none, refuse}
 use Rattle.lines.specs.Write.{soundFrom, writeQuoted}
@@ -94,11 +91,6 @@ Written-Lines-Read-Back =
 -- every list of calls is the decoding of a text and a list of numbers, so `replay` runs every list
 abbrev pub Every-List-Is-Encoded : Type 0
 Every-List-Is-Encoded = (cs : List Call) → (text : List ℕ) × (cuts : List ℕ) × (decode text cuts ≡ cs)
-
--- a text of ASCII characters, as bytes
-abbrev pub ascii : String → List ℕ
-ascii String.[] = []
-ascii (String._∷_ c s) = code c ∷ ascii s
 
 -- "Whole case, 22 bytes fed, then finish"
 abbrev pub caseText : List ℕ

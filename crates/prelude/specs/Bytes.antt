@@ -1,0 +1,17 @@
+-- Byte strings, and texts of ASCII characters as bytes.
+-- Assumes nothing.
+use Prim.Native.Nat.{ℕ, _<_}
+use Prim.Native.Char.{code}
+use Prim.Native.String.{String}
+use Prim.Native.String
+use mathlib.Core.List.{List, [], _∷_}
+use lib.ListN.{getD}
+
+-- a list of numbers is a byte string
+abbrev pub IsBytes : List ℕ → Type 0
+IsBytes s = (i : ℕ) → getD s i 0 < 256
+
+-- a text of ASCII characters, as bytes
+abbrev pub ascii : String → List ℕ
+ascii String.[] = []
+ascii (String._∷_ c s) = code c ∷ ascii s
