@@ -47,7 +47,7 @@ fn payload_from(used: usize, room: usize) -> usize
 
 // Reads a line and puts its record behind `used` bytes of the output; where it is refused, the output is as it was.
 pub fn append_line(l: &[u8], used: usize, out: &mut [u8]) -> Added
-    requires { ⌜ (length (now l) ≤ 1024) × (used ≤ length (now out)) ⌝ }
+    requires { ⌜ (length (now l) ≤ 65535) × (used ≤ length (now out)) ⌝ }
     ensures { λ r. ⌜ addedAs r (now (out .exit)) ≡ appendLine (now (l .entry)) (now (out .entry)) used ⌝ }
 {
     let from = payload_from(used, out.len());
