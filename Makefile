@@ -1,7 +1,7 @@
 # make test: the gate. make demo: the main job on samples. make archive: target/staticlib/libj8.a for C and Rust. make command: the command j8.
 # make install PREFIX=..: command, archive, header and j8.pc. make stack, make size: what the functions take. make bench: their speed beside others.
-# make compare, make load, make faults: docs/TESTING.md.
-.PHONY: test demo archive command examples install uninstall stack size compare load faults bench clean
+# make axioms: what the proofs rest on. make compare, make load, make faults: docs/TESTING.md.
+.PHONY: test demo archive command examples install uninstall stack size axioms compare load faults bench clean
 
 VERSION = $(shell sed -n 's/^.define J8_VERSION "\(.*\)"$$/\1/p' include/j8.h)
 PREFIX = /usr/local
@@ -67,6 +67,12 @@ size: archive
 	  bytes=$$(size target/c_size | awk 'NR == 2 { print $$1 }'); \
 	  [ $$group = NONE ] && none=$$bytes || echo "$$group: $$((bytes - none)) bytes of code and constants"; \
 	done
+
+# Proves what has changed, and prints what each crate's proof rests on.
+axioms:
+	@mkdir -p target
+	@rt check >target/check.log 2>&1 || { cat target/check.log; exit 1; }
+	@bash .ci/axioms
 
 # Every function beside the reference, J8_SECONDS for each entry (20), from J8_SEED (1), J8_JOBS at once (the cores).
 compare: archive
