@@ -3,6 +3,7 @@
 use crate::tables;
 use crate::texts;
 use json8::answers::Parsed;
+use report::digits;
 use report::show;
 use report::slices;
 
@@ -115,8 +116,8 @@ fn case_of(pattern: &[u8], long: bool) {
         return;
     }
     let rooms = Rooms {
-        numbers: texts::decimal(&pattern[..blank]),
-        bytes: texts::decimal(&pattern[blank..end]),
+        numbers: digits::decimal(&pattern[..blank]),
+        bytes: digits::decimal(&pattern[blank..end]),
     };
     case(&pattern[end + 1..], rooms, long);
 }

@@ -1,31 +1,7 @@
 // Texts from patterns: where a pattern has `(1022*0,)`, its text has `0,` 1,022 times.
 use prelude::slices;
+use report::digits;
 use report::slices::find;
-
-// A number with a digit put behind its own; other bytes are passed over.
-fn with_digit(n: usize, b: u8) -> usize {
-    if b < b'0' {
-        return n;
-    }
-    if b > b'9' {
-        return n;
-    }
-    if n > 9999 {
-        return n;
-    }
-    10 * n + (b - b'0') as usize
-}
-
-// The number that the digits of a slice make.
-pub fn decimal(s: &[u8]) -> usize {
-    let mut n = 0;
-    let mut i = 0;
-    while i < s.len() {
-        n = with_digit(n, s[i]);
-        i += 1;
-    }
-    n
-}
 
 // Puts a part behind a text's first bytes, if there is room, and answers how many they are then.
 fn append(part: &[u8], size: usize, text: &mut [u8]) -> usize {
@@ -58,7 +34,12 @@ fn append_part(part: &[u8], many: bool, size: usize, text: &mut [u8]) -> usize {
     if star == part.len() {
         return size;
     }
-    append_many(&part[star + 1..], decimal(&part[..star]), size, text)
+    append_many(
+        &part[star + 1..],
+        digits::decimal(&part[..star]),
+        size,
+        text,
+    )
 }
 
 // The byte that ends a part of a pattern.

@@ -1,6 +1,7 @@
 // Lists of cases: a name, `=`, the table's notation; behind each stands `|`. Where there is no `=`, it is a heading.
 use crate::lines;
 use crate::tables;
+use report::digits;
 use report::show;
 use report::slices;
 
@@ -30,7 +31,7 @@ fn case_of(pattern: &[u8], text: &[u8], store: &[u8], rooms: bool) {
             &table[..size],
             text,
             store,
-            tables::decimal(&pattern[..mark]),
+            digits::decimal(&pattern[..mark]),
         );
     } else {
         case(pattern, &table[..size], text, store);

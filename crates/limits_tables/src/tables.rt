@@ -1,30 +1,6 @@
 // Tables, from their notation or node by node.
+use report::digits;
 use report::slices::find;
-
-// A number with a digit put behind its own; other bytes are passed over.
-fn with_digit(n: usize, b: u8) -> usize {
-    if b < b'0' {
-        return n;
-    }
-    if b > b'9' {
-        return n;
-    }
-    if n > 999999999 {
-        return n;
-    }
-    10 * n + (b - b'0') as usize
-}
-
-// The number that the digits of a slice make.
-pub fn decimal(s: &[u8]) -> usize {
-    let mut n = 0;
-    let mut i = 0;
-    while i < s.len() {
-        n = with_digit(n, s[i]);
-        i += 1;
-    }
-    n
-}
 
 fn narrow(n: usize) -> u32 {
     if n > 4294967295 {
@@ -45,7 +21,7 @@ pub fn build(notation: &[u8], table: &mut [u32]) -> usize {
     let mut at = 0;
     while at < notation.len() {
         let end = find(notation, at, b',', true);
-        put(narrow(decimal(&notation[at..end])), count, table);
+        put(narrow(digits::decimal(&notation[at..end])), count, table);
         count += 1;
         at = end + 1;
     }

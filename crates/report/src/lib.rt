@@ -1,3 +1,4 @@
 // What the programs that run cases print.
+pub mod digits;
 pub mod show;
 pub mod slices;

@@ -1,7 +1,7 @@
 -- The place goes up to the end of the slice; nothing else is asked.
 -- Assumes nothing.
-use Rattle.limits_tables.proofs.tables.decimal.Statement.{statement}
-use Rattle.limits_tables.proofs.tables.decimal.Tie as tie
+use Rattle.report.proofs.digits.decimal.Statement.{statement}
+use Rattle.report.proofs.digits.decimal.Tie as tie
 use Prim.Native.Nat.{_-_, _≤_}
 use native.Mathlib.Omega.{arith}
 use lib.ListN.{length}
