@@ -4,4 +4,3 @@ pub mod Refusing
 pub mod LineAnswers
 pub mod LineRecords
 pub mod LineTexts
-pub mod WrittenLines

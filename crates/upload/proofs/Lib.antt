@@ -1,13 +1,6 @@
 pub mod Snoc
 pub mod Step
 pub mod WholeList
-pub mod Answers
-pub mod Finished
-pub mod WrittenTexts
 pub mod Values
 pub mod Runs
 pub mod Playing
-pub mod Encoded
-pub mod CaseComputed
-pub mod Handing
-pub mod Claims

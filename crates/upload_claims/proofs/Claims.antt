@@ -5,16 +5,16 @@ use mathlib.Core.List.{[], _∷_}
 use mathlib.Core.Path.{refl, ap}
 use native.Mathlib.Omega.{arith}
 use lib.ListN.{length}
 use Rattle.upload.specs.Lines.{lineLimit}
 use Rattle.upload.specs.Calls.{Called, feeds, finishes, run, began, joined, finished, defined}
-use Rattle.upload.specs.Claims.{Every-List-Of-Calls, Pieces-Do-Not-Matter, Records-After-Finish, Written-Lines-Read-Back, Every-List-Is-Encoded, Whole-Case, Handing-On-Changes-Nothing, caseText}
-use Rattle.upload.proofs.Answers.{each-answer, same-pieces}
-use Rattle.upload.proofs.CaseComputed.{case-state, case-out}
-use Rattle.upload.proofs.Encoded.{textOf, cutsOf, all-lists}
-use Rattle.upload.proofs.Finished.{as-finished}
-use Rattle.upload.proofs.Handing.{handing-on}
+use Rattle.upload_claims.specs.Claims.{Every-List-Of-Calls, Pieces-Do-Not-Matter, Records-After-Finish, Written-Lines-Read-Back, Every-List-Is-Encoded, Whole-Case, Handing-On-Changes-Nothing, caseText}
+use Rattle.upload_claims.proofs.Answers.{each-answer, same-pieces}
+use Rattle.upload_claims.proofs.CaseComputed.{case-state, case-out}
+use Rattle.upload_claims.proofs.Encoded.{textOf, cutsOf, all-lists}
+use Rattle.upload_claims.proofs.Finished.{as-finished}
+use Rattle.upload_claims.proofs.Handing.{handing-on}
 use Rattle.upload.proofs.WholeList.{whole-list}
-use Rattle.upload.proofs.WrittenTexts.{text-read, all-read}
+use Rattle.upload_claims.proofs.WrittenTexts.{text-read, all-read}
 
 pub every-list-of-calls : Every-List-Of-Calls
 unfolding defined run

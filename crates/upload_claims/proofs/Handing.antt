@@ -15,11 +15,11 @@ use Rattle.prelude.proofs.Cases.{split}
 use Rattle.prelude.proofs.Picks.{pick-true, pick-false, pick-case}
 use Rattle.lines.specs.Line.{LineRead, ignored, holds, faulty, readLine}
 use Rattle.lines.specs.Records.{recordOf, lineRecord, Fault, none, refuse, faultBy, lineFault, putAt}
 use Rattle.upload.specs.declared.uploads.Upload.{Upload}
 use Rattle.upload.specs.declared.uploads.Answer.{Answer}
 use Rattle.upload.specs.Lines.{LF, uploadLimit, lineLimit, Whole, zeros}
 use Rattle.upload.specs.Calls.{keeping, refused, stored, behindLF, atEnd, heldLine, appended, closing, byteFault, byteBy, feedByte, feedBytes, endFault, finishBy, finishAll, fitBy, Called, plain, keptAnswer, answerOf, stop, stopBy, guarded, feed, finish, Call, feeds, finishes, call, run, began}
-use Rattle.upload.specs.Claims.{emptied, recordsIn, Turn, calls, hands, turn, turns, handing, callsOf, Alike, Handing-On-Changes-Nothing}
+use Rattle.upload_claims.specs.Claims.{emptied, recordsIn, Turn, calls, hands, turn, turns, handing, callsOf, Alike, Handing-On-Changes-Nothing}
 
 -- two uploads alike, each with its records inside its output
 record Same (h : List ℕ) (d m : Whole) : Type 0 where

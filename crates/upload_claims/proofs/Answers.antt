@@ -6,10 +6,10 @@ use mathlib.Core.List.{List, [], _∷_, _++_}
 use mathlib.Core.Path.{_≡_, refl, sym}
 use lib.ListN.{length}
 use Rattle.prelude.proofs.Cases.{never}
 use Rattle.upload.specs.Lines.{lineLimit}
 use Rattle.upload.specs.Calls.{Called, Call, feeds, finishes, call, run, began, joined, finished, earlier, defined}
-use Rattle.upload.specs.Claims.{answers, definedAnswers}
+use Rattle.upload_claims.specs.Claims.{answers, definedAnswers}
 use Rattle.upload.proofs.WholeList.{whole-list}
 
 run-last : (cs : List Call) (c : Call) (r : Called) → run r (cs ++ (c ∷ [])) ≡ call (run r cs .whole) c
 unfolding run

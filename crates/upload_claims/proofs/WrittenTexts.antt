@@ -19,12 +19,12 @@ use Rattle.lines.specs.Records.{headSize, lineRecord, none, lineFault}
 use Rattle.lines.specs.Write.{sizeAt, payloadAt, sound, soundFrom, linesFrom, writeQuoted}
 use Rattle.lines.specs.Passes.{lineAt}
 use Rattle.lines.proofs.LineTexts.{lines-step, sound-size}
-use Rattle.lines.proofs.WrittenLines.{line-record, line-fault, by-records}
+use Rattle.upload_claims.proofs.WrittenLines.{line-record, line-fault, by-records}
 use Rattle.upload.specs.Lines.{LF, uploadLimit, lineLimit, Cut, headed, cut, records, faultBehind, firstFrom, firstFault, Whole}
-use Rattle.upload.specs.Claims.{firstRefusal, EndedWith, Finished, Within}
+use Rattle.upload_claims.specs.Claims.{firstRefusal, EndedWith, Finished, Within}
 use Rattle.upload.proofs.Snoc.{longer, cut-lf, cut-byte, records-snoc}
 use Rattle.upload.proofs.Step.{stop-snoc}
 use Rattle.upload.proofs.WholeList.{empty-record}
 
 -- a byte of a written text is no LF
 no-lf : (b : ℕ) → 32 ≤ b → eqb b LF ≡ false

@@ -8,11 +8,11 @@ use native.Mathlib.Omega.{arith}
 use lib.ListN.{length, take}
 use lib.Seq.{take-all, length-take-le}
 use Rattle.lines.specs.Records.{Fault, none, refuse}
 use Rattle.upload.specs.Lines.{cut, records, Stop, firstFault, openFault, left, endBy, j8Lines}
-use Rattle.upload.specs.Claims.{orOpenLine, firstRefusal, Finished}
+use Rattle.upload_claims.specs.Claims.{orOpenLine, firstRefusal, Finished}
 use Rattle.upload.proofs.Snoc.{stop-inside}
 use Rattle.upload.proofs.Step.{standing, stop-none}
 use Rattle.upload.proofs.WholeList.{ended-none, ended-refused}
 
 by-open : (f : Fault) (t line out : List ℕ) → firstFault (length out) t .place ≡ length t → Finished f t out (endBy f t line out)
 unfolding left

@@ -1,0 +1,1 @@
+// What is claimed of lists of an upload's calls: definitions and claims alone.
