@@ -14,22 +14,21 @@ use Rattle.prelude.proofs.Cases.{split, never}
 use Rattle.prelude.proofs.Stores.{sets-over}
 use Rattle.utf8.specs.Utf8.{validUtf8}
 use Rattle.units.specs.declared.styles.Style.{Style}
-use Rattle.units.specs.declared.styles.Style.the-variants.{Json}
 use Rattle.units.specs.Blocks.{Running}
-use Rattle.units.proofs.LiteralLaws.{all-literal}
 use Rattle.strings.specs.declared.answers.Decoded.{Decoded}
 use Rattle.strings.specs.declared.answers.Decoded.the-variants.{Done, Refused as Undone}
 use Rattle.strings.specs.declared.read.Mark.{Mark}
 use Rattle.strings.specs.declared.read.Mark.the-variants.{Opens, Unopened}
 use Rattle.strings.specs.Read.{StringRead, accepted, refused, fitted, decodedOf, readInto, Opening, opens, unopened, opening, readString}
-use Rattle.strings.specs.Turns.{openingOf}
+use Rattle.strings.specs.Turns.{openingOf, readBehind, Closed}
+use Rattle.strings.proofs.Utf8Denoted.{Valid}
+use Rattle.strings.proofs.WholeTexts.{mark-inside, literal-valid, marked as read-marked}
 use Rattle.lines.specs.declared.bare.Checked.{Checked}
 use Rattle.lines.specs.declared.bare.Checked.the-variants.{Fine, Faulty}
 use Rattle.lines.specs.declared.read.Line.{Line}
 use Rattle.lines.specs.declared.read.Line.the-variants.{Ignored, Holds, Refused}
 use Rattle.lines.specs.Line.{LineRead, ignored, holds, faulty, bare, kindOf, fromString, fromBare, byOpening, readStripped, shifted, leads, trimmed, strip, readLine}
 use Rattle.lines.specs.Answers.{fittedLine, lineOf, lineInto, Told}
-use Rattle.lines.proofs.BareTexts.{all-run}
 use Rattle.lines.proofs.LineEnds.{strip-part, strip-inside}
 use Rattle.lines.proofs.Refusing.{LineFault, stripped-fault}
 
@@ -41,10 +40,6 @@ kind-valid s v e h = rw (sym e ∙ h)
 pub kind-other : (s : List ℕ) (v : Bool) → v ≡ validUtf8 s → v ≡ false → 2 ≡ kindOf s
 unfolding kindOf pick
 kind-other s v e h = rw (sym e ∙ h)
-
-pub kind-run : (s : List ℕ) (at : ℕ) → Running Json s 0 at → at ≡ length s → 1 ≡ kindOf s
-unfolding kindOf pick
-kind-run s at r e = rw (all-literal Json s (all-run Json s at r e))
 
 -- a string v, read into out
 module _ (out : List ℕ) where
@@ -75,6 +70,19 @@ module _ (out : List ℕ) where
       omega (arith, ap length w ∙ length-append bs (drop (length bs) out)))
   within (refused m at) r new n g h = let z : Undone m at ≡ Done n = sym (g .0) ∙ h in never (cc)
 
+  -- the kind of a string that is valid
+  valid-kind : (v : StringRead) (r : Decoded) (new : List ℕ) (n : ℕ) → Valid v → Got v r new → r ≡ Done n → 1 ≡ kindOf (take n new)
+  unfolding pick
+  valid-kind (accepted bs e) r new n u g h =
+      split (ltb (length out) (length bs))
+      (λ b. let z : Undone 12 0 ≡ Done n = sym (g .0 ∙ rw b) ∙ h in never (cc))
+      (λ b. let z : Done (length bs) ≡ Done n = sym (g .0 ∙ rw b) ∙ h in
+      let l : n ≡ length bs = cc in
+      let w : new ≡ bs ++ drop (length bs) out = g .1 ∙ rw b in
+      let t : take n new ≡ bs = (λ i. take (l i) (w i)) ∙ take-append-seam bs (drop (length bs) out) in
+      kind-valid bs true (sym u) refl ∙ ap kindOf (sym t))
+  valid-kind (refused m at) r new n u g h = let z : Undone m at ≡ Done n = sym (g .0) ∙ h in never (cc)
+
   undone : (v : StringRead) (r : Decoded) (new : List ℕ) (n p : ℕ) → Got v r new → r ≡ Undone n p → Told (fromString v) (Refused n p) out new
   unfolding pick
   undone (accepted bs e) r new n p g h =
@@ -88,15 +96,27 @@ module _ (out : List ℕ) where
       let a : n ≡ m = cc in let c : p ≡ at = cc in
       record { answer = λ i. Refused (a i) (c i); stored = g .1 }
 
-module _ (s out new : List ℕ) (r : Decoded) (g : (r ≡ decodedOf (fitted (length out) (readString s))) × (new ≡ readInto (fitted (length out) (readString s)) out)) where
-  pub quoted-holds : (n k : ℕ) → r ≡ Done n → k ≡ kindOf (take n new) → Told (fromString (readString s)) (Holds k n) out new
-  quoted-holds n k h q = done out (readString s) r new n k g h q
+-- a line with a mark, read behind it
+module _ (s : List ℕ) (st : Style) (from : ℕ) (i : opens st from ≡ opening s) where
+  pub mark-fits : from ≤ length s
+  mark-fits = mark-inside s (Opens st from) i st from refl
 
-  pub quoted-inside : (n : ℕ) → r ≡ Done n → n ≤ length new
-  quoted-inside n h = within out (readString s) r new n g h
+  module _ (out new : List ℕ) (r : Decoded) (g : (r ≡ decodedOf (readBehind st from (length out) s)) × (new ≡ readInto (readBehind st from (length out) s) out)) where
+    got : Got out (readString s) r new
+    got = read-marked s (Opens st from) i st from refl out g
 
-  pub quoted-faulty : (n p : ℕ) → r ≡ Undone n p → Told (fromString (readString s)) (Refused n p) out new
-  quoted-faulty n p h = undone out (readString s) r new n p g h
+    pub quoted-holds : (n k : ℕ) → r ≡ Done n → k ≡ kindOf (take n new) → Told (fromString (readString s)) (Holds k n) out new
+    quoted-holds n k h q = done out (readString s) r new n k got h q
+
+    pub literal-holds : (e n : ℕ) → Running st s from e → Closed st s e → r ≡ Done n → Told (fromString (readString s)) (Holds 1 n) out new
+    literal-holds e n k d h =
+        done out (readString s) r new n 1 got h (valid-kind out (readString s) r new n (literal-valid s (Opens st from) i st from refl e k d) got h)
+
+    pub quoted-inside : (n : ℕ) → r ≡ Done n → n ≤ length new
+    quoted-inside n h = within out (readString s) r new n got h
+
+    pub quoted-faulty : (n p : ℕ) → r ≡ Undone n p → Told (fromString (readString s)) (Refused n p) out new
+    quoted-faulty n p h = undone out (readString s) r new n p got h
 
 -- a bare line
 module _ (s out : List ℕ) (r : Checked) (e : r ≡ bare s) where
@@ -119,6 +139,10 @@ stripped-is : (s : List ℕ) → 0 < length s → readStripped s ≡ byOpening s
 unfolding readStripped
 stripped-is [] h = absurd (omega arith)
 stripped-is (x ∷ r) h = refl
+
+module _ (s : List ℕ) (m : Mark) (e : openingOf m ≡ opening s) where
+  pub mark-stands : (st : Style) (n : ℕ) → m ≡ Opens st n → opens st n ≡ opening s
+  mark-stands st n q = sym (ap openingOf q) ∙ e
 
 module _ (s out new : List ℕ) (r : Line) (h : 0 < length s) (m : Mark) (e : openingOf m ≡ opening s) where
   pub marked : (st : Style) (n : ℕ) → m ≡ Opens st n → Told (fromString (readString s)) r out new → Told (readStripped s) r out new

@@ -3,7 +3,9 @@ ghost use mathlib.Core.Path.{_≡_};
 ghost use Prim.Native.Nat.{_+_, _<_, _≤_};
 ghost use lib.ListN.{length};
 ghost use Rattle.utf8.specs.Class.{IsTable};
-ghost use Rattle.strings.specs.Read.{readString};
+ghost use Rattle.units.specs.Blocks.{Running};
+ghost use Rattle.strings.specs.Read.{opens, opening, readString};
+ghost use Rattle.strings.specs.Turns.{Closed};
 ghost use Rattle.lines.specs.Line.{bare, kindOf, fromString, fromBare, readStripped, readLine};
 ghost use Rattle.lines.specs.Answers.{Told};
 use crate::bare;
@@ -14,6 +16,7 @@ use prelude::slices;
 use strings::answers::Decoded;
 use strings::read::Mark;
 use units::blocks;
+use units::literals;
 use units::styles::Style;
 use utf8::chars;
 use utf8::classes;
@@ -36,26 +39,45 @@ pub fn kind_in(t: &[u8; 256], s: &[u8]) -> u32
     2
 }
 
-// The kind of a payload. What is literal in a string is valid, so blocks tell most of those; the table is made for the others.
-fn kind_of(s: &[u8]) -> u32
-    ensures { λ r. ⌜ r ≡ kindOf (now (s .entry)) ⌝ }
-{
-    if blocks::strides(s, 0, Style::Json) == s.len() {
-        return 1;
-    }
-    let t = classes::table();
-    kind_in(&t, s)
-}
-
-// A line that is one string.
-fn read_quoted(s: &[u8], out: &mut [u8]) -> Line
+// A line that is one run of literal characters between its quotes. What is literal in a string is valid, so its kind needs no look.
+fn read_literal(s: &[u8], from: usize, e: usize, style: Style, out: &mut [u8]) -> Line
+    requires { ⌜ (opens style from ≡ opening (now s)) × Running style (now s) from e × Closed style (now s) e ⌝ }
     ensures { λ r. ⌜ Told (fromString (readString (now (s .entry)))) r (now (out .entry)) (now (out .exit)) ⌝ }
 {
-    let read = strings::read::read_string(s, out);
+    let read = strings::read::read_run(s, from, e, style, out);
     match read {
-        Decoded::Done(n) => Line::Holds(kind_of(&out[..n]), n),
+        Decoded::Done(n) => Line::Holds(1, n),
         Decoded::Refused(number, place) => Line::Refused(number, place),
     }
+}
+
+// A line that is one string, of which the units before a place are known to be literal characters.
+fn read_marked(s: &[u8], from: usize, at: usize, style: Style, out: &mut [u8]) -> Line
+    requires { ⌜ (opens style from ≡ opening (now s)) × Running style (now s) from at ⌝ }
+    ensures { λ r. ⌜ Told (fromString (readString (now (s .entry)))) r (now (out .entry)) (now (out .exit)) ⌝ }
+{
+    let t = classes::table();
+    let e = literals::literal_run(&t, s, at, style);
+    if strings::read::closes(s, e, style) {
+        return read_literal(s, from, e, style, out);
+    }
+    let read = strings::read::two_passes(&t, s, from, style, out);
+    match read {
+        Decoded::Done(n) => Line::Holds(kind_in(&t, &out[..n]), n),
+        Decoded::Refused(number, place) => Line::Refused(number, place),
+    }
+}
+
+// A line that is one string: the table is made only where blocks don't reach the closing quote.
+fn read_quoted(s: &[u8], from: usize, style: Style, out: &mut [u8]) -> Line
+    requires { ⌜ opens style from ≡ opening (now s) ⌝ }
+    ensures { λ r. ⌜ Told (fromString (readString (now (s .entry)))) r (now (out .entry)) (now (out .exit)) ⌝ }
+{
+    let at = blocks::strides(s, from, style);
+    if strings::read::closes(s, at, style) {
+        return read_literal(s, from, at, style, out);
+    }
+    read_marked(s, from, at, style, out)
 }
 
 // A bare line.
@@ -83,7 +105,7 @@ fn read_stripped(s: &[u8], out: &mut [u8]) -> Line
 {
     let mark = strings::read::mark_at(s);
     match mark {
-        Mark::Opens(_, _) => read_quoted(s, out),
+        Mark::Opens(style, from) => read_quoted(s, from, style, out),
         Mark::Unopened => read_bare(s, out),
     }
 }

@@ -40,7 +40,7 @@ pub units-valid : (s : List ℕ) (p : ℕ) → Valid (readUnits Unicode p 0 s)
 unfolding readUnits
 units-valid = by-suffix (λ s. (p : ℕ) → Valid (readUnits Unicode p 0 s)) (λ p. tt) valid-one
 
-valid-whole : (m : ℕ) (r : StringRead) → Valid r → Valid (whole m r)
+pub valid-whole : (m : ℕ) (r : StringRead) → Valid r → Valid (whole m r)
 valid-whole m (accepted bs e) v = pick-case Valid (eqb e m) _ _ (λ q. v) (λ q. tt)
 valid-whole m (refused number at) v = tt
 

@@ -12,12 +12,13 @@ use lib.Seq.{sets, drop-drop, drop-cons, length-take-le}
 use Rattle.prelude.specs.Pick.{pick}
 use Rattle.prelude.proofs.Cases.{split, never}
 use Rattle.prelude.proofs.Stores.{sets-over, empty-front}
+use Rattle.utf8.specs.Utf8.{validUtf8}
 use Rattle.units.specs.declared.styles.Style.{Style}
 use Rattle.units.specs.declared.styles.Style.the-variants.{Json, Unicode, Bytes}
 use Rattle.units.specs.Styles.{quote, StringUnit, close}
 use Rattle.units.specs.Units.{unitAt, literalLen, literalRun}
 use Rattle.units.specs.Blocks.{Running}
-use Rattle.units.proofs.LiteralLaws.{run-fits}
+use Rattle.units.proofs.LiteralLaws.{run-fits, run-utf8}
 use Rattle.units.proofs.LiteralRuns.{stopped}
 use Rattle.strings.specs.declared.answers.Decoded.{Decoded}
 use Rattle.strings.specs.declared.answers.Decoded.the-variants.{Done, Refused}
@@ -30,6 +31,7 @@ use Rattle.strings.specs.Turns.{openingOf, Closed}
 use Rattle.strings.proofs.Places.{Marked, opening-fits}
 use Rattle.strings.proofs.Steps.{read-skip, read-closes}
 use Rattle.strings.proofs.Runs.{run-law}
+use Rattle.strings.proofs.Utf8Denoted.{Valid, valid-whole}
 
 -- the answer for a whole text s whose units read as v, and what the buffer holds
 abbrev pub Told : StringRead → List ℕ → List ℕ → Decoded → List ℕ → Type 0
@@ -117,6 +119,11 @@ module _ (st : Style) (s out : List ℕ) (from e : ℕ) (h : from ≤ length s) 
       ap tokenOf one-run
       ∙ ap (Ended (e + 1)) (length-take-le (e - from) (drop from s) (omega (arith, count-is, run-fits st (drop from s))))
 
+  -- what it denotes is valid, in any style
+  run-denotes : Valid (readUnits st from 0 (drop from s))
+  run-denotes =
+      subst Valid (sym one-run) (ap (λ (n : ℕ). validUtf8 (take n (drop from s))) count-is ∙ run-utf8 st (drop from s))
+
   pub run-tight : length out < e - from → Told (readUnits st from 0 (drop from s)) s out (Refused 12 0) out
   run-tight g = tight s out (readUnits st from 0 (drop from s)) (e + 1) (e - from) ends (d .last) g
 
@@ -147,6 +154,10 @@ module _ (s : List ℕ) (m : Mark) (i : openingOf m ≡ opening s) where
     token-is : readUnits st n 0 (drop n s) ≡ readToken s
     unfolding readToken
     token-is = sym (read-skip st n n s) ∙ ap (λ (o : Opening). readFrom o s) mark-is
+
+    pub literal-valid : (e : ℕ) → Running st s n e → Closed st s e → Valid (readString s)
+    unfolding readString
+    literal-valid e k d = valid-whole (length s) (readToken s) (subst Valid token-is (run-denotes st s [] n e mark-inside k d))
 
     pub marked-token : {r : Token} (out new : List ℕ) → (r ≡ tokenOf (readUnits st n 0 (drop n s))) × Stored (readUnits st n 0 (drop n s)) out new
         → (r ≡ tokenOf (readToken s)) × Stored (readToken s) out new

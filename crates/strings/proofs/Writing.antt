@@ -21,6 +21,7 @@ use Rattle.units.specs.Units.{literalLen, literalRun}
 use Rattle.units.specs.Written.{escapeByte}
 use Rattle.units.specs.Blocks.{Running}
 use Rattle.units.proofs.LiteralLaws.{run-fits, run-ends, run-valid, all-literal}
+use Rattle.units.proofs.LiteralRuns.{at-end}
 use Rattle.units.proofs.EscapeStores.{escape-written}
 use Rattle.units.proofs.WrittenUnits.{limit}
 use Rattle.strings.specs.declared.answers.Written.{Written}
@@ -266,3 +267,10 @@ valid-behind s at e r k h v =
     let n : e ≡ literalRun Json 0 s = omega (arith, k .same) in
     let w : take (length s - e) (drop e s) ≡ drop e s = rw (← length-drop e s) (take-length (drop e s)) in
     v ∙ ap validUtf8 (w ∙ ap (λ (i : ℕ). drop i s) n) ∙ sym (run-valid Json s)
+
+-- the data lent as a part that is all of it
+pub all-of-it : (s : List ℕ) (at : ℕ) → Running Json (take (length s) s) 0 at → Running Json s 0 at
+all-of-it s at r = subst (λ (l : List ℕ). Running Json l 0 at) (take-length s) r
+
+pub one-run : (s : List ℕ) (at : ℕ) → Running Json (take (length s) s) 0 at → at ≡ length s → literalRun Json 0 s ≡ length s
+one-run s at r e = omega (arith, at-end Json s 0 at (all-of-it s at r) (omega arith))

@@ -191,7 +191,7 @@ pub fn read_token(s: &[u8], out: &mut [u8]) -> Token
 }
 
 // The general case of a whole text: once to judge it, and once more to store its bytes.
-fn two_passes(t: &[u8; 256], s: &[u8], from: usize, style: Style, out: &mut [u8]) -> Decoded
+pub fn two_passes(t: &[u8; 256], s: &[u8], from: usize, style: Style, out: &mut [u8]) -> Decoded
     requires { ⌜ IsTable (now t) × (from ≤ length (now s)) ⌝ }
     ensures answer { λ r. ⌜ r ≡ decodedOf (readBehind style from (length (now (out .entry))) (now (s .entry))) ⌝ }
     ensures stored { λ r. ⌜ now (out .exit) ≡ readInto (readBehind style from (length (now (out .entry))) (now (s .entry))) (now (out .entry)) ⌝ }
@@ -213,7 +213,7 @@ fn two_passes(t: &[u8; 256], s: &[u8], from: usize, style: Style, out: &mut [u8]
 }
 
 // Whether the closing quote stands at a place and is the text's last byte.
-fn closes(s: &[u8], e: usize, style: Style) -> bool
+pub fn closes(s: &[u8], e: usize, style: Style) -> bool
     requires { ⌜ e ≤ length (now s) ⌝ }
     ensures { λ r. ⌜ (r ≡ true → Closed style (now (s .entry)) e) ⌝ }
 {
@@ -224,7 +224,7 @@ fn closes(s: &[u8], e: usize, style: Style) -> bool
 }
 
 // A text that is one run of literal characters between its quotes is copied once.
-fn read_run(s: &[u8], from: usize, e: usize, style: Style, out: &mut [u8]) -> Decoded
+pub fn read_run(s: &[u8], from: usize, e: usize, style: Style, out: &mut [u8]) -> Decoded
     requires { ⌜ (from ≤ length (now s)) × Running style (now s) from e × Closed style (now s) e ⌝ }
     ensures answer { λ r. ⌜ r ≡ decodedOf (readBehind style from (length (now (out .entry))) (now (s .entry))) ⌝ }
     ensures stored { λ r. ⌜ now (out .exit) ≡ readInto (readBehind style from (length (now (out .entry))) (now (s .entry))) (now (out .entry)) ⌝ }

@@ -247,13 +247,15 @@ fn write_from(s: &[u8], at: usize, out: &mut [u8]) -> Written
     write_quoted(&t, Style::Bytes, s, out)
 }
 
-// Writes the data as a J8 string: its text in front of out, or 12 and out as it was. Where blocks reach the end, no table is made.
+// Writes the data as a J8 string: its text in front of out, or 12 and out as it was. Where blocks reach the end, no table is made. They are
+// lent a part that is all of the data: a slice handed on as it came is copied at once, and waits for the caller's stores of it.
 pub fn write(s: &[u8], out: &mut [u8]) -> Written
     ensures answer { λ r. ⌜ r ≡ writtenIn (length (now (out .entry))) (writeString (now (s .entry))) ⌝ }
     ensures stored { λ r. ⌜ now (out .exit) ≡ wroteInto (writeString (now (s .entry))) (now (out .entry)) ⌝ }
 {
-    let at = blocks::strides(s, 0, Style::Json);
-    if at == s.len() {
+    let n = s.len();
+    let at = blocks::strides(&s[..n], 0, Style::Json);
+    if at == n {
         return write_literal(s, out);
     }
     write_from(s, at, out)

@@ -17,9 +17,11 @@ use Rattle.utf8.specs.Class.{classOf}
 use Rattle.utf8.specs.Utf8.{tail, twoBytes, longLen, lenBy, charLen}
 use Rattle.utf8.proofs.Characters.{ascii-len}
 use Rattle.units.specs.declared.styles.Style.{Style}
+use Rattle.units.specs.declared.styles.Style.the-variants.{Json}
 use Rattle.units.specs.Styles.{quote}
 use Rattle.units.specs.Units.{literalLen}
 use Rattle.units.specs.Blocks.{Running, Alone, Paired, AllAlone, AllPaired, taken}
+use Rattle.units.proofs.LiteralClasses.{two-bytes}
 use Rattle.units.proofs.LiteralRuns.{here, moved}
 
 pub or-left : (a b : Bool) → a || b ≡ false → a ≡ false
@@ -85,6 +87,11 @@ first-more q s at k first place next found f g e a b =
 -- the least of two numbers above 0
 pub least-some : (n a b : ℕ) → (a ≤ b → n ≡ a) → (b ≤ a → n ≡ b) → 0 < a → 0 < b → 0 < n
 least-some n a b f g h i =
+    split (leb a b) (λ e. omega (arith, f (leb-true a b e))) (λ e. let l : b < a = leb-false a b e in omega (arith, g (omega arith)))
+
+-- and it is at most so far below the second as the first is
+pub least-near : (n a b d : ℕ) → (a ≤ b → n ≡ a) → (b ≤ a → n ≡ b) → b ≤ a + d → b ≤ n + d
+least-near n a b d f g h =
     split (leb a b) (λ e. omega (arith, f (leb-true a b e))) (λ e. let l : b < a = leb-false a b e in omega (arith, g (omega arith)))
 
 pub tail-ascii : (b : ℕ) → b < 0x80 → tail b ≡ false
@@ -180,10 +187,15 @@ module _ (st : Style) (s : List ℕ) where
         subst (λ (i : ℕ). Running st s from (i + taken (tail (getD s i 0)))) (let z : at + n + 1 ≡ at + suc n = omega arith in z)
         (on (at + n) (omega arith) (a n (omega arith)) (pair-run n at k (omega arith) t (λ j l. a j (omega arith))))
 
-part : (q : ℕ) (s : List ℕ) (p at n m : ℕ) → AllPaired q s p n → p ≤ at → at + m ≡ p + n → AllPaired q s at m
-part q s p at n m a h e = λ k l.
-    subst (λ (i : ℕ). Paired q (getD s i 0) (getD s (i + 1) 0)) (let z : p + (at - p + k) ≡ at + k = omega arith in z)
-    (a (at - p + k) (omega arith))
+-- what holds in two blocks that meet, or overlap, holds up to the end of the second
+joined : (P : ℕ → Type 0) (a p n last : ℕ) → p + n ≡ last → p ≤ a + n → ((k : ℕ) → k < n → P (a + k)) → ((k : ℕ) → k < n → P (p + k))
+    → (from m : ℕ) → a ≤ from → from + m ≡ last → (k : ℕ) → k < m → P (from + k)
+joined P a p n last e g f h from m l t k i =
+    split (ltb (from + k) (a + n))
+    (λ u. let v : from + k < a + n = ltb-true (from + k) (a + n) u in
+    subst P (let z : a + (from + k - a) ≡ from + k = omega arith in z) (f (from + k - a) (omega arith)))
+    (λ u. let v : a + n ≤ from + k = ltb-false (from + k) (a + n) u in
+    subst P (let z : p + (from + k - p) ≡ from + k = omega arith in z) (h (from + k - p) (omega arith)))
 
 pub with-next : (e : ℕ) (r t : Bool) → r ≡ t → r ≡ true → e + 1 ≡ e + taken t
 with-next e r t f g = ap (λ (x : Bool). e + taken x) (sym g ∙ f)
@@ -201,14 +213,34 @@ module _ (st : Style) (s : List ℕ) (from : ℕ) (q : ℕ) (eq : q ≡ quote st
   over-pairs at e t k h f g a p =
       subst (Running st s from) (sym p) (pair-run st s from 32 at k (omega arith) (sym f ∙ g) (rw eq at a))
 
-  pub over-last : (e : ℕ) (t : Bool) → 33 ≤ length s → length s - from < 33 → from < length s → t ≡ tail (getD s from 0) → t ≡ false
-      → AllPaired q s (length s - 33) 32 → e ≡ length s - 1 + taken (tail (getD s (length s - 1) 0)) → Running st s from e
-  over-last e t h l i f g a p =
-      let n : ℕ = length s - 1 - from in
-      let z : from + n ≡ length s - 1 = omega arith in
-      subst (Running st s from) (ap (λ (j : ℕ). j + taken (tail (getD s j 0))) z ∙ sym p)
-      (pair-run st s from n from (here st s from (omega arith)) (omega arith) (sym f ∙ g)
-      (rw eq at (part q s (length s - 33) from 32 n a (omega arith) (omega arith))))
+  -- two blocks, the first of which begins at or before the place, and the second of which ends at another
+  module _ (a p n last : ℕ) (e : p + n ≡ last) (g : p ≤ a + n) (h : a ≤ from) (l : from ≤ last) where
+    pub over-two : last ≤ length s → AllAlone q s a n → AllAlone q s p n → Running st s from last
+    over-two i x y =
+        let m : ℕ = last - from in
+        let z : from + m ≡ last = omega arith in
+        let b : AllAlone q s from m = joined (λ k. Alone q (getD s k 0)) a p n last e g x y from m h z in
+        subst (Running st s from) z (alone-run st s from m from (here st s from (omega arith)) (omega arith) (rw eq at b))
+
+    pub over-two-pairs : (r : ℕ) (t : Bool) → last < length s → t ≡ tail (getD s from 0) → t ≡ false → AllPaired q s a n → AllPaired q s p n
+        → r ≡ last + taken (tail (getD s last 0)) → Running st s from r
+    over-two-pairs r t i f u x y w =
+        let m : ℕ = last - from in
+        let z : from + m ≡ last = omega arith in
+        let b : AllPaired q s from m = joined (λ k. Paired q (getD s k 0) (getD s (k + 1) 0)) a p n last e g x y from m h z in
+        subst (Running st s from) (ap (λ (j : ℕ). j + taken (tail (getD s j 0))) z ∙ sym w)
+        (pair-run st s from m from (here st s from (omega arith)) (omega arith) (sym f ∙ u) (rw eq at b))
+
+  pub over-one : (at : ℕ) → Running st s from at → at < length s → Alone q (getD s at 0) → Running st s from (at + 1)
+  over-one at k h a = moved st s from at 1 k (one-char st s at h (rw eq at a))
 
   pub over-byte : from < length s → Alone q (getD s from 0) → Running st s from (from + 1)
-  over-byte h a = moved st s from from 1 (here st s from (omega arith)) (one-char st s from h (rw eq at a))
+  over-byte h a = over-one from (here st s from (omega arith)) h a
+
+-- a lead of two bytes and a continuation
+pub over-lead : (st : Style) (s : List ℕ) (from at : ℕ) → Running st s from at → at < length s → 0xc2 ≤ getD s at 0 → getD s at 0 < 0xe0
+    → tail (getD s (at + 1) 0) ≡ true → Running st s from (at + 2)
+over-lead st s from at k h l m t = moved st s from at 2 k (two-bytes st s at 6 h (sym (class-two (getD s at 0) l m)) refl t)
+
+pub lead-fits : (s : List ℕ) (at : ℕ) → at < length s → 0xc2 ≤ getD s at 0 → getD s at 0 < 0xe0 → tail (getD s (at + 1) 0) ≡ true → at + 2 ≤ length s
+lead-fits s at h l m t = over-lead Json s at at (here Json s at (omega arith)) h l m t .inside

@@ -3,18 +3,18 @@
 -- Assumes nothing.
 use Prim.Native.Nat.{ℕ, zero, suc, _+_, _≤_, _<_}
 use mathlib.Core.Bool.{true, false}
-use mathlib.Core.List.{List, [], _∷_}
+use mathlib.Core.List.{List, [], _∷_, append-nil}
 use mathlib.Core.Path.{_≡_, refl, sym, ap, _∙_, subst}
 use native.Mathlib.Omega.{arith}
 use lib.Dec.{ltb, eqb, lit<, lit≤}
 use lib.ListN.{length, getD, take, drop, length-drop, drop-of-length-le}
-use lib.Seq.{drop-drop}
+use lib.Seq.{drop-drop, take-add, length-take-le}
 use borrow.Author.Tests.{ltb-false, ne-eqb}
 use Rattle.prelude.specs.Pick.{pick}
 use Rattle.prelude.proofs.Cases.{split}
 use Rattle.prelude.proofs.Suffix.{by-suffix}
 use Rattle.utf8.specs.Utf8.{charLen, validFrom}
-use Rattle.utf8.proofs.Characters.{char-le, valid-step}
+use Rattle.utf8.proofs.Characters.{char-le, char-length, char-take, valid-char, valid-step}
 use Rattle.units.specs.declared.styles.Style.{Style}
 use Rattle.units.specs.declared.styles.Style.the-variants.{Json, Unicode, Bytes}
 use Rattle.units.specs.Styles.{quote, took}
@@ -113,6 +113,21 @@ run-valid st =
     (λ s n m e f h.
     let c : charLen s ≡ suc n = literal-char st s n e in
     valid-step s (λ z. omega arith) ∙ ap (λ (k : ℕ). validFrom 0 (drop k s)) c ∙ h ∙ ap (validFrom 0) (drop-drop m (suc n) s))
+
+utf8-more : (st : Style) (s : List ℕ) (n m : ℕ) → literalLen st s ≡ suc n → validFrom 0 (take m (drop (suc n) s)) ≡ true
+    → validFrom 0 (take (suc n + m) s) ≡ true
+utf8-more st [] n m e h = absurd (omega (arith, literal-nil st))
+utf8-more st (x ∷ r) n m e h =
+    let c : charLen (x ∷ r) ≡ suc n = literal-char st (x ∷ r) n e in
+    let l : length (take n r) ≡ n = length-take-le n r (char-length x r n c) in
+    let d : charLen (x ∷ take n r) ≡ suc (length (take n r)) =
+    ap (λ (t : List ℕ). charLen (x ∷ t)) (sym (append-nil (take n r))) ∙ char-take x r [] n c ∙ ap suc (sym l) in
+    ap (validFrom 0) (take-add (suc n) m (x ∷ r)) ∙ valid-char x (take n r) (take m (drop n r)) d ∙ h
+
+-- and so it is valid UTF-8 by itself
+pub run-utf8 : (st : Style) (s : List ℕ) → validFrom 0 (take (literalRun st 0 s) s) ≡ true
+unfolding validFrom
+run-utf8 st = by-run st (λ s n. validFrom 0 (take n s) ≡ true) (λ s e. refl) (λ s n m e f h. utf8-more st s n m e h)
 
 pub all-literal : (st : Style) (s : List ℕ) → literalRun st 0 s ≡ length s → validFrom 0 s ≡ true
 unfolding validFrom

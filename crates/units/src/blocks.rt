@@ -6,6 +6,7 @@ ghost use lib.ListN.{length, getD, drop};
 ghost use Rattle.utf8.specs.Utf8.{tail};
 ghost use Rattle.units.specs.Units.{literalLen};
 ghost use Rattle.units.specs.Blocks.{Alone, Paired, AllAlone, AllPaired, Running, taken};
+use crate::shorts;
 use crate::styles;
 use crate::styles::Style;
 use prelude::slices;
@@ -88,14 +89,14 @@ pub fn first_odd(q: u8, s: &[u8], at: usize, n: usize) -> usize
     wide(first)
 }
 
-// Whether one of 32 bytes is odd beside the next.
-fn any_odd_pair(q: u8, s: &[u8], at: usize) -> bool
-    requires { ⌜ at + 33 ≤ length (now s) ⌝ }
-    ensures { λ r. ⌜ (r ≡ false → AllPaired q (now (s .entry)) at 32) ⌝ }
+// Whether one of n bytes is odd beside the next.
+pub fn any_odd_pair(q: u8, s: &[u8], at: usize, n: usize) -> bool
+    requires { ⌜ at + n < length (now s) ⌝ }
+    ensures { λ r. ⌜ (r ≡ false → AllPaired q (now (s .entry)) at n) ⌝ }
 {
     let mut found = false;
     let mut k: usize = 0;
-    while k < 32 {
+    while k < n {
         found = found | odd_pair(q, s[at + k], s[at + k + 1]);
         k += 1;
     }
@@ -103,7 +104,7 @@ fn any_odd_pair(q: u8, s: &[u8], at: usize) -> bool
 }
 
 // A place, or the next one where the byte there is a continuation.
-fn behind(s: &[u8], e: usize) -> usize
+pub fn behind(s: &[u8], e: usize) -> usize
     requires { ⌜ e < length (now s) ⌝ }
     ensures { λ r. ⌜ r ≡ e + taken (tail (getD (now (s .entry)) e 0)) ⌝ }
 {
@@ -166,12 +167,36 @@ fn pair_blocks(s: &[u8], from: usize, style: Style) -> usize
         if continues(s[at]) {
             return at;
         }
-        if any_odd_pair(styles::quote_of(style), s, at) {
+        if any_odd_pair(styles::quote_of(style), s, at, 32) {
             return at;
         }
         at = behind(s, at + 32);
     }
     at
+}
+
+// Where less than 64 bytes and more than the closing quote are left, two blocks of ASCII that may overlap; part of them may be passed
+// already.
+fn last_alone(s: &[u8], from: usize, style: Style) -> usize
+    requires { ⌜ from ≤ length (now s) ⌝ }
+    ensures { λ r. ⌜ Running style (now (s .entry)) from r ⌝ }
+{
+    let n = s.len();
+    if n < 33 {
+        return from;
+    }
+    if 64 <= n - from {
+        return from;
+    }
+    if n - from < 2 {
+        return from;
+    }
+    let q = styles::quote_of(style);
+    let p = n - 33;
+    if any_odd(q, s, slices::least(from, p), 32) | any_odd(q, s, p, 32) {
+        return from;
+    }
+    n - 1
 }
 
 // Where less than a block and more than the closing quote is left, the last block of the text, though part of it is passed already.
@@ -192,7 +217,7 @@ fn last_pairs(s: &[u8], from: usize, style: Style) -> usize
     if continues(s[from]) {
         return from;
     }
-    if any_odd_pair(styles::quote_of(style), s, n - 33) {
+    if any_odd_pair(styles::quote_of(style), s, n - 33, 32) {
         return from;
     }
     behind(s, n - 1)
@@ -212,17 +237,34 @@ fn last_byte(s: &[u8], from: usize, style: Style) -> usize
     from + 1
 }
 
-// A place behind literal characters only, as far as blocks go: a character of three or four bytes ends them. ASCII is cheapest, so it
-// comes first; a last block saves the byte loop, and the class table with it.
+// All but the last byte of more than 33: ASCII is cheapest, so it comes first; a last block saves the byte loop.
+fn long(s: &[u8], from: usize, style: Style) -> usize
+    requires { ⌜ from ≤ length (now s) ⌝ }
+    ensures { λ r. ⌜ Running style (now (s .entry)) from r ⌝ }
+{
+    let a = alone_blocks(s, from, style, 64);
+    let b = last_alone(s, a, style);
+    let c = pair_blocks(s, b, style);
+    last_pairs(s, c, style)
+}
+
+// The same of any number.
+fn most(s: &[u8], from: usize, style: Style) -> usize
+    requires { ⌜ from ≤ length (now s) ⌝ }
+    ensures { λ r. ⌜ Running style (now (s .entry)) from r ⌝ }
+{
+    if s.len() - from < 34 {
+        return shorts::short(s, from, style);
+    }
+    long(s, from, style)
+}
+
+// A place behind literal characters only, as far as blocks go: a character of three or four bytes ends them. Where they reach the end,
+// or all but the closing quote, the class table needn't be made.
 pub fn strides(s: &[u8], from: usize, style: Style) -> usize
     requires { ⌜ from ≤ length (now s) ⌝ }
     ensures { λ r. ⌜ Running style (now (s .entry)) from r ⌝ }
 {
-    if s.len() - from < 33 {
-        return from;
-    }
-    let a = alone_blocks(s, from, style, 64);
-    let b = pair_blocks(s, a, style);
-    let c = last_pairs(s, b, style);
-    last_byte(s, c, style)
+    let a = most(s, from, style);
+    last_byte(s, a, style)
 }

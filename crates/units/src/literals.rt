@@ -55,7 +55,7 @@ fn soon(s: &[u8], at: usize, n: usize) -> usize
 }
 
 // Whether one continuation byte follows.
-fn one_follows(s: &[u8], at: usize) -> bool
+pub fn one_follows(s: &[u8], at: usize) -> bool
     requires { ⌜ at ≤ length (now s) ⌝ }
     ensures { λ r. ⌜ (r ≡ true → tail (getD (now (s .entry)) (at + 1) 0) ≡ true) ⌝ }
 {

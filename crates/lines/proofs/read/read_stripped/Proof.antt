@@ -3,19 +3,20 @@
 use borrow.Author.Needs.{needs}
 use Rattle.lines.proofs.read.read_stripped.Statement.{statement}
 use Rattle.lines.proofs.read.read_stripped.Tie as tie
-use Rattle.lines.proofs.LineAnswers.{marked, unmarked}
+use Rattle.lines.proofs.LineAnswers.{mark-stands, marked, unmarked}
 
 mark-at-requires : tie.Need-mark-at-requires
 mark-at-requires c κs = search needs
 
-enum-told : tie.Need-enum-told
-enum-told c = search needs
+enum-known-mark : tie.Need-enum-known-mark
+enum-known-mark c = search needs
 
 read-quoted-requires : tie.Need-read-quoted-requires
-read-quoted-requires c κs = search needs
+read-quoted-requires c κs =
+    mark-stands _ _ (c .before .before .before .before .mark-at .ensures) _ _ (c .before .before .mark .given .1)
 
-enum-told-2 : tie.Need-enum-told-2
-enum-told-2 c = search needs
+enum-told : tie.Need-enum-told
+enum-told c = search needs
 
 read-bare-requires : tie.Need-read-bare-requires
 read-bare-requires c κs = search needs
@@ -39,9 +40,9 @@ read-stripped-spec =
     tie.close
     (tie.spec
     mark-at-requires
-    enum-told
+    enum-known-mark
     read-quoted-requires
-    enum-told-2
+    enum-told
     read-bare-requires
     same-length
     returns

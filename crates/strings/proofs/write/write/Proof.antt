@@ -4,33 +4,34 @@ use borrow.Author.Needs.{needs}
 use Rattle.strings.proofs.write.write.Statement.{statement}
 use Rattle.strings.proofs.write.write.Tie as tie
 use denote.Ref.{now}
-use mathlib.Core.Path.{_≡_}
-use native.Mathlib.Omega.{arith}
+use mathlib.Core.Path.{sym, ap}
 use lib.ListN.{length}
+use lib.Seq.{take-length}
 use Rattle.units.specs.declared.styles.Style.the-variants.{Json}
-use Rattle.units.specs.Units.{literalRun}
 use Rattle.units.proofs.LiteralLaws.{all-literal}
-use Rattle.units.proofs.LiteralRuns.{at-end}
-use Rattle.strings.proofs.Writing.{valid-form}
+use Rattle.strings.proofs.Writing.{valid-form, all-of-it, one-run}
+
+slice-aggregate-strides : tie.Need-slice-aggregate-strides
+slice-aggregate-strides c =
+    ap length (sym (take-length (now (c .before .before .before .args .s))))
 
 strides-requires : tie.Need-strides-requires
 strides-requires c κs = search needs
 
 write-literal-requires : tie.Need-write-literal-requires
 write-literal-requires c κs =
-    let e : literalRun Json 0 (now (c .before .before .before .before .before .args .s)) ≡ length (now (c .before .before .before .before .before .args .s)) = omega (arith, at-end _ _ _ _ (c .before .before .strides .ensures) (omega arith), c .before .if1 .taken) in e
+    one-run (now (c .before .before .before .before .before .before .args .s)) _ (c .before .before .strides .ensures) (c .before .if1 .taken)
 
 same-length : tie.Need-same-length
 same-length c = search needs
 
 returns : tie.Need-returns
 returns c =
-    let e : literalRun Json 0 (now (c .before .before .before .before .before .before .before .before .args .s)) ≡ length (now (c .before .before .before .before .before .before .before .before .args .s)) = omega (arith, at-end _ _ _ _ (c .before .before .before .before .before .strides .ensures) (omega arith), c .before .before .before .before .if1 .taken) in
-    valid-form (now (c .before .before .before .before .before .before .before .before .args .s)) _ (now (c .before .before .before .before .before .before .before .before .args .out)) _ (all-literal Json (now (c .before .before .before .before .before .before .before .before .args .s)) e) (c .before .before .write-literal .ensures)
+    valid-form (now (c .before .before .before .before .before .before .before .before .before .args .s)) _ (now (c .before .before .before .before .before .before .before .before .before .args .out)) _ (all-literal Json (now (c .before .before .before .before .before .before .before .before .before .args .s)) (one-run (now (c .before .before .before .before .before .before .before .before .before .args .s)) _ (c .before .before .before .before .before .strides .ensures) (c .before .before .before .before .if1 .taken))) (c .before .before .write-literal .ensures)
 
 write-from-requires : tie.Need-write-from-requires
 write-from-requires c κs =
-    c .before .before .strides .ensures
+    all-of-it (now (c .before .before .before .before .before .before .args .s)) _ (c .before .before .strides .ensures)
 
 same-length-2 : tie.Need-same-length-2
 same-length-2 c = search needs
@@ -43,6 +44,7 @@ pub write-spec : {M : Type 1} → statement M
 write-spec =
     tie.close
     (tie.spec
+    slice-aggregate-strides
     strides-requires
     write-literal-requires
     same-length

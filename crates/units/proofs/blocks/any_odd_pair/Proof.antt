@@ -12,12 +12,12 @@ use Rattle.units.specs.Blocks.{AllPaired, Paired}
 use Rattle.units.proofs.BlockLaws.{one-more}
 
 abbrev Inv-loop : tie.InvT-loop
-Inv-loop q s at found₀ k₀ found k =
-    (k ≤ 32) × (found ≡ false → AllPaired q s at k)
+Inv-loop q s at n found₀ k₀ found k =
+    (k ≤ n) × (found ≡ false → AllPaired q s at k)
 
 abbrev μ-loop : tie.MeasureT-loop
-μ-loop q s at found₀ k₀ found k =
-    32 - k
+μ-loop q s at n found₀ k₀ found k =
+    n - k
 
 loop-holds : tie.Need-loop-holds Inv-loop μ-loop
 loop-holds c =

@@ -5,7 +5,7 @@ use Rattle.units.proofs.blocks.last_pairs.Statement.{statement}
 use Rattle.units.proofs.blocks.last_pairs.Tie as tie
 use native.Mathlib.Omega.{arith}
 use Rattle.units.proofs.LiteralRuns.{here}
-use Rattle.units.proofs.BlockLaws.{over-last}
+use Rattle.units.proofs.BlockLaws.{over-two-pairs}
 
 returns : tie.Need-returns
 returns c =
@@ -53,7 +53,7 @@ behind-requires c κs = search needs
 
 returns-6 : tie.Need-returns-6
 returns-6 c =
-    over-last _ _ _ _ (c .before .before .before .quote-of .ensures) _ _ (omega arith) (omega arith) (omega arith) (c .before .before .before .before .before .continues .ensures) (c .before .before .before .before .if4 .left) (c .before .before .any-odd-pair .ensures (c .before .if5 .left)) (c .behind .ensures)
+    over-two-pairs _ _ _ _ (c .before .before .before .quote-of .ensures) _ _ 32 _ (omega arith) (omega arith) (omega arith) (omega arith) _ _ (omega arith) (c .before .before .before .before .before .continues .ensures) (c .before .before .before .before .if4 .left) (c .before .before .any-odd-pair .ensures (c .before .if5 .left)) (c .before .before .any-odd-pair .ensures (c .before .if5 .left)) (c .behind .ensures)
 
 pub last-pairs-spec : {M : Type 1} → statement M
 last-pairs-spec =
