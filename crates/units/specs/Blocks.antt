@@ -61,15 +61,15 @@ AllAlone q s at n = (k : ℕ) → k < n → Alone q (getD s (at + k) 0)
 abbrev pub AllPaired : ℕ → List ℕ → ℕ → ℕ → Type 0
 AllPaired q s at n = (k : ℕ) → k < n → Paired q (getD s (at + k) 0) (getD s (at + k + 1) 0)
 
--- a continuation byte belongs to what stands before it
+abbrev pub AllTripled : ℕ → List ℕ → ℕ → ℕ → Type 0
+AllTripled q s at n = (k : ℕ) → k < n → Tripled q (getD s (at + k) 0) (getD s (at + k + 1) 0) (getD s (at + k + 2) 0)
+
+-- how many bytes at a place belong to the character before it, by whether the first is a continuation
 abbrev pub taken : Bool → ℕ
 taken true = 1
 taken false = 0
 
-abbrev pub AllTripled : ℕ → List ℕ → ℕ → ℕ → Type 0
-AllTripled q s at n = (k : ℕ) → k < n → Tripled q (getD s (at + k) 0) (getD s (at + k + 1) 0) (getD s (at + k + 2) 0)
-
--- the same of two bytes, by whether each is a continuation
+-- the same of up to two bytes, by whether each is a continuation
 abbrev pub owed : Bool → Bool → ℕ
 owed false u = 0
 owed true false = 1
