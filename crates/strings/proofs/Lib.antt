@@ -1,6 +1,8 @@
+pub mod Advancing
 pub mod AmpleRoom
 pub mod Claims
 pub mod Ends
+pub mod FewStored
 pub mod Lengths
 pub mod Places
 pub mod Plain
@@ -8,8 +10,8 @@ pub mod Reading
 pub mod RoundTrip
 pub mod Runs
 pub mod Steps
+pub mod Tokens
 pub mod Utf8Denoted
 pub mod ValidTexts
 pub mod WholeTexts
 pub mod Writing
-pub mod Tokens

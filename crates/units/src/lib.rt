@@ -3,6 +3,7 @@ pub mod blocks;
 pub mod escapes;
 pub mod hex;
 pub mod literals;
+pub mod singles;
 pub mod styles;
 pub mod threes;
 pub mod units;
