@@ -1,10 +1,12 @@
+pub mod Advancing
 pub mod AmpleRoom
+pub mod FewStored
 pub mod Lengths
 pub mod Places
 pub mod Reading
 pub mod Runs
 pub mod Steps
+pub mod Tokens
 pub mod ValidTexts
 pub mod WholeTexts
 pub mod Writing
-pub mod Tokens

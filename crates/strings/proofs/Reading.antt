@@ -23,7 +23,7 @@ use Rattle.strings.specs.declared.answers.Token.the-variants.{Ended as T
 use Rattle.strings.specs.declared.read.Step.{Step}
 use Rattle.strings.specs.declared.read.Step.the-variants.{On, Ended, Failed}
 use Rattle.strings.specs.Read.{StringRead, accepted, refused, more, readUnits, tokenOf, Stored}
-use Rattle.strings.specs.Turns.{stepOf, bytesOf, turnOf, turnBytes}
+use Rattle.strings.specs.Turns.{stepOf, bytesOf, turnOf, turnBytes, Advanced}
 use Rattle.strings.proofs.Steps.{read-closes, read-fault, read-took, more-none, more-more}
 use Rattle.strings.proofs.Runs.{run-law}
 
@@ -92,6 +92,19 @@ pub record Kept (st : Style) (s out₀ : List ℕ) (from : ℕ) (out : List ℕ)
 pub begun : (st : Style) (s out : List ℕ) (from : ℕ) → from ≤ length s → Kept st s out from out from 0
 begun st s out from h =
     record { done = []; inside = h; less = zero-le; count = refl; stored = refl; same = sym (more-none (readUnits st from 0 (drop from s))) }
+
+-- some more units
+pub and-more : {st : Style} {s out₀ : List ℕ} {from : ℕ} {out : List ℕ} {at o : ℕ} → Kept st s out₀ from out at o
+    → {to p : ℕ} {new : List ℕ} → Advanced st s at o out to p new → Kept st s out₀ from new to p
+and-more {st} {s} {out₀} {from} {out} {at} {o} k {to} {p} {new} d =
+    record {
+      done = k .done ++ d .bytes;
+      inside = d .inside;
+      less = omega (arith, k .less, d .less, d .onward);
+      count = omega (arith, k .count, d .count, length-append (k .done) (d .bytes));
+      stored = d .stored ∙ ap (λ (l : List ℕ). sets l o (d .bytes)) (k .stored) ∙ sets-append (k .done) (d .bytes) out₀ 0 o (omega (arith, k .count));
+      same = k .same ∙ ap (more (k .done)) (d .same) ∙ more-more (k .done) (d .bytes) (readUnits st to 0 (drop to s));
+    }
 
 module _ {st : Style} {s out₀ : List ℕ} {from : ℕ} {out : List ℕ} {at o : ℕ} (k : Kept st s out₀ from out at o)
     (x : Step) (new : List ℕ) (ex : x ≡ turnOf st (drop at s) at o) (en : new ≡ sets out o (turnBytes st (drop at s))) where

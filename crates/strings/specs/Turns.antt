@@ -1,9 +1,10 @@
 -- The reader's own steps, which no caller sees: a run of literal characters and one unit, at a place of the text.
 -- Assumes nothing.
-use Prim.Native.Nat.{ℕ, _+_}
+use Prim.Native.Nat.{ℕ, _+_, _≤_}
 use mathlib.Core.List.{List, [], _++_}
 use mathlib.Core.Path.{_≡_}
 use lib.ListN.{length, getD, take, drop}
+use lib.Seq.{sets}
 use Rattle.units.specs.declared.styles.Style.{Style}
 use Rattle.units.specs.Styles.{quote, StringUnit, close, took, fault}
 use Rattle.units.specs.Units.{unitAt, literalRun}
@@ -11,7 +12,7 @@ use Rattle.strings.specs.declared.read.Mark.{Mark}
 use Rattle.strings.specs.declared.read.Mark.the-variants.{Opens, Unopened}
 use Rattle.strings.specs.declared.read.Step.{Step}
 use Rattle.strings.specs.declared.read.Step.the-variants.{On, Ended, Failed}
-use Rattle.strings.specs.Read.{StringRead, readUnits, whole, fitted, Opening, opens, unopened}
+use Rattle.strings.specs.Read.{StringRead, more, readUnits, whole, fitted, Opening, opens, unopened}
 
 -- the code's opening mark as the definition's
 abbrev pub openingOf : Mark → Opening
@@ -44,3 +45,13 @@ turnBytes st r = take (literalRun st 0 r) r ++ bytesOf (unitAt st (drop (literal
 pub record Closed (st : Style) (s : List ℕ) (e : ℕ) : Type 0 where
   pub last : e + 1 ≡ length s
   pub ends : getD s e 0 ≡ quote st
+
+-- whole units were read from a place on up to another: their bytes are stored behind the first o, and the rest is still to be read
+pub record Advanced (st : Style) (s : List ℕ) (from o : ℕ) (out : List ℕ) (at p : ℕ) (new : List ℕ) : Type 0 where
+  pub bytes : List ℕ
+  pub onward : from ≤ at
+  pub inside : at ≤ length s
+  pub less : p + from ≤ at + o
+  pub count : p ≡ o + length bytes
+  pub stored : new ≡ sets out o bytes
+  pub same : readUnits st from 0 (drop from s) ≡ more bytes (readUnits st at 0 (drop at s))

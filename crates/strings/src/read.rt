@@ -1,7 +1,7 @@
 // The token reader and the string reader.
 ghost use mathlib.Core.Bool.{true};
 ghost use mathlib.Core.Path.{_≡_};
-ghost use Prim.Native.Nat.{_+_, _≤_};
+ghost use Prim.Native.Nat.{_+_, _-_, _≤_};
 ghost use lib.ListN.{length, drop};
 ghost use lib.Seq.{sets};
 ghost use Rattle.utf8.specs.Class.{IsTable};
@@ -12,6 +12,7 @@ ghost use Rattle.strings.specs.Read.{opening, readUnits, readToken, read
 ghost use Rattle.strings.specs.Turns.{openingOf, readBehind, stepOf, bytesOf, turnOf, turnBytes, Closed};
 use crate::answers::Decoded;
 use crate::answers::Token;
+use crate::singles;
 use prelude::refusals;
 use prelude::slices;
 use units::blocks;
@@ -61,18 +62,38 @@ pub fn mark_at(s: &[u8]) -> Mark
     Mark::Unopened
 }
 
-// Stores up to four bytes, each if there is room for it. Most escapes are one byte, which needs no copy.
+// How many of n bytes find room behind a place.
+fn room_for(n: usize, o: usize, length: usize) -> usize
+    ensures { λ r. ⌜ (r ≤ n) × (r ≤ length - o) × (n ≤ length - o → r ≡ n) × (length - o ≤ n → r ≡ length - o) ⌝ }
+{
+    if o < length {
+        return slices::least(n, length - o);
+    }
+    0
+}
+
+// Stores up to four bytes, each if there is room for it. They are stored one by one: a copy would cost a call.
 fn put_few(few: Few, o: usize, out: &mut [u8])
     requires { ⌜ few .count ≤ 4 ⌝ }
     ensures { λ r. ⌜ now (out .exit) ≡ sets (now (out .entry)) o (fewOf few) ⌝ }
 {
-    let n = few.count;
-    if n == 1 {
-        slices::put(few.a, o, out);
+    let m = room_for(few.count, o, out.len());
+    if m == 0 {
         return;
     }
-    let bytes = [few.a, few.b, few.c, few.d];
-    slices::copy_run(&bytes, 0, n, o, out);
+    out[o] = few.a;
+    if m == 1 {
+        return;
+    }
+    out[o + 1] = few.b;
+    if m == 2 {
+        return;
+    }
+    out[o + 2] = few.c;
+    if m == 3 {
+        return;
+    }
+    out[o + 3] = few.d;
 }
 
 // One unit: its bytes are stored as far as there is room.
@@ -133,9 +154,10 @@ pub fn units_from(
         let step = turn(t, s, at, e, style, o, out);
         match step {
             Step::On(next, count) => {
-                at = next;
-                o = count;
-                e = literals::short_run(t, s, next, style);
+                let moved = singles::singles_behind(t, s, next, style, e - at, count, out);
+                at = moved.at;
+                o = moved.count;
+                e = literals::run_there(t, s, moved.at, style);
             }
             Step::Ended(end, count) => {
                 return Token::Ended(end, count);

@@ -26,6 +26,11 @@ pub scalar-below : (u : StringUnit) (n v : ℕ) → u ≡ took n (encode v) → 
 unfolding scalar
 scalar-below u n v e h = let k : v ≤ 0x10ffff = omega arith in search tests
 
+-- below the halves, whatever follows
+pub unit-below : (v w : ℕ) → v < 0xd800 → codeUnit v w ≡ took 6 (encode v)
+unfolding codeUnit
+unit-below v w h = search tests
+
 -- a letter's byte that isn't 0
 pub short-some : (u : StringUnit) (b : ℕ) → u ≡ took 2 (b ∷ []) → (b ≡ 0 → ⊥) → u ≡ short b
 short-some u zero e h = absurd (h refl)
@@ -107,6 +112,9 @@ module _ (s : List ℕ) (at : ℕ) where
     unfolding fourDigits
     four-yes u v w h ev ew e =
         e ∙ rw (ev, ew, ← drop-drop 4 at s) (sym (pick-true _ _ _ (eq-eqb _ _ (sym en ∙ h))))
+
+    pub four-below : (u : StringUnit) (v : ℕ) → n ≡ 4 → v ≡ hexNumber 4 (drop at s) → v < 0xd800 → u ≡ took 6 (encode v) → u ≡ fourDigits (drop at s)
+    four-below u v h ev l e = four-yes u v (lowHalf (drop (at + 4) s)) h ev refl (e ∙ sym (unit-below v (lowHalf (drop (at + 4) s)) l))
 
   -- `\u{h}`
   module _ (no : isBraced (getD (drop at s) 0 0) (drop (at + 1) s) ≡ false) where

@@ -6,6 +6,7 @@ pub mod LiteralClasses
 pub mod LiteralLaws
 pub mod LiteralRuns
 pub mod OneCharacter
+pub mod SingleLaws
 pub mod Sizes
 pub mod ThreeBytes
 pub mod UnitLaws

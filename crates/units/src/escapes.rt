@@ -16,7 +16,7 @@ use utf8::encoding;
 use utf8::encoding::Few;
 
 // The byte that a letter denotes in every style, 0 where it denotes none.
-fn common(c: u8) -> u8
+pub fn common(c: u8) -> u8
     ensures { λ r. ⌜ r ≡ lookup c letters ⌝ }
 {
     if c == 34 {
@@ -145,10 +145,14 @@ fn four_digits(s: &[u8], at: usize) -> Unit
 {
     let d = hex::digits_at(s, at, 4);
     let n = d.count;
-    if n == 4 {
-        return code_unit(d.value, low_half(s, at + 4));
+    let v = d.value;
+    if n != 4 {
+        return Unit::Fault(refusals::BAD_ESCAPE);
     }
-    Unit::Fault(refusals::BAD_ESCAPE)
+    if v < 0xd800 {
+        return coded(6, v);
+    }
+    code_unit(v, low_half(s, at + 4))
 }
 
 // The number of a `\u{h}` of n bytes.

@@ -4,6 +4,7 @@ pub mod escapes;
 pub mod hex;
 pub mod literals;
 pub mod shorts;
+pub mod singles;
 pub mod styles;
 pub mod threes;
 pub mod units;

@@ -210,3 +210,14 @@ pub fn short_run(t: &[u8; 256], s: &[u8], from: usize, style: Style) -> usize
     }
     run_on(t, s, at, style)
 }
+
+// The same where the run is likely to have ended already.
+pub fn run_there(t: &[u8; 256], s: &[u8], from: usize, style: Style) -> usize
+    requires { ⌜ IsTable (now t) × (from ≤ length (now s)) ⌝ }
+    ensures { λ r. ⌜ r ≡ from + literalRun style 0 (drop from (now (s .entry))) ⌝ }
+{
+    if blocks::ends(s, from, style) {
+        return from;
+    }
+    inner_run(t, s, from, style)
+}

@@ -1,49 +1,94 @@
--- One byte is one store, and more are copied.
+-- Each number of bytes that find room is its own way through the stores (FewStored).
 -- Assumes nothing.
 use borrow.Author.Needs.{needs}
 use Rattle.strings.proofs.read.put_few.Statement.{statement}
 use Rattle.strings.proofs.read.put_few.Tie as tie
-use Prim.Native.Nat.{ℕ}
-use mathlib.Core.List.{List, [], _∷_}
-use mathlib.Core.Path.{_≡_, sym, ap, _∙_}
-use lib.ListN.{take, set}
-use lib.Seq.{sets}
-use Rattle.utf8.specs.declared.encoding.Few.{Few}
-use Rattle.utf8.specs.Utf8.{fewOf}
+use denote.Ref.{now}
+use native.Mathlib.Omega.{arith}
+use lib.ListN.{length-set}
+use Rattle.strings.proofs.FewStored.{stored-none, stored-one, stored-two, stored-three, stored-four}
 
-one-byte : (f : Few) (out new : List ℕ) (o : ℕ) → f .count ≡ 1 → new ≡ set out o (f .a) → new ≡ sets out o (fewOf f)
-one-byte f out new o e h = h ∙ ap (λ (n : ℕ). sets out o (take n (f .a ∷ f .b ∷ f .c ∷ f .d ∷ []))) (sym e)
+room-for-requires : tie.Need-room-for-requires
+room-for-requires c κs = search needs
 
-put-requires : tie.Need-put-requires
-put-requires c κs = search needs
+returns : tie.Need-returns
+returns c =
+    stored-none (c .before .before .before .args .few) (now (c .before .before .before .args .out)) (c .before .before .before .args .o) (c .before .room-for .result) (c .before .before .before .pre) (c .before .room-for .ensures .0) (c .before .room-for .ensures .2) (c .before .room-for .ensures .3) (c .if1 .taken)
+
+slice-write-out : tie.Need-slice-write-out
+slice-write-out c =
+    omega (arith, c .before .room-for .ensures .1)
 
 same-length : tie.Need-same-length
 same-length c = search needs
 
-returns : tie.Need-returns
-returns c =
-    one-byte (c .before .before .before .before .before .before .args .few) _ _ _ (c .before .before .before .before .if1 .taken) (c .before .before .put .ensures)
+returns-2 : tie.Need-returns-2
+returns-2 c =
+    stored-one (c .before .before .before .before .args .few) (now (c .before .before .before .before .args .out)) (c .before .before .before .before .args .o) (c .before .before .room-for .result) (c .before .before .before .before .pre) (c .before .before .room-for .ensures .0) (c .before .before .room-for .ensures .2) (c .before .before .room-for .ensures .3) (c .if2 .taken)
 
-slice-aggregate-copy-run : tie.Need-slice-aggregate-copy-run
-slice-aggregate-copy-run c = search needs
+add-out : tie.Need-add-out
+add-out c =
+    omega (arith, c .before .before .room-for .ensures .1)
 
-copy-run-requires : tie.Need-copy-run-requires
-copy-run-requires c κs = search needs
+slice-write-out-2 : tie.Need-slice-write-out-2
+slice-write-out-2 c =
+    simp length-set (omega (arith, c .before .before .room-for .ensures .1))
 
 same-length-2 : tie.Need-same-length-2
 same-length-2 c = search needs
 
-returns-2 : tie.Need-returns-2
-returns-2 c = search needs
+returns-3 : tie.Need-returns-3
+returns-3 c =
+    stored-two (c .before .before .before .before .before .args .few) (now (c .before .before .before .before .before .args .out)) (c .before .before .before .before .before .args .o) (c .before .before .before .room-for .result) (c .before .before .before .before .before .pre) (c .before .before .before .room-for .ensures .0) (c .before .before .before .room-for .ensures .2) (c .before .before .before .room-for .ensures .3) (c .if3 .taken)
+
+add-out-2 : tie.Need-add-out-2
+add-out-2 c =
+    omega (arith, c .before .before .before .room-for .ensures .1)
+
+slice-write-out-3 : tie.Need-slice-write-out-3
+slice-write-out-3 c =
+    simp length-set (omega (arith, c .before .before .before .room-for .ensures .1))
+
+same-length-3 : tie.Need-same-length-3
+same-length-3 c = search needs
+
+returns-4 : tie.Need-returns-4
+returns-4 c =
+    stored-three (c .before .before .before .before .before .before .args .few) (now (c .before .before .before .before .before .before .args .out)) (c .before .before .before .before .before .before .args .o) (c .before .before .before .before .room-for .result) (c .before .before .before .before .before .before .pre) (c .before .before .before .before .room-for .ensures .0) (c .before .before .before .before .room-for .ensures .2) (c .before .before .before .before .room-for .ensures .3) (c .if4 .taken)
+
+add-out-3 : tie.Need-add-out-3
+add-out-3 c =
+    omega (arith, c .before .before .before .before .room-for .ensures .1)
+
+slice-write-out-4 : tie.Need-slice-write-out-4
+slice-write-out-4 c =
+    simp length-set (omega (arith, c .before .before .before .before .room-for .ensures .1))
+
+same-length-4 : tie.Need-same-length-4
+same-length-4 c = search needs
+
+returns-5 : tie.Need-returns-5
+returns-5 c =
+    stored-four (c .before .before .before .before .before .before .args .few) (now (c .before .before .before .before .before .before .args .out)) (c .before .before .before .before .before .before .args .o) (c .before .before .before .before .room-for .result) (c .before .before .before .before .before .before .pre) (c .before .before .before .before .room-for .ensures .0) (c .before .before .before .before .room-for .ensures .2) (c .before .before .before .before .room-for .ensures .3) (omega arith)
 
 pub put-few-spec : {M : Type 1} → statement M
 put-few-spec =
     tie.close
     (tie.spec
-    put-requires
-    same-length
+    room-for-requires
     returns
-    slice-aggregate-copy-run
-    copy-run-requires
+    slice-write-out
+    same-length
+    returns-2
+    add-out
+    slice-write-out-2
     same-length-2
-    returns-2)
+    returns-3
+    add-out-2
+    slice-write-out-3
+    same-length-3
+    returns-4
+    add-out-3
+    slice-write-out-4
+    same-length-4
+    returns-5)

@@ -1,15 +1,16 @@
--- The invariant `Kept`: what is decoded is stored, and the rest is still to be read; a turn adds a run, whose end is known, and a unit.
+-- The invariant `Kept`: what is decoded is stored, and the rest is still to be read; a turn adds a run, whose end is known, a unit, and
+-- units of one byte behind it.
 -- Assumes nothing.
 use Rattle.strings.proofs.read.units_from.Statement.{statement}
 use Rattle.strings.proofs.read.units_from.Tie as tie
 use denote.Ref.{now}
 use borrow.Author.Needs.{needs}
 use native.Mathlib.Omega.{arith}
-use mathlib.Core.Path.{_≡_, refl, sym, _∙_}
+use mathlib.Core.Path.{_≡_, refl, _∙_}
 use Prim.Native.Nat.{_+_, _-_}
 use lib.ListN.{length, drop}
 use Rattle.units.specs.Units.{literalRun}
-use Rattle.strings.proofs.Reading.{Kept, begun, moved, ended, failed}
+use Rattle.strings.proofs.Reading.{Kept, begun, and-more, moved, ended, failed}
 
 abbrev Inv-loop : tie.InvT-loop
 Inv-loop t s from first style out₀ at₀ e₀ o₀ out at e o =
@@ -31,18 +32,28 @@ enum-known-step : tie.Need-enum-known-step Inv-loop μ-loop
 enum-known-step c =
     search needs
 
-short-run-requires : tie.Need-short-run-requires Inv-loop μ-loop
-short-run-requires c κs =
-    (c .before .before .before .before .before .before .before .before .before .before .pre .0, moved (c .before .before .before .before .before .before .before .loop .inv .0) (c .before .before .before .before .before .turn .result) _ (c .before .before .before .before .before .turn .ensures .0) (c .before .before .before .before .before .turn .ensures .1) _ _ (c .before .step .given .1) .0 .inside)
+sub-singles-behind : tie.Need-sub-singles-behind Inv-loop μ-loop
+sub-singles-behind c =
+    omega (arith, c .before .before .before .before .before .before .before .loop .inv .2)
+
+singles-behind-requires : tie.Need-singles-behind-requires Inv-loop μ-loop
+singles-behind-requires c κs =
+    let m = moved (c .before .before .before .before .before .before .before .before .loop .inv .0) (c .before .before .before .before .before .before .turn .result) _ (c .before .before .before .before .before .before .turn .ensures .0) (c .before .before .before .before .before .before .turn .ensures .1) _ _ (c .before .before .step .given .1) in
+    (c .before .before .before .before .before .before .before .before .before .before .before .pre .0, m .0 .inside, m .0 .less)
+
+run-there-requires : tie.Need-run-there-requires Inv-loop μ-loop
+run-there-requires c κs =
+    (c .before .before .before .before .before .before .before .before .before .before .before .before .before .before .pre .0, c .before .before .singles-behind .ensures .inside)
 
 loop-less : tie.Need-loop-less Inv-loop μ-loop
 loop-less c =
-    let m = moved (c .before .before .before .before .before .before .before .before .loop .inv .0) (c .before .before .before .before .before .before .turn .result) _ (c .before .before .before .before .before .before .turn .ensures .0) (c .before .before .before .before .before .before .turn .ensures .1) _ _ (c .before .before .step .given .1) in
-    omega (arith, m .0 .inside, m .1)
+    let m = moved (c .before .before .before .before .before .before .before .before .before .before .before .before .loop .inv .0) (c .before .before .before .before .before .before .before .before .before .before .turn .result) _ (c .before .before .before .before .before .before .before .before .before .before .turn .ensures .0) (c .before .before .before .before .before .before .before .before .before .before .turn .ensures .1) _ _ (c .before .before .before .before .before .before .step .given .1) in
+    omega (arith, m .1, c .before .before .before .singles-behind .ensures .onward, c .before .before .before .singles-behind .ensures .inside)
 
 loop-again : tie.Need-loop-again Inv-loop μ-loop
 loop-again c =
-    (moved (c .before .before .before .before .before .before .before .before .loop .inv .0) (c .before .before .before .before .before .before .turn .result) _ (c .before .before .before .before .before .before .turn .ensures .0) (c .before .before .before .before .before .before .turn .ensures .1) _ _ (c .before .before .step .given .1) .0, c .before .before .before .before .before .before .turn .kept .1 .1 .1 .1 .1 .1 .0 ∙ c .before .before .before .before .before .before .before .before .loop .inv .1, c .short-run .ensures)
+    let m = moved (c .before .before .before .before .before .before .before .before .before .before .before .before .loop .inv .0) (c .before .before .before .before .before .before .before .before .before .before .turn .result) _ (c .before .before .before .before .before .before .before .before .before .before .turn .ensures .0) (c .before .before .before .before .before .before .before .before .before .before .turn .ensures .1) _ _ (c .before .before .before .before .before .before .step .given .1) in
+    (and-more (m .0) (c .before .before .before .singles-behind .ensures), c .before .before .before .singles-behind .kept .1 .1 .1 .1 .1 .1 .0 ∙ c .before .before .before .before .before .before .before .before .before .before .turn .kept .1 .1 .1 .1 .1 .1 .0 ∙ c .before .before .before .before .before .before .before .before .before .before .before .before .loop .inv .1, c .run-there .ensures)
 
 enum-known-step-2 : tie.Need-enum-known-step-2 Inv-loop μ-loop
 enum-known-step-2 c =
@@ -77,7 +88,9 @@ units-from-spec =
     loop-holds
     turn-requires
     enum-known-step
-    short-run-requires
+    sub-singles-behind
+    singles-behind-requires
+    run-there-requires
     loop-less
     loop-again
     enum-known-step-2
