@@ -40,15 +40,19 @@ or-right false b e = e
 abbrev Short : List ℕ → Type 0
 Short l = length l ≤ 6
 
-escape-short : (x : ℕ) → length (escapeByte Json x) ≤ 6
+pub escape-short : (x : ℕ) → length (escapeByte Json x) ≤ 6
 unfolding escapeByte byNumber
 escape-short x =
     pick-case Short (eqb (lookup x (escaped Json)) 0) (byNumber Json x) (92 ∷ lookup x (escaped Json) ∷ [])
     (λ a. lit≤ tt) (λ a. lit≤ tt)
 
-pub unmarked : (b : ℕ) → ltb b 32 || (eqb b 34 || eqb b 92) ≡ false → byteText b ≡ b ∷ []
+-- a byte that stands as it is unless it is a control
+abbrev pub Alike : ℕ → Type 0
+Alike b = 32 ≤ b → byteText b ≡ b ∷ []
+
+pub unslashed : (b : ℕ) → eqb b 34 || eqb b 92 ≡ false → Alike b
 unfolding byteText pick
-unmarked b e = rw (or-left (ltb b 32) _ e, or-right (ltb b 32) _ e)
+unslashed b e h = rw (le-ltb b 32 h, e)
 
 -- one byte more of a block
 pub one-more : (P : ℕ → Type 0) (a b : Bool) (n : ℕ) → (a ≡ false → (k : ℕ) → k < n → P k) → (b ≡ false → P n) → a || b ≡ false
@@ -57,12 +61,12 @@ one-more P a b n f g e = below-more P n (f (or-left a b e)) (g (or-right a b e))
 
 -- a byte that is no control, stored over a backslash or behind it
 pub text-stored : (b n o : ℕ) (out : List ℕ) → 32 ≤ b → n ≡ pick (eqb b 34 || eqb b 92) 1 0
-    → (n + 1 ≡ length (byteText b)) × (set (set out o 92) (o + n) b ≡ sets out o (byteText b))
+    → (o + n + 1 ≡ o + length (byteText b)) × (set (set out o 92) (o + n) b ≡ sets out o (byteText b))
 unfolding byteText pick
 text-stored b n o out h e =
     split (eqb b 34 || eqb b 92)
-    (λ t. let m : n ≡ 1 = e ∙ rw t in let a : o + 1 ≡ suc o = omega arith in simp (le-ltb b 32 h, t) (rw m refl, rw (m, a) refl))
-    (λ t. let m : n ≡ 0 = e ∙ rw t in simp (le-ltb b 32 h, t) (rw m refl, rw (m, add-zero o) (set-set out o 92 b)))
+    (λ t. let m : n ≡ 1 = e ∙ rw t in let a : o + 1 ≡ suc o = omega arith in simp (le-ltb b 32 h, t) (rw m (omega arith), rw (m, a) refl))
+    (λ t. let m : n ≡ 0 = e ∙ rw t in simp (le-ltb b 32 h, t) (rw m (omega arith), rw (m, add-zero o) (set-set out o 92 b)))
 
 -- by the class of the byte
 
@@ -196,9 +200,6 @@ byte-length x =
     pick-case Short (ltb x 32) (escapeByte Json x) _ (λ a. escape-short x)
     (λ a. pick-case Short (eqb x 34 || eqb x 92) (92 ∷ x ∷ []) (x ∷ []) (λ b. lit≤ tt) (λ b. lit≤ tt))
 
-pub within-six : (x n : ℕ) → n ≡ length (byteText x) → n ≤ 6
-within-six x n e = omega (arith, byte-length x)
-
 bytes-length : (s : List ℕ) → length (bytesText s) ≤ 6 * length s
 unfolding bytesText
 bytes-length [] = omega arith
@@ -237,9 +238,9 @@ module _ (s : List ℕ) where
     pub texted-none : (at : ℕ) → Texted s at at o out o out
     texted-none at = record { size = rw (text-none at) (omega arith); stored = rw (text-none at) refl }
 
-    pub texted-one : (at n : ℕ) (new : List ℕ) → at < length s → (n ≡ length (byteText (getD s at 0))) × (new ≡ sets out o (byteText (getD s at 0)))
-        → Texted s at (at + 1) o out (o + n) new
-    texted-one at n new h w = record { size = rw (text-one at h) (ap (λ (k : ℕ). o + k) (w .0)); stored = rw (text-one at h) (w .1) }
+    pub texted-one : (at r : ℕ) (new : List ℕ) → at < length s → (r ≡ o + length (byteText (getD s at 0))) × (new ≡ sets out o (byteText (getD s at 0)))
+        → Texted s at (at + 1) o out r new
+    texted-one at r new h w = record { size = rw (text-one at h) (w .0); stored = rw (text-one at h) (w .1) }
 
     pub texted-same : (at n : ℕ) (new : List ℕ) → at + n ≤ length s → Unmarked s at n → new ≡ sets out o (take n (drop at s)) → Texted s at (at + n) o out (o + n) new
     texted-same at n new h u w =
@@ -268,12 +269,12 @@ module _ (s : List ℕ) where
     pub texted-start : (from : ℕ) → Texted s from (from + 0) o out o out
     texted-start from = subst (λ (i : ℕ). Texted s from i o out o out) (let e : from ≡ from + 0 = omega arith in e) (texted-none from)
 
-    pub texted-next : (from k r n : ℕ) (new1 new2 : List ℕ) → from + k < length s → Texted s from (from + k) o out r new1
-        → (n ≡ length (byteText (getD s (from + k) 0))) × (new2 ≡ sets new1 r (byteText (getD s (from + k) 0))) → Texted s from (from + (k + 1)) o out (r + n) new2
-    texted-next from k r n new1 new2 h a w =
-        subst (λ (i : ℕ). Texted s from i o out (r + n) new2) (let e : from + k + 1 ≡ from + (k + 1) = omega arith in e) go
+    pub texted-next : (from k r p : ℕ) (new1 new2 : List ℕ) → from + k < length s → Texted s from (from + k) o out r new1
+        → (p ≡ r + length (byteText (getD s (from + k) 0))) × (new2 ≡ sets new1 r (byteText (getD s (from + k) 0))) → Texted s from (from + (k + 1)) o out p new2
+    texted-next from k r p new1 new2 h a w =
+        subst (λ (i : ℕ). Texted s from i o out p new2) (let e : from + k + 1 ≡ from + (k + 1) = omega arith in e) go
       where
-        go : Texted s from (from + k + 1) o out (r + n) new2
+        go : Texted s from (from + k + 1) o out p new2
         go = record {
           size = rw (text-then from (from + k) (from + k + 1) (omega arith) (omega arith), text-one (from + k) h) (omega (arith, a .size, w .0, length-append (textOf s from (from + k)) (byteText (getD s (from + k) 0))));
           stored = rw (text-then from (from + k) (from + k + 1) (omega arith) (omega arith), text-one (from + k) h)

@@ -1,6 +1,6 @@
 -- What the parts of the writer of valid data promise each other: these speak of the code alone, and no rule cites them.
 -- Assumes nothing.
-use Prim.Native.Nat.{ℕ, _+_, _-_, _<_}
+use Prim.Native.Nat.{ℕ, _+_, _-_, _<_, _≤_}
 use mathlib.Core.Bool.{_||_}
 use mathlib.Core.List.{List, [], _∷_, _++_}
 use mathlib.Core.Path.{_≡_}
@@ -24,6 +24,10 @@ bytesText (x ∷ r) = byteText x ++ bytesText r
 -- the same of the bytes from one place to another
 abbrev pub textOf : List ℕ → ℕ → ℕ → List ℕ
 textOf s from at = bytesText (take (at - from) (drop from s))
+
+-- n bytes without a control
+abbrev pub NoControl : List ℕ → ℕ → ℕ → Type 0
+NoControl s at n = (k : ℕ) → k < n → 32 ≤ getD s (at + k) 0
 
 -- n bytes that stand as they are
 abbrev pub Unmarked : List ℕ → ℕ → ℕ → Type 0

@@ -7,6 +7,7 @@ ghost use Rattle.bytewise.specs.Bytewise.{Fronted, Onward, owedAt};
 use crate::texts;
 use units::blocks;
 use units::threes;
+use utf8::chars;
 
 // Sixteen bytes behind a quote.
 fn put_sixteen(s: &[u8], at: usize, out: &mut [u8])
@@ -141,7 +142,8 @@ fn put_through(s: &[u8], at: usize, out: &mut [u8]) -> usize
     put_owed(s, at + 16, out)
 }
 
-// Whole blocks of characters of up to three bytes; ASCII is cheaper, so it comes first.
+// Whole blocks of characters of up to three bytes; ASCII is cheaper, so it comes first. A block of ASCII that doesn't stand as it is has an
+// escape, and needs no other test.
 fn put_threes(s: &[u8], from: usize, out: &mut [u8]) -> usize
     requires { ⌜ (from ≤ length (now s)) × (length (now s) + 2 ≤ length (now out)) ⌝ }
     ensures { λ r. ⌜ (r ≤ length (now (s .entry))) × Onward (now (s .entry)) from r (now (out .entry)) (now (out .exit)) ⌝ }
@@ -152,6 +154,9 @@ fn put_threes(s: &[u8], from: usize, out: &mut [u8]) -> usize
             put_sixteen(s, at, out);
             at += 16;
             continue;
+        }
+        if !chars::any_high(s, at) {
+            return at;
         }
         if !threes::begins(s[at], s[at + 1]) {
             return at;
@@ -204,13 +209,20 @@ fn put_wide(s: &[u8], from: usize, out: &mut [u8]) -> usize
     put_singles(s, b, out)
 }
 
-// The opening quote and the front; the place of the first byte that isn't stored.
+// The same from any byte on.
+pub fn put_onward(s: &[u8], from: usize, out: &mut [u8]) -> usize
+    requires { ⌜ (from ≤ length (now s)) × (length (now s) + 2 ≤ length (now out)) ⌝ }
+    ensures { λ r. ⌜ (r ≤ length (now (s .entry))) × Onward (now (s .entry)) from r (now (out .entry)) (now (out .exit)) ⌝ }
+{
+    let a = put_singles(s, from, out);
+    put_wide(s, a, out)
+}
+
+// The opening quote and the front as far as blocks of ASCII go; the place of the first byte that isn't stored.
 pub fn put_front(s: &[u8], out: &mut [u8]) -> usize
     requires { ⌜ length (now s) + 2 ≤ length (now out) ⌝ }
     ensures { λ r. ⌜ Fronted (now (s .entry)) (now (out .entry)) r (now (out .exit)) ⌝ }
 {
     out[0] = 34;
-    let a = put_ascii(s, out);
-    let b = put_singles(s, a, out);
-    put_wide(s, b, out)
+    put_ascii(s, out)
 }

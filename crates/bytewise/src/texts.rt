@@ -8,27 +8,41 @@ ghost use lib.ListN.{length, getD, take, drop};
 ghost use lib.Seq.{sets};
 ghost use Rattle.prelude.specs.Pick.{pick};
 ghost use Rattle.utf8.specs.Class.{IsTable};
-ghost use Rattle.bytewise.specs.Bytewise.{byteText, Unmarked, Texted};
+ghost use Rattle.bytewise.specs.Bytewise.{byteText, NoControl, Unmarked, Texted};
 use units::styles::Style;
 use units::written;
 use utf8::classes;
 
-// A control, the quote or the backslash.
-fn marked(b: u8) -> bool
-    ensures { λ r. ⌜ (r ≡ false → byteText b ≡ b ∷ []) ⌝ }
-{
-    (b < 32) | ((b == 34) | (b == 92))
-}
-
-// Whether one of eight bytes has an escape; without an early end, so that they are compared at once.
-fn any_marked(s: &[u8], at: usize) -> bool
+// Whether one of eight bytes is a control; without an early end, so that they are compared at once.
+fn any_control(s: &[u8], at: usize) -> bool
     requires { ⌜ at + 8 ≤ length (now s) ⌝ }
-    ensures { λ r. ⌜ (r ≡ false → Unmarked (now (s .entry)) at 8) ⌝ }
+    ensures { λ r. ⌜ (r ≡ false → NoControl (now (s .entry)) at 8) ⌝ }
 {
     let mut found = false;
     let mut k: usize = 0;
     while k < 8 {
-        found = found | marked(s[at + k]);
+        found = found | (s[at + k] < 32);
+        k += 1;
+    }
+    found
+}
+
+// The quote or the backslash.
+fn slashed(b: u8) -> bool
+    ensures { λ r. ⌜ (r ≡ false → 32 ≤ b → byteText b ≡ b ∷ []) ⌝ }
+{
+    (b == 34) | (b == 92)
+}
+
+// Whether one of eight bytes is a quote or a backslash. A test of its own, so that the compiler shares no comparison with the controls'.
+fn any_slashed(s: &[u8], at: usize) -> bool
+    requires { ⌜ at + 8 ≤ length (now s) ⌝ }
+    ensures { λ r. ⌜ (r ≡ false → NoControl (now (s .entry)) at 8 → Unmarked (now (s .entry)) at 8) ⌝ }
+{
+    let mut found = false;
+    let mut k: usize = 0;
+    while k < 8 {
+        found = found | slashed(s[at + k]);
         k += 1;
     }
     found
@@ -81,38 +95,53 @@ fn slashes(k: u8) -> usize
     (0x14usize >> (k as usize)) & 1
 }
 
-// Stores the text of a byte; its length. A backslash that isn't wanted is stored over, which is cheaper than a branch.
-fn put_text(t: &[u8; 256], b: u8, o: usize, out: &mut [u8]) -> usize
-    requires { ⌜ IsTable (now t) × (o + 6 ≤ length (now out)) ⌝ }
-    ensures { λ r. ⌜ (r ≡ length (byteText b)) × (now (out .exit) ≡ sets (now (out .entry)) o (byteText b)) ⌝ }
+// Stores the text of a byte that is no control; the place behind it. A backslash that isn't wanted is stored over, which is cheaper than
+// a branch.
+fn put_slashed(t: &[u8; 256], b: u8, o: usize, out: &mut [u8]) -> usize
+    requires { ⌜ IsTable (now t) × (32 ≤ b) × (o + 2 ≤ length (now out)) ⌝ }
+    ensures { λ r. ⌜ (r ≡ o + length (byteText b)) × (now (out .exit) ≡ sets (now (out .entry)) o (byteText b)) ⌝ }
 {
-    let k = classes::class_in(t, b);
-    if k == 1 {
-        written::put_escape(Style::Json, b, o, out);
-        return written::escape_len(Style::Json, b);
-    }
-    let n = slashes(k);
+    let e = o + slashes(classes::class_in(t, b));
     out[o] = 92;
-    out[o + n] = b;
-    n + 1
+    out[e] = b;
+    e + 1
 }
 
-// Eight bytes, one by one; the place behind their text.
+// The same of a control.
+fn put_control(b: u8, o: usize, out: &mut [u8]) -> usize
+    requires { ⌜ (b < 32) × (o + 6 ≤ length (now out)) ⌝ }
+    ensures { λ r. ⌜ (r ≡ o + length (byteText b)) × (now (out .exit) ≡ sets (now (out .entry)) o (byteText b)) ⌝ }
+{
+    written::put_escape(Style::Json, b, o, out);
+    o + written::escape_len(Style::Json, b)
+}
+
+// The same of any byte.
+fn put_text(t: &[u8; 256], b: u8, o: usize, out: &mut [u8]) -> usize
+    requires { ⌜ IsTable (now t) × (o + 6 ≤ length (now out)) ⌝ }
+    ensures { λ r. ⌜ (r ≡ o + length (byteText b)) × (now (out .exit) ≡ sets (now (out .entry)) o (byteText b)) ⌝ }
+{
+    if classes::class_in(t, b) == 1 {
+        return put_control(b, o, out);
+    }
+    put_slashed(t, b, o, out)
+}
+
+// Eight bytes without a control, one by one; the place behind their text.
 fn put_eight(t: &[u8; 256], s: &[u8], from: usize, start: usize, out: &mut [u8]) -> usize
-    requires { ⌜ IsTable (now t) × (from + 8 ≤ length (now s)) × (start + 48 ≤ length (now out)) ⌝ }
+    requires { ⌜ IsTable (now t) × (from + 8 ≤ length (now s)) × NoControl (now s) from 8 × (start + 48 ≤ length (now out)) ⌝ }
     ensures { λ r. ⌜ Texted (now (s .entry)) from (from + 8) start (now (out .entry)) r (now (out .exit)) ⌝ }
 {
     let mut k: usize = 0;
     let mut o = start;
     while k < 8 {
-        let n = put_text(t, s[from + k], o, out);
+        o = put_slashed(t, s[from + k], o, out);
         k += 1;
-        o += n;
     }
     o
 }
 
-// The same of all bytes from a place on.
+// The text of all bytes from a place on, one by one; the place behind it.
 fn put_texts(t: &[u8; 256], s: &[u8], from: usize, start: usize, out: &mut [u8]) -> usize
     requires { ⌜ IsTable (now t) × (from ≤ length (now s)) × (start + 6 * (length (now s) - from) ≤ length (now out)) ⌝ }
     ensures { λ r. ⌜ Texted (now (s .entry)) from (length (now (s .entry))) start (now (out .entry)) r (now (out .exit)) ⌝ }
@@ -120,14 +149,38 @@ fn put_texts(t: &[u8; 256], s: &[u8], from: usize, start: usize, out: &mut [u8])
     let mut at = from;
     let mut o = start;
     while at < s.len() {
-        let n = put_text(t, s[at], o, out);
+        o = put_text(t, s[at], o, out);
         at += 1;
-        o += n;
     }
     o
 }
 
-// The same, where eights that stand as they are are stored at once.
+// A place in the data, and the place behind the text of what is before it.
+struct Reached {
+    at: usize,
+    o: usize,
+}
+
+// The text of the bytes from a place on through the first control.
+fn put_past(t: &[u8; 256], s: &[u8], from: usize, start: usize, out: &mut [u8]) -> Reached
+    requires { ⌜ IsTable (now t) × (from < length (now s)) × (start + 6 * (length (now s) - from) ≤ length (now out)) ⌝ }
+    ensures { λ r. ⌜ (from < r .at) × (r .at ≤ length (now (s .entry))) × Texted (now (s .entry)) from (r .at) start (now (out .entry)) (r .o) (now (out .exit)) ⌝ }
+{
+    let mut at = from;
+    let mut o = start;
+    while at < s.len() {
+        let b = s[at];
+        if classes::class_in(t, b) == 1 {
+            let e = put_control(b, o, out);
+            return Reached { at: at + 1, o: e };
+        }
+        o = put_slashed(t, b, o, out);
+        at += 1;
+    }
+    Reached { at: at, o: o }
+}
+
+// The same of all bytes, by eights: one that has a control goes byte by byte through it, one that stands as it is is stored at once.
 pub fn put_rest(t: &[u8; 256], s: &[u8], from: usize, start: usize, out: &mut [u8]) -> usize
     requires { ⌜ IsTable (now t) × (from ≤ length (now s)) × (start + 6 * (length (now s) - from) ≤ length (now out)) ⌝ }
     ensures { λ r. ⌜ Texted (now (s .entry)) from (length (now (s .entry))) start (now (out .entry)) r (now (out .exit)) ⌝ }
@@ -135,7 +188,13 @@ pub fn put_rest(t: &[u8; 256], s: &[u8], from: usize, start: usize, out: &mut [u
     let mut at = from;
     let mut o = start;
     while 8 <= s.len() - at {
-        if any_marked(s, at) {
+        if any_control(s, at) {
+            let p = put_past(t, s, at, o, out);
+            at = p.at;
+            o = p.o;
+            continue;
+        }
+        if any_slashed(s, at) {
             o = put_eight(t, s, at, o, out);
             at += 8;
             continue;

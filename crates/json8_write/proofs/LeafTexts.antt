@@ -5,42 +5,72 @@ use mathlib.Core.Bool.{true}
 use mathlib.Core.List.{List, [], _∷_, _++_}
 use mathlib.Core.Path.{_≡_, refl, sym, ap, _∙_}
 use native.Mathlib.Omega.{arith}
-use borrow.Author.Tests.{leb-true, eqb-true, eqb-false}
+use borrow.Author.Tests.{leb-true, eq-eqb, ne-eqb, eqb-true, eqb-false}
 use lib.Dec.{leb, eqb}
 use lib.ListN.{length, getD, take, drop}
+use Rattle.prelude.specs.Pick.{pick}
 use Rattle.prelude.proofs.Cases.{split}
 use Rattle.prelude.proofs.Picks.{pick-true}
 use Rattle.tokens.specs.Numbers.{numberKind}
 use Rattle.strings.specs.Write.{writeString}
 use Rattle.json8.specs.declared.nodes.Sort.{Sort}
 use Rattle.json8.specs.declared.nodes.Sort.the-variants.{Items, Pairs}
-use Rattle.json8.specs.declared.show.Shown.{Shown}
-use Rattle.json8.specs.declared.show.Shown.the-variants.{InText, InStore, Nowhere}
 use Rattle.json8.specs.Nodes.{Node}
-use Rattle.json8.specs.Show.{shownAt}
+use Rattle.json8.specs.Show.{shownBy}
 use Rattle.trees.specs.Trees.{number, string, render}
 use Rattle.trees.specs.Tables.{Maybe, just, unfit, bind, nodesIn, countAt, bytesOf, stringOf, numberOf, leafOf, labelAt}
 use Rattle.json8_write.specs.Write.{isFit}
 use Rattle.json8_write.specs.Steps.{nodeAt, Inside, Put, wordText, treeText, stringText, labelText}
 use Rattle.json8_write.proofs.Puts.{put-as, put-none, put-then}
-use Rattle.json8_write.proofs.Choices.{fit-need, false-true, unfit-never, string-is, number-is, leaf-scalar, scalar-word, scalar-number, scalar-string, key-counts, key-inside, key-string}
+use Rattle.json8_write.proofs.Choices.{fit-need, false-true, unfit-never, number-is, leaf-scalar, scalar-word, scalar-number, scalar-string, key-counts, key-inside, key-string}
 
--- a string, by where it is shown
-module _ (table text store : List ℕ) (i : ℕ) (v : Shown) (h : Inside table i) (e : v ≡ shownAt table (length text) (length store) i) where
-  size-is : (place size : ℕ) → place + size - place ≡ size
-  size-is place size = omega arith
+-- a string that is fit lies inside its buffer
+abbrev Held : List ℕ → List ℕ → ℕ → ℕ → ℕ → Maybe (List ℕ)
+Held text store k p n = bytesOf text store (shownBy k p n (length text) (length store))
 
-  module _ {room o r : ℕ} {out new : List ℕ} (place size : ℕ) where
-    pub text-string : v ≡ InText place size → Put (writeString (take (place + size - place) (drop place text))) room o r out new
+text-held : (text store : List ℕ) (k p n : ℕ) → k ≡ 5 → isFit (Held text store k p n) ≡ true → (p + n ≤ length text) × (Held text store k p n ≡ just (take n (drop p text)))
+unfolding shownBy pick
+text-held text store k p n e f =
+    split (leb (p + n) (length text)) (λ t. (leb-true _ _ t, rw (eq-eqb k 5 e, t) refl))
+    (λ t. unfit-never (Held text store k p n) (rw (eq-eqb k 5 e, t) refl) f)
+
+store-held : (text store : List ℕ) (k p n : ℕ) → (k ≡ 5 → ⊥) → isFit (Held text store k p n) ≡ true → (p + n ≤ length store) × (Held text store k p n ≡ just (take n (drop p store)))
+unfolding shownBy pick
+store-held text store k p n e f =
+    split (eqb k 6)
+    (λ q. split (leb (p + n) (length store)) (λ t. (leb-true _ _ t, rw (ne-eqb k 5 e, q, t) refl))
+    (λ t. unfit-never (Held text store k p n) (rw (ne-eqb k 5 e, q, t) refl) f))
+    (λ q. unfit-never (Held text store k p n) (rw (ne-eqb k 5 e, q) refl) f)
+
+module _ (table text store : List ℕ) (i place size : ℕ) (ep : place ≡ getD table (4 * i + 2) 0) (es : size ≡ getD table (4 * i + 3) 0) (f : isFit (stringOf text store (nodeAt i table)) ≡ true) where
+  held : stringOf text store (nodeAt i table) ≡ Held text store (getD table (4 * i) 0) place size
+  unfolding stringOf
+  held = rw (ep, es) refl
+
+  size-is : place + size - place ≡ size
+  size-is = omega arith
+
+  module _ (e : getD table (4 * i) 0 ≡ 5) where
+    in-text : (place + size ≤ length text) × (Held text store (getD table (4 * i) 0) place size ≡ just (take size (drop place text)))
+    in-text = text-held text store (getD table (4 * i) 0) place size e (sym (ap isFit held) ∙ f)
+
+    pub text-inside : place + size ≤ length text
+    text-inside = in-text .0
+
+    pub text-string : {room o r : ℕ} {out new : List ℕ} → Put (writeString (take (place + size - place) (drop place text))) room o r out new
         → Put (stringText (stringOf text store (nodeAt i table))) room o r out new
-    text-string f p = put-as (ap stringText (string-is table text store i v h e ∙ ap (bytesOf text store) f)) (rw (size-is place size) at p)
+    text-string p = put-as (ap stringText (held ∙ in-text .1)) (rw size-is at p)
 
-    pub store-string : v ≡ InStore place size → Put (writeString (take (place + size - place) (drop place store))) room o r out new
+  module _ (e : getD table (4 * i) 0 ≡ 5 → ⊥) where
+    in-store : (place + size ≤ length store) × (Held text store (getD table (4 * i) 0) place size ≡ just (take size (drop place store)))
+    in-store = store-held text store (getD table (4 * i) 0) place size e (sym (ap isFit held) ∙ f)
+
+    pub store-inside : place + size ≤ length store
+    store-inside = in-store .0
+
+    pub store-string : {room o r : ℕ} {out new : List ℕ} → Put (writeString (take (place + size - place) (drop place store))) room o r out new
         → Put (stringText (stringOf text store (nodeAt i table))) room o r out new
-    store-string f p = put-as (ap stringText (string-is table text store i v h e ∙ ap (bytesOf text store) f)) (rw (size-is place size) at p)
-
-  pub no-string : {room o : ℕ} {out : List ℕ} → v ≡ Nowhere → Put (stringText (stringOf text store (nodeAt i table))) room o o out out
-  no-string f = put-as (ap stringText (string-is table text store i v h e ∙ ap (bytesOf text store) f)) put-none
+    store-string p = put-as (ap stringText (held ∙ in-store .1)) (rw size-is at p)
 
 -- a number that is fit
 module _ (table text : List ℕ) (i place size : ℕ) (ep : place ≡ getD table (4 * i + 2) 0) (es : size ≡ getD table (4 * i + 3) 0) (f : isFit (numberOf text (nodeAt i table)) ≡ true) where
@@ -76,6 +106,13 @@ module _ (text store : List ℕ) (v : Node) (f : isFit (leafOf text store v) ≡
     pub leaf-word : v .kind ≤ 2 → Put (wordText (v .kind)) room o r out new → Put (treeText (leafOf text store v)) room o r out new
     leaf-word h w = put-as (ap treeText (leaf-scalar text store v counts) ∙ scalar-word text store v (omega arith) .1) w
 
+  bound-fit : (x : Maybe (List ℕ)) → isFit (bind x (λ bs. just (string bs))) ≡ isFit x
+  bound-fit (just bs) = refl
+  bound-fit unfit = refl
+
+  pub string-fit : 4 < v .kind → isFit (stringOf text store v) ≡ true
+  string-fit h = sym (ap isFit (leaf-scalar text store v counts ∙ scalar-string text store v (omega arith) (omega arith)) ∙ bound-fit (stringOf text store v)) ∙ f
+
   pub number-fit : 2 < v .kind → v .kind ≤ 4 → isFit (numberOf text v) ≡ true
   number-fit h g = sym (ap isFit (leaf-scalar text store v counts ∙ scalar-number text store v (omega arith) (omega arith))) ∙ f
 
@@ -88,6 +125,9 @@ module _ (table text store : List ℕ) (i : ℕ) (f : isFit (labelAt Pairs text 
   pub key-there : Inside table i
   key-there = key-inside table text store i _ refl one
 
+  pub key-holds : isFit (stringOf text store (nodeAt i table)) ≡ true
+  key-holds = sym (ap isFit (key-string table text store i _ refl one)) ∙ f
+
   colon : (x : Maybe (List ℕ)) → isFit x ≡ true → labelText Pairs x ≡ stringText x ++ (0x3a ∷ [])
   colon (just bs) e = refl
   colon unfit e = false-true e
@@ -96,7 +136,7 @@ module _ (table text store : List ℕ) (i : ℕ) (f : isFit (labelAt Pairs text 
       → Put (labelText Pairs (labelAt Pairs text store (drop i (nodesIn table)))) room o r out new
   key-put a b =
       let e = key-string table text store i _ refl one in
-      put-as (ap (labelText Pairs) e ∙ colon (stringOf text store (nodeAt i table)) (sym (ap isFit e) ∙ f)) (put-then a b)
+      put-as (ap (labelText Pairs) e ∙ colon (stringOf text store (nodeAt i table)) key-holds) (put-then a b)
 
 -- what stands before a member
 module _ (b : Sort) (table text store : List ℕ) (i : ℕ) {room o : ℕ} {out : List ℕ} where

@@ -14,10 +14,8 @@ use crate::nodes;
 use crate::nodes::Branch;
 use crate::texts;
 use json8::nodes::Sort;
-use json8::show;
-use json8::show::Shown;
 
-// A string of kind 5 or 6.
+// A string of kind 5 or 6. It is fit, so its range lies inside its buffer.
 fn string_text(
     t: &[u8; 256],
     table: &[u32],
@@ -28,18 +26,15 @@ fn string_text(
     o: usize,
     out: &mut [u8],
 ) -> usize
-    requires { ⌜ IsTable (now t) × Inside (now table) i × (room ≤ roomMax) ⌝ }
+    requires { ⌜ IsTable (now t) × Inside (now table) i × (isFit (stringOf (now text) (now store) (nodeAt i (now table))) ≡ true) × (room ≤ roomMax) ⌝ }
     ensures { λ r. ⌜ Put (stringText (stringOf (now (text .entry)) (now (store .entry)) (nodeAt i (now (table .entry))))) room o r (now (out .entry)) (now (out .exit)) ⌝ }
 {
-    match show::shown_at(table, text.len(), store.len(), i) {
-        Shown::InText(place, size) => {
-            texts::put_string(t, &text[place..place + size], room, o, out)
-        }
-        Shown::InStore(place, size) => {
-            texts::put_string(t, &store[place..place + size], room, o, out)
-        }
-        Shown::Nowhere => o,
+    let place = nodes::number_in(table, 4 * i + 2);
+    let size = nodes::number_in(table, 4 * i + 3);
+    if table[4 * i] == 5 {
+        return texts::put_string(t, &text[place..place + size], room, o, out);
     }
+    texts::put_string(t, &store[place..place + size], room, o, out)
 }
 
 // A number, as it stands in the text.

@@ -1,14 +1,15 @@
 -- Writing where the room surely holds the text: the front, and then the text of the bytes behind it, or the other form over all of it.
 -- Assumes nothing.
 use mathlib.Core.Path.{_≡_, refl, sym, ap, _∙_, subst}
-use mathlib.Core.Bool.{true, false}
+use mathlib.Core.Bool.{Bool, true, false}
 use mathlib.Core.List.{List, [], _∷_, _++_, append-assoc}
 use Prim.Native.Nat.{ℕ, _+_, _-_, _*_, _≤_}
 use native.Mathlib.Omega.{arith}
-use lib.ListN.{length, take, drop, set, length-append, length-drop}
+use lib.ListN.{length, take, drop, set, length-append, length-drop, drop-of-length-le}
 use lib.Seq.{sets, take-add, take-length, drop-drop, length-take-le}
 use Rattle.prelude.proofs.Stores.{sets-append}
-use Rattle.utf8.specs.Utf8.{validUtf8}
+use Rattle.utf8.specs.Utf8.{validFrom, validUtf8}
+use Rattle.utf8.specs.Checks.{Checked}
 use Rattle.units.specs.declared.styles.Style.the-variants.{Json, Bytes}
 use Rattle.units.specs.Units.{literalRun}
 use Rattle.units.specs.Blocks.{Running}
@@ -17,7 +18,7 @@ use Rattle.strings.specs.Write.{writeUnits, quoted, writeString, Passed}
 use Rattle.bytewise.specs.Bytewise.{bytesText, textOf, Texted, Fronted}
 use Rattle.strings.proofs.Lengths.{quoted-length, quoted-least}
 use Rattle.strings.proofs.Runs.{write-run}
-use Rattle.bytewise.proofs.Fronts.{sets-again, front-none}
+use Rattle.bytewise.proofs.Fronts.{sets-again}
 use Rattle.strings.proofs.ValidTexts.{bytewise}
 use Rattle.strings.proofs.Writing.{valid-text, other-text, finished, literal-part}
 
@@ -39,10 +40,23 @@ module _ (s : List ℕ) (at : ℕ) (k : Running Json s 0 at) where
   pub valid-from : validUtf8 s ≡ validUtf8 (drop at s)
   valid-from = run-valid Json s ∙ ap validUtf8 run-end ∙ sym (run-valid Json (drop at s))
 
-module _ (s o : List ℕ) (at room : ℕ) (out : List ℕ) (f : Fronted s o at out) where
+-- what is behind a place, all of it
+module _ (s : List ℕ) (at : ℕ) where
   rest : take (length s - at) (drop at s) ≡ drop at s
   rest = rw (← length-drop at s) (take-length (drop at s))
 
+  pub part-judged : (v : Bool) → v ≡ validUtf8 (take (length s - at) (drop at s)) → v ≡ validUtf8 (drop at s)
+  part-judged v e = e ∙ ap validUtf8 rest
+
+  pub nothing-left : at ≡ length s → true ≡ validUtf8 (drop at s)
+  unfolding validFrom
+  nothing-left e = let l : length s ≤ at = omega arith in sym (ap (validFrom 0) (drop-of-length-le s l))
+
+  pub ascii-left : Checked s at (length s) → true ≡ validUtf8 (drop at s)
+  unfolding validFrom
+  ascii-left k = let l : length s ≤ length s = omega arith in sym (ap (validFrom 0) (drop-of-length-le s l)) ∙ k .same
+
+module _ (s o : List ℕ) (at room : ℕ) (out : List ℕ) (f : Fronted s o at out) where
   -- all of the data
   pub all-front : at ≡ length s → 6 * length s + 2 ≤ room → Passed (writeString s) room (at + 2) o (set out (at + 1) 34)
   all-front e h =
@@ -52,14 +66,11 @@ module _ (s o : List ℕ) (at room : ℕ) (out : List ℕ) (f : Fronted s o at o
       subst (λ (i : ℕ). Passed (writeString s) room (i + 2) o (set out (i + 1) 34)) (sym e) (literal-part s o l (omega arith) refl w refl)
 
   -- valid data
-  module _ (v : true ≡ validUtf8 (take (length s - at) (drop at s))) where
-    valid-rest : validUtf8 (drop at s) ≡ true
-    valid-rest = sym (v ∙ ap validUtf8 rest)
-
+  module _ (v : true ≡ validUtf8 (drop at s)) where
     whole : quoted Json s ≡ (34 ∷ take at s) ++ (textOf s at (length s) ++ (34 ∷ []))
     unfolding quoted
     whole =
-        ap (λ (x : List ℕ). 34 ∷ (x ++ (34 ∷ []))) (written-from s at (f .run) ∙ ap (λ (x : List ℕ). take at s ++ x) (bytewise (drop at s) valid-rest ∙ ap bytesText (sym rest)))
+        ap (λ (x : List ℕ). 34 ∷ (x ++ (34 ∷ []))) (written-from s at (f .run) ∙ ap (λ (x : List ℕ). take at s ++ x) (bytewise (drop at s) (sym v) ∙ ap bytesText (sym (rest s at))))
         ∙ ap (λ (x : List ℕ). 34 ∷ x) (append-assoc (take at s) (textOf s at (length s)) (34 ∷ []))
 
     pub valid-text-behind : (r : ℕ) (out2 : List ℕ) → 6 * length s + 2 ≤ room → Texted s at (length s) (at + 1) out r out2 → Passed (writeString s) room (r + 1) o (set out2 r 34)
@@ -73,19 +84,13 @@ module _ (s o : List ℕ) (at room : ℕ) (out : List ℕ) (f : Fronted s o at o
         ∙ ap (λ (x : List ℕ). sets x (at + 1) (t ++ (34 ∷ []))) (f .stored)
         ∙ sets-append (34 ∷ take at s) (t ++ (34 ∷ [])) o 0 (at + 1) (omega arith)
         ∙ ap (sets o 0) (sym whole) in
-        rw (valid-text s (valid-from s at (f .run) ∙ valid-rest)) (finished (omega (arith, quoted-length Json s)) l p)
+        rw (valid-text s (valid-from s at (f .run) ∙ sym v)) (finished (omega (arith, quoted-length Json s)) l p)
 
   -- any other data: its text covers the front
-  pub other-text-over : (r : ℕ) (new : List ℕ) → false ≡ validUtf8 (take (length s - at) (drop at s)) → Passed (quoted Bytes s) room r out new → Passed (writeString s) room r o new
+  pub other-text-over : (r : ℕ) (new : List ℕ) → false ≡ validUtf8 (drop at s) → Passed (quoted Bytes s) room r out new → Passed (writeString s) room r o new
   other-text-over r new v p =
       let n : length (34 ∷ take at s) ≤ length (quoted Bytes s) = omega (arith, length-take-le at s (f .run .inside), quoted-least Bytes s, f .run .inside) in
-      rw (other-text s (valid-from s at (f .run) ∙ sym (v ∙ ap validUtf8 rest))) (record {
+      rw (other-text s (valid-from s at (f .run) ∙ sym v)) (record {
         answer = p .answer;
         stored = λ h. p .stored h ∙ ap (λ (x : List ℕ). sets x 0 (quoted Bytes s)) (f .stored) ∙ sets-again (34 ∷ take at s) (quoted Bytes s) o 0 n;
       })
-
--- valid data with nothing stored but the quote
-pub valid-text-all : (s o : List ℕ) (room r : ℕ) (out2 : List ℕ) → validUtf8 s ≡ true → 6 * length s + 2 ≤ room → Texted s 0 (length s) 1 (set o 0 34) r out2
-    → Passed (writeString s) room (r + 1) o (set out2 r 34)
-valid-text-all s o room r out2 e h w =
-    valid-text-behind s o 0 room (set o 0 34) (front-none s o) (sym (ap validUtf8 (rest s o 0 room (set o 0 34) (front-none s o)) ∙ e)) r out2 h w

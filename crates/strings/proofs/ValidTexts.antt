@@ -5,7 +5,7 @@ use mathlib.Core.Bool.{Bool, true, false}
 use mathlib.Core.List.{List, [], _∷_, _++_}
 use Prim.Native.Nat.{ℕ, zero, suc, pred, _≤_}
 use native.Mathlib.Omega.{arith}
-use borrow.Author.Tests.{eqb-true, ltb-true, le-ltb, ne-eqb, leb-true}
+use borrow.Author.Tests.{eqb-true, ltb-true, ltb-false, ne-eqb, leb-true}
 use lib.Dec.{ltb, leb, eqb, lit≤}
 use lib.ListN.{take, drop}
 use Rattle.prelude.specs.Pick.{pick}
@@ -21,13 +21,13 @@ use Rattle.units.proofs.LiteralLaws.{literal-char, literal-written}
 use Rattle.units.proofs.EscapeStores.{escape-written}
 use Rattle.strings.specs.Write.{writeUnits}
 use Rattle.bytewise.specs.Bytewise.{byteText, bytesText}
-use Rattle.bytewise.proofs.ByteTexts.{or-none, unmarked}
+use Rattle.bytewise.proofs.ByteTexts.{or-none, unslashed}
 use Rattle.strings.proofs.Steps.{write-skip}
 
 -- a byte from 0x80 up
 high-text : (b : ℕ) → 0x80 ≤ b → byteText b ≡ b ∷ []
 high-text b h =
-    unmarked b (or-none _ _ (le-ltb b 32 (omega arith)) (or-none _ _ (ne-eqb b 34 (λ z. omega arith)) (ne-eqb b 92 (λ z. omega arith))))
+    unslashed b (or-none _ _ (ne-eqb b 34 (λ z. omega arith)) (ne-eqb b 92 (λ z. omega arith))) (omega arith)
 
 quote-text : 92 ∷ 34 ∷ [] ≡ escapeByte Json 34
 unfolding escapeByte pick lookup
@@ -61,7 +61,7 @@ literal-text x r n l =
     (λ q. let y : _≡_ {A = ℕ} 0 (suc n) = simp q at l in absurd (omega arith))
     (λ q. split (eqb x 92)
     (λ b. let y : _≡_ {A = ℕ} 0 (suc n) = simp (q, b) at l in absurd (omega arith))
-    (λ b. unmarked x (or-none _ _ a (or-none _ _ q b)))))
+    (λ b. unslashed x (or-none _ _ q b) (ltb-false x 32 a))))
 
 tails-text : (low high n : ℕ) (r : List ℕ) → 0x80 ≤ low → tails low high n r ≡ true → bytesText r ≡ take n r ++ bytesText (drop n r)
 unfolding tails bytesText

@@ -3,7 +3,7 @@ ghost use mathlib.Core.Bool.{true};
 ghost use mathlib.Core.List.{List};
 ghost use mathlib.Core.Path.{_≡_};
 ghost use Prim.Native.Nat.{ℕ, _+_, _*_, _≤_};
-ghost use lib.ListN.{length};
+ghost use lib.ListN.{length, drop};
 ghost use lib.Seq.{sets};
 ghost use Rattle.utf8.specs.Class.{IsTable};
 ghost use Rattle.utf8.specs.Utf8.{validUtf8};
@@ -11,7 +11,7 @@ ghost use Rattle.units.specs.declared.styles.Style.the-variants.{Json};
 ghost use Rattle.units.specs.Blocks.{Running};
 ghost use Rattle.units.specs.Units.{literalRun};
 ghost use Rattle.strings.specs.Write.{mark, quoted, writeBytes, writeString, writtenIn, wroteInto, Passed};
-ghost use Rattle.bytewise.specs.Bytewise.{Fronted};
+ghost use Rattle.bytewise.specs.Bytewise.{Fronted, Onward};
 use crate::answers::Written;
 use bytewise::front;
 use bytewise::texts;
@@ -137,13 +137,46 @@ fn ample(n: usize, room: usize, buffer: usize) -> bool
     n <= (room - 2) / 6
 }
 
-// The same in an ample room, where the front of the data is stored already.
+// Where the front of the data ends, and whether the rest is valid UTF-8.
+struct Judged {
+    at: usize,
+    valid: bool,
+}
+
+// Judges what is behind the front's ASCII. If all of it is ASCII, it has an escape soon and the front ends here; else it goes on.
+fn judge(t: &[u8; 256], s: &[u8], at: usize, out: &mut [u8]) -> Judged
+    requires { ⌜ IsTable (now t) × (at ≤ length (now s)) × (length (now s) + 2 ≤ length (now out)) ⌝ }
+    ensures { λ r. ⌜ (r .at ≤ length (now (s .entry))) × Onward (now (s .entry)) at (r .at) (now (out .entry)) (now (out .exit)) × (r .valid ≡ validUtf8 (drop (r .at) (now (s .entry)))) ⌝ }
+{
+    if chars::ascii_from(s, at) {
+        return Judged {
+            at: at,
+            valid: true,
+        };
+    }
+    let e = front::put_onward(s, at, out);
+    if e == s.len() {
+        return Judged { at: e, valid: true };
+    }
+    Judged {
+        at: e,
+        valid: chars::valid_in(t, &s[e..]),
+    }
+}
+
+// The same in an ample room, where the front of the data is stored already. The rest is handed on from one place only: from two, the
+// compiler copies the slice in a way that waits for its stores.
 fn write_behind(t: &[u8; 256], s: &[u8], at: usize, room: usize, out: &mut [u8]) -> usize
     requires { ⌜ IsTable (now t) × (at ≤ length (now s)) × (6 * length (now s) + 2 ≤ room) × (room ≤ length (now out)) ⌝ }
     ensures { λ r. ⌜ ((o : List ℕ) → Fronted (now (s .entry)) o at (now (out .entry)) → Passed (writeString (now (s .entry))) room r o (now (out .exit))) ⌝ }
 {
-    if chars::valid_in(t, &s[at..]) {
-        let o = texts::put_rest(t, s, at, at + 1, out);
+    let j = judge(t, s, at, out);
+    if j.at == s.len() {
+        out[j.at + 1] = 34;
+        return j.at + 2;
+    }
+    if j.valid {
+        let o = texts::put_rest(t, s, j.at, j.at + 1, out);
         out[o] = 34;
         return o + 1;
     }
@@ -215,21 +248,6 @@ fn write_literal(s: &[u8], out: &mut [u8]) -> Written
     Written::Wrote(n + 2)
 }
 
-// The text of valid data. In an ample room it is stored byte by byte, and nothing is measured.
-fn write_valid(t: &[u8; 256], s: &[u8], out: &mut [u8]) -> Written
-    requires { ⌜ IsTable (now t) × (validUtf8 (now s) ≡ true) ⌝ }
-    ensures answer { λ r. ⌜ r ≡ writtenIn (length (now (out .entry))) (writeString (now (s .entry))) ⌝ }
-    ensures stored { λ r. ⌜ now (out .exit) ≡ wroteInto (writeString (now (s .entry))) (now (out .entry)) ⌝ }
-{
-    if !ample(s.len(), out.len(), out.len()) {
-        return write_quoted(t, Style::Json, s, out);
-    }
-    out[0] = 34;
-    let o = texts::put_rest(t, s, 0, 1, out);
-    out[o] = 34;
-    Written::Wrote(o + 1)
-}
-
 // The same where the bytes before a place are known to be literal characters. What is one run of them is valid UTF-8 so far.
 fn write_from(s: &[u8], at: usize, out: &mut [u8]) -> Written
     requires { ⌜ Running Json (now s) 0 at ⌝ }
@@ -241,8 +259,12 @@ fn write_from(s: &[u8], at: usize, out: &mut [u8]) -> Written
     if e == s.len() {
         return write_literal(s, out);
     }
+    let room = out.len();
+    if ample(s.len(), room, room) {
+        return Written::Wrote(write_run(&t, s, room, out));
+    }
     if chars::valid_in(&t, &s[e..]) {
-        return write_valid(&t, s, out);
+        return write_quoted(&t, Style::Json, s, out);
     }
     write_quoted(&t, Style::Bytes, s, out)
 }

@@ -26,9 +26,9 @@ or-right true b e = let z : _≡_ {A = Bool} true false = e in cc
 or-right false b e = e
 
 -- one byte more of a block of ASCII
-pub ascii-more : (s : List ℕ) (at n : ℕ) (a : Bool) → (a ≡ false → AllAscii s at n) → a || leb 0x80 (getD s (at + n) 0) ≡ false → AllAscii s at (n + 1)
+pub ascii-more : (s : List ℕ) (at n : ℕ) (a : Bool) → (a ≡ false → AllAscii s at n) → a || leb 0x7f (getD s (at + n) 0) ≡ false → AllAscii s at (n + 1)
 ascii-more s at n a f e =
-    below-more (λ k. getD s (at + k) 0 < 0x80) n (f (or-left a _ e)) (leb-false 0x80 (getD s (at + n) 0) (or-right a _ e))
+    below-more (λ k. getD s (at + k) 0 < 0x80) n (f (or-left a _ e)) (omega (arith, leb-false 0x7f (getD s (at + n) 0) (or-right a _ e)))
 
 module _ (s : List ℕ) where
   pub here : (at : ℕ) → at ≤ length s → Checked s at at
@@ -56,6 +56,13 @@ block-on s from zero at k h a = subst (Checked s from) (let z : at ≡ at + 0 = 
 block-on s from (suc n) at k h a =
     subst (Checked s from) (let z : at + n + 1 ≡ at + suc n = omega arith in z)
     (ascii-on s from (at + n) (block-on s from n at k (omega arith) (λ j l. a j (omega arith))) (omega arith) (a n (omega arith)))
+
+-- the rest of a text, by its last block
+pub last-on : (s : List ℕ) (from n at : ℕ) → Checked s from at → n ≤ length s → length s - at < n → AllAscii s (length s - n) n → Checked s from (length s)
+last-on s from n at k h l a =
+    subst (Checked s from) (let z : at + (length s - at) ≡ length s = omega (arith, k .inside) in z)
+    (block-on s from (length s - at) at k (omega (arith, k .inside))
+    (λ j i. subst (λ (m : ℕ). getD s m 0 < 0x80) (let z : length s - n + (n - (length s - at) + j) ≡ at + j = omega (arith, k .inside) in z) (a (n - (length s - at) + j) (omega arith))))
 
 -- the turns of the loop by characters, way by way
 module _ (s : List ℕ) (from at k : ℕ) (i : Checked s from at) (h : at < length s) (ek : k ≡ classOf (getD s at 0)) where

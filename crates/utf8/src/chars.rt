@@ -1,6 +1,6 @@
 // The character check, and validity of a whole text.
 ghost use mathlib.Core.Path.{_≡_};
-ghost use mathlib.Core.Bool.{false};
+ghost use mathlib.Core.Bool.{true, false};
 ghost use Prim.Native.Nat.{_+_, _<_, _≤_};
 ghost use lib.ListN.{length, getD, drop};
 ghost use Rattle.utf8.specs.Class.{IsTable};
@@ -129,15 +129,16 @@ pub fn char_at(t: &[u8; 256], s: &[u8], at: usize) -> Char
     Char::Good(n)
 }
 
-// Whether one of sixteen bytes isn't ASCII; without an early end, so that they are compared at once.
-fn any_high(s: &[u8], at: usize) -> bool
+// Whether one of sixteen bytes isn't ASCII, or is DEL; without an early end, so that they are compared at once. A comparison with 128 would
+// become a longer test of their signs.
+pub fn any_high(s: &[u8], at: usize) -> bool
     requires { ⌜ at + 16 ≤ length (now s) ⌝ }
     ensures { λ r. ⌜ (r ≡ false → AllAscii (now (s .entry)) at 16) ⌝ }
 {
     let mut found = false;
     let mut k: usize = 0;
     while k < 16 {
-        found = found | (s[at + k] >= 128);
+        found = found | (s[at + k] >= 127);
         k += 1;
     }
     found
@@ -156,6 +157,22 @@ fn ascii_blocks(s: &[u8], from: usize) -> usize
         at += 16;
     }
     at
+}
+
+// Whether the bytes from a place on are known to be ASCII: by blocks, and where less than one is left by the last one of the text.
+pub fn ascii_from(s: &[u8], from: usize) -> bool
+    requires { ⌜ from ≤ length (now s) ⌝ }
+    ensures { λ r. ⌜ (r ≡ true → Checked (now (s .entry)) from (length (now (s .entry)))) ⌝ }
+{
+    let n = s.len();
+    if n < 16 {
+        return false;
+    }
+    let at = ascii_blocks(s, from);
+    if 16 <= n - at {
+        return false;
+    }
+    !any_high(s, n - 16)
 }
 
 // The same as `long_len`, with the common lengths at hand: a call costs more than they do.

@@ -1,9 +1,8 @@
--- Each part goes on where the one before it ended (Fronts).
+-- The quote, and ASCII from there on (Fronts).
 -- Assumes nothing.
 use borrow.Author.Needs.{needs}
 use Rattle.bytewise.proofs.front.put_front.Statement.{statement}
 use Rattle.bytewise.proofs.front.put_front.Tie as tie
-use native.Mathlib.Omega.{arith}
 use denote.Ref.{now}
 use lib.ListN.{length-set}
 use mathlib.Core.Path.{_∙_}
@@ -16,29 +15,13 @@ put-ascii-requires : tie.Need-put-ascii-requires
 put-ascii-requires c κs =
     simp length-set (c .before .before .before .pre)
 
-put-singles-requires : tie.Need-put-singles-requires
-put-singles-requires c κs =
-    (c .before .before .before .put-ascii .ensures .0, omega (arith, c .before .before .before .before .before .before .before .pre, c .before .before .before .put-ascii .kept .1 .0, length-set (now (c .before .before .before .before .before .before .before .args .out)) 0 34))
-
-put-wide-requires : tie.Need-put-wide-requires
-put-wide-requires c κs =
-    (c .before .before .before .put-singles .ensures .0, omega (arith, c .before .before .before .before .before .before .before .before .before .before .before .pre, c .before .before .before .before .before .before .before .put-ascii .kept .1 .0, c .before .before .before .put-singles .kept .1 .1 .0, length-set (now (c .before .before .before .before .before .before .before .before .before .before .before .args .out)) 0 34))
-
 same-length : tie.Need-same-length
 same-length c =
-    c .before .before .put-wide .kept .1 .1 .0 ∙ c .before .before .before .before .before .before .put-singles .kept .1 .1 .0 ∙ c .before .before .before .before .before .before .before .before .before .before .put-ascii .kept .1 .0 ∙ length-set (now (c .before .before .before .before .before .before .before .before .before .before .before .before .before .before .args .out)) 0 34
+    c .before .before .put-ascii .kept .1 .0 ∙ length-set (now (c .before .before .before .before .before .before .args .out)) 0 34
 
 returns : tie.Need-returns
 returns c =
-    c .before .before .put-wide .ensures .1 _ (c .before .before .before .before .before .before .put-singles .ensures .1 _ (c .before .before .before .before .before .before .before .before .before .before .put-ascii .ensures .1 _ (front-none _ (now (c .before .before .before .before .before .before .before .before .before .before .before .before .before .before .args .out)))))
+    c .before .before .put-ascii .ensures .1 _ (front-none _ (now (c .before .before .before .before .before .before .args .out)))
 
 pub put-front-spec : {M : Type 1} → statement M
-put-front-spec =
-    tie.close
-    (tie.spec
-    slice-write-out
-    put-ascii-requires
-    put-singles-requires
-    put-wide-requires
-    same-length
-    returns)
+put-front-spec = tie.close (tie.spec slice-write-out put-ascii-requires same-length returns)

@@ -5,7 +5,7 @@ use Rattle.bytewise.proofs.texts.put_eight.Tie as tie
 use native.Mathlib.Omega.{arith}
 use Prim.Native.Nat.{_+_, _-_, _≤_}
 use Rattle.bytewise.specs.Bytewise.{Texted}
-use Rattle.bytewise.proofs.ByteTexts.{texted-start, texted-next, texted-length, texted-bound, texted-end, within-six}
+use Rattle.bytewise.proofs.ByteTexts.{texted-start, texted-next, texted-length, texted-bound, texted-end}
 
 abbrev Inv-loop : tie.InvT-loop
 Inv-loop t s from start out₀ k₀ o₀ out k o =
@@ -19,25 +19,21 @@ loop-holds : tie.Need-loop-holds Inv-loop μ-loop
 loop-holds c =
     (omega arith, texted-start _ _ _ _)
 
-add-put-text : tie.Need-add-put-text Inv-loop μ-loop
-add-put-text c =
+add-put-slashed : tie.Need-add-put-slashed Inv-loop μ-loop
+add-put-slashed c =
     omega (arith, c .before .before .before .before .pre .1)
 
-shared-slice-read-put-text : tie.Need-shared-slice-read-put-text Inv-loop μ-loop
-shared-slice-read-put-text c =
+shared-slice-read-put-slashed : tie.Need-shared-slice-read-put-slashed Inv-loop μ-loop
+shared-slice-read-put-slashed c =
     omega (arith, c .before .before .before .before .before .pre .1)
 
-put-text-requires : tie.Need-put-text-requires Inv-loop μ-loop
-put-text-requires c κs =
-    (c .before .before .before .before .before .before .pre .0, omega (arith, c .before .before .before .before .before .before .pre .1, texted-bound _ _ _ _ _ _ _ (c .before .before .before .loop .inv .1), texted-length _ _ _ _ _ _ _ (c .before .before .before .loop .inv .1)))
+put-slashed-requires : tie.Need-put-slashed-requires Inv-loop μ-loop
+put-slashed-requires c κs =
+    (c .before .before .before .before .before .before .pre .0, c .before .before .before .before .before .before .pre .2 _ (omega arith), omega (arith, c .before .before .before .before .before .before .pre .3, texted-bound _ _ _ _ _ _ _ (c .before .before .before .loop .inv .1), texted-length _ _ _ _ _ _ _ (c .before .before .before .loop .inv .1)))
 
 add-k : tie.Need-add-k Inv-loop μ-loop
 add-k c =
     omega arith
-
-add-o : tie.Need-add-o Inv-loop μ-loop
-add-o c =
-    omega (arith, c .before .before .before .before .before .before .before .before .before .pre .1, texted-bound _ _ _ _ _ _ _ (c .before .before .before .before .before .before .loop .inv .1), texted-length _ _ _ _ _ _ _ (c .before .before .before .before .before .before .loop .inv .1), within-six _ _ (c .before .before .put-text .ensures .0))
 
 loop-less : tie.Need-loop-less Inv-loop μ-loop
 loop-less c =
@@ -45,7 +41,7 @@ loop-less c =
 
 loop-again : tie.Need-loop-again Inv-loop μ-loop
 loop-again c =
-    (omega arith, texted-next _ _ _ _ _ _ _ _ _ (omega (arith, c .before .before .before .before .before .before .before .before .before .pre .1)) (c .before .before .before .before .before .before .loop .inv .1) (c .before .before .put-text .ensures))
+    (omega arith, texted-next _ _ _ _ _ _ _ _ _ (omega (arith, c .before .before .before .before .before .before .before .before .before .pre .1)) (c .before .before .before .before .before .before .loop .inv .1) (c .before .before .put-slashed .ensures))
 
 same-length : tie.Need-same-length Inv-loop μ-loop
 same-length c =
@@ -62,11 +58,10 @@ put-eight-spec =
     Inv-loop
     μ-loop
     loop-holds
-    add-put-text
-    shared-slice-read-put-text
-    put-text-requires
+    add-put-slashed
+    shared-slice-read-put-slashed
+    put-slashed-requires
     add-k
-    add-o
     loop-less
     loop-again
     same-length

@@ -6,7 +6,7 @@ use native.Mathlib.Omega.{arith}
 use Prim.Native.Nat.{_-_, _≤_}
 use lib.ListN.{length}
 use Rattle.bytewise.specs.Bytewise.{Texted}
-use Rattle.bytewise.proofs.ByteTexts.{texted-none, texted-one, texted-then, texted-length, texted-bound, texted-end, within-six}
+use Rattle.bytewise.proofs.ByteTexts.{texted-none, texted-one, texted-then, texted-length, texted-bound, texted-end}
 
 abbrev Inv-loop : tie.InvT-loop
 Inv-loop t s from start out₀ at₀ o₀ out at o =
@@ -31,10 +31,6 @@ put-text-requires c κs =
 add-at : tie.Need-add-at Inv-loop μ-loop
 add-at c =
     omega (arith, c .before .before .before .before .before .before .before .before .before .pre .1)
-
-add-o : tie.Need-add-o Inv-loop μ-loop
-add-o c =
-    omega (arith, c .before .before .before .before .before .before .before .before .before .pre .1, texted-bound _ _ _ _ _ _ _ (c .before .before .before .before .before .before .loop .inv .2), texted-length _ _ _ _ _ _ _ (c .before .before .before .before .before .before .loop .inv .2), within-six _ _ (c .before .before .put-text .ensures .0))
 
 loop-less : tie.Need-loop-less Inv-loop μ-loop
 loop-less c =
@@ -62,7 +58,6 @@ put-texts-spec =
     shared-slice-read-put-text
     put-text-requires
     add-at
-    add-o
     loop-less
     loop-again
     same-length

@@ -4,11 +4,11 @@ use borrow.Author.Needs.{needs}
 use Rattle.json8_write.proofs.values.key_text.Statement.{statement}
 use Rattle.json8_write.proofs.values.key_text.Tie as tie
 use denote.Ref.{now}
-use Rattle.json8_write.proofs.LeafTexts.{key-there, key-put}
+use Rattle.json8_write.proofs.LeafTexts.{key-there, key-holds, key-put}
 
 string-text-requires : tie.Need-string-text-requires
 string-text-requires c κs =
-    (c .before .before .before .before .before .pre .0, key-there (now (c .before .before .before .before .before .args .table)) (now (c .before .before .before .before .before .args .text)) (now (c .before .before .before .before .before .args .store)) (c .before .before .before .before .before .args .i) (c .before .before .before .before .before .pre .1), c .before .before .before .before .before .pre .2)
+    (c .before .before .before .before .before .pre .0, key-there (now (c .before .before .before .before .before .args .table)) (now (c .before .before .before .before .before .args .text)) (now (c .before .before .before .before .before .args .store)) (c .before .before .before .before .before .args .i) (c .before .before .before .before .before .pre .1), key-holds (now (c .before .before .before .before .before .args .table)) (now (c .before .before .before .before .before .args .text)) (now (c .before .before .before .before .before .args .store)) (c .before .before .before .before .before .args .i) (c .before .before .before .before .before .pre .1), c .before .before .before .before .before .pre .2)
 
 put-byte-requires : tie.Need-put-byte-requires
 put-byte-requires c κs =

@@ -5,7 +5,7 @@ use Rattle.json8_write.proofs.values.leaf_text.Statement.{statement}
 use Rattle.json8_write.proofs.values.leaf_text.Tie as tie
 use denote.Ref.{now}
 use Rattle.json8_write.specs.Steps.{nodeAt}
-use Rattle.json8_write.proofs.LeafTexts.{leaf-string, leaf-number, leaf-word, number-fit}
+use Rattle.json8_write.proofs.LeafTexts.{leaf-string, leaf-number, leaf-word, string-fit, number-fit}
 
 mul-kind : tie.Need-mul-kind
 mul-kind c = search needs
@@ -18,7 +18,7 @@ shared-slice-read-kind c = search needs
 
 string-text-requires : tie.Need-string-text-requires
 string-text-requires c κs =
-    (c .before .before .before .before .before .before .before .pre .0, c .before .before .before .before .before .before .before .pre .1, c .before .before .before .before .before .before .before .pre .3)
+    (c .before .before .before .before .before .before .before .pre .0, c .before .before .before .before .before .before .before .pre .1, string-fit (now (c .before .before .before .before .before .before .before .args .text)) (now (c .before .before .before .before .before .before .before .args .store)) (nodeAt (c .before .before .before .before .before .before .before .args .i) (now (c .before .before .before .before .before .before .before .args .table))) (c .before .before .before .before .before .before .before .pre .2) (c .before .if1 .taken), c .before .before .before .before .before .before .before .pre .3)
 
 same-length : tie.Need-same-length
 same-length c = search needs
