@@ -1,4 +1,4 @@
--- An end behind the place stands before the text's last byte, way by way.
+-- An end behind the place stands before the text's end, way by way.
 -- Assumes nothing.
 use borrow.Author.Needs.{needs}
 use Rattle.strings.proofs.singles.stretch.Statement.{statement}
