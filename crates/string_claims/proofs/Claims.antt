@@ -17,7 +17,7 @@ use Rattle.string_claims.specs.Claims.{Example-Strings, Written-Reads-Ba
 use Rattle.string_claims.proofs.Ends.{token-cut}
 use Rattle.string_claims.proofs.RoundTrip.{quoted-back, token-back, text-back, write-injective}
 use Rattle.strings.proofs.Places.{string-inside, text-inside}
-use Rattle.string_claims.proofs.Utf8Denoted.{unicode-valid}
+use Rattle.strings.proofs.Utf8Denoted.{unicode-valid}
 use Rattle.string_claims.proofs.Plain.{quoted-plain, write-plain, plain-at}
 use Rattle.strings.proofs.Lengths.{write-length, string-length}
 

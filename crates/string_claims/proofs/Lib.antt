@@ -3,4 +3,3 @@ pub mod Claims
 pub mod Ends
 pub mod Plain
 pub mod RoundTrip
-pub mod Utf8Denoted

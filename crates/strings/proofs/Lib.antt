@@ -7,6 +7,7 @@ pub mod Reading
 pub mod Runs
 pub mod Steps
 pub mod Tokens
+pub mod Utf8Denoted
 pub mod ValidTexts
 pub mod WholeTexts
 pub mod Writing
