@@ -155,7 +155,7 @@ fn put_threes(s: &[u8], from: usize, out: &mut [u8]) -> usize
             at += 16;
             continue;
         }
-        if !chars::any_high(s, at) {
+        if !chars::any_high(s, at, 16) {
             return at;
         }
         if !threes::begins(s[at], s[at + 1]) {

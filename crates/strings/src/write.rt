@@ -160,7 +160,7 @@ fn judge(t: &[u8; 256], s: &[u8], at: usize, out: &mut [u8]) -> Judged
     }
     Judged {
         at: e,
-        valid: chars::valid_in(t, &s[e..]),
+        valid: chars::valid_near(t, &s[e..]),
     }
 }
 

@@ -129,32 +129,32 @@ pub fn char_at(t: &[u8; 256], s: &[u8], at: usize) -> Char
     Char::Good(n)
 }
 
-// Whether one of sixteen bytes isn't ASCII, or is DEL; without an early end, so that they are compared at once. A comparison with 128 would
+// Whether one of n bytes isn't ASCII, or is DEL; without an early end, so that they are compared at once. A comparison with 128 would
 // become a longer test of their signs.
-pub fn any_high(s: &[u8], at: usize) -> bool
-    requires { ⌜ at + 16 ≤ length (now s) ⌝ }
-    ensures { λ r. ⌜ (r ≡ false → AllAscii (now (s .entry)) at 16) ⌝ }
+pub fn any_high(s: &[u8], at: usize, n: usize) -> bool
+    requires { ⌜ at + n ≤ length (now s) ⌝ }
+    ensures { λ r. ⌜ (r ≡ false → AllAscii (now (s .entry)) at n) ⌝ }
 {
     let mut found = false;
     let mut k: usize = 0;
-    while k < 16 {
+    while k < n {
         found = found | (s[at + k] >= 127);
         k += 1;
     }
     found
 }
 
-// A place behind blocks of ASCII.
-fn ascii_blocks(s: &[u8], from: usize) -> usize
-    requires { ⌜ from ≤ length (now s) ⌝ }
+// A place behind blocks of n bytes of ASCII. A caller's n is a constant, so that a block is still compared at once.
+fn ascii_blocks(s: &[u8], from: usize, n: usize) -> usize
+    requires { ⌜ (from ≤ length (now s)) × (0 < n) ⌝ }
     ensures { λ r. ⌜ Checked (now (s .entry)) from r ⌝ }
 {
     let mut at = from;
-    while 16 <= s.len() - at {
-        if any_high(s, at) {
+    while n <= s.len() - at {
+        if any_high(s, at, n) {
             return at;
         }
-        at += 16;
+        at += n;
     }
     at
 }
@@ -168,11 +168,11 @@ pub fn ascii_from(s: &[u8], from: usize) -> bool
     if n < 16 {
         return false;
     }
-    let at = ascii_blocks(s, from);
+    let at = ascii_blocks(s, from, 16);
     if 16 <= n - at {
         return false;
     }
-    !any_high(s, n - 16)
+    !any_high(s, n - 16, 16)
 }
 
 // The same as `long_len`, with the common lengths at hand: a call costs more than they do.
@@ -212,15 +212,15 @@ fn chars_until(t: &[u8; 256], s: &[u8], from: usize, end: usize) -> usize
     at
 }
 
-// A place sixteen bytes on, or the end.
-fn sixteen_on(n: usize, at: usize) -> usize
-    requires { ⌜ at ≤ n ⌝ }
+// A place k bytes on, or the end.
+fn block_on(n: usize, at: usize, k: usize) -> usize
+    requires { ⌜ (at ≤ n) × (0 < k) ⌝ }
     ensures { λ r. ⌜ (r ≤ n) × (at < n → at < r) ⌝ }
 {
-    if n - at < 16 {
+    if n - at < k {
         return n;
     }
-    at + 16
+    at + k
 }
 
 // Whether a text is valid UTF-8, with the table lent. What ends the blocks is passed one by one, and then they are tried again.
@@ -230,8 +230,27 @@ pub fn valid_in(t: &[u8; 256], s: &[u8]) -> bool
 {
     let mut at = 0;
     while at < s.len() {
-        let mid = ascii_blocks(s, at);
-        let end = sixteen_on(s.len(), mid);
+        let mid = ascii_blocks(s, at, 16);
+        let end = block_on(s.len(), mid, 16);
+        let next = chars_until(t, s, mid, end);
+        if next < end {
+            return false;
+        }
+        at = next;
+    }
+    true
+}
+
+// The same by blocks of eight, for a text that is short or soon has a character of several bytes. It has a loop of its own, since a block is
+// compared at once only where its length is a constant.
+pub fn valid_near(t: &[u8; 256], s: &[u8]) -> bool
+    requires { ⌜ IsTable (now t) ⌝ }
+    ensures { λ r. ⌜ r ≡ validUtf8 (now (s .entry)) ⌝ }
+{
+    let mut at = 0;
+    while at < s.len() {
+        let mid = ascii_blocks(s, at, 8);
+        let end = block_on(s.len(), mid, 8);
         let next = chars_until(t, s, mid, end);
         if next < end {
             return false;

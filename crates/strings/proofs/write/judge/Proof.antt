@@ -26,20 +26,20 @@ returns-2 : tie.Need-returns-2
 returns-2 c =
     (c .before .before .before .put-onward .ensures .0, c .before .before .before .put-onward .ensures .1, nothing-left _ _ (c .if2 .taken))
 
-sub-valid-in : tie.Need-sub-valid-in
-sub-valid-in c =
+sub-valid-near : tie.Need-sub-valid-near
+sub-valid-near c =
     c .before .before .before .put-onward .ensures .0
 
-part-valid-in-start : tie.Need-part-valid-in-start
-part-valid-in-start c =
+part-valid-near-start : tie.Need-part-valid-near-start
+part-valid-near-start c =
     omega (arith, c .before .before .before .put-onward .ensures .0)
 
-part-valid-in-end : tie.Need-part-valid-in-end
-part-valid-in-end c =
+part-valid-near-end : tie.Need-part-valid-near-end
+part-valid-near-end c =
     omega arith
 
-valid-in-requires : tie.Need-valid-in-requires
-valid-in-requires c κs =
+valid-near-requires : tie.Need-valid-near-requires
+valid-near-requires c κs =
     c .before .before .before .before .before .before .before .before .before .before .pre .0
 
 same-length-2 : tie.Need-same-length-2
@@ -47,7 +47,7 @@ same-length-2 c = search needs
 
 returns-3 : tie.Need-returns-3
 returns-3 c =
-    (c .before .before .before .before .before .put-onward .ensures .0, c .before .before .before .before .before .put-onward .ensures .1, part-judged (now (c .before .before .before .before .before .before .before .before .before .before .before .args .s)) (c .before .before .before .before .before .put-onward .result) _ (c .valid-in .ensures))
+    (c .before .before .before .before .before .put-onward .ensures .0, c .before .before .before .before .before .put-onward .ensures .1, part-judged (now (c .before .before .before .before .before .before .before .before .before .before .before .args .s)) (c .before .before .before .before .before .put-onward .result) _ (c .valid-near .ensures))
 
 pub judge-spec : {M : Type 1} → statement M
 judge-spec =
@@ -58,9 +58,9 @@ judge-spec =
     put-onward-requires
     same-length
     returns-2
-    sub-valid-in
-    part-valid-in-start
-    part-valid-in-end
-    valid-in-requires
+    sub-valid-near
+    part-valid-near-start
+    part-valid-near-end
+    valid-near-requires
     same-length-2
     returns-3)

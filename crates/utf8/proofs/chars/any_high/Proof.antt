@@ -11,12 +11,12 @@ use Rattle.utf8.specs.Checks.{AllAscii}
 use Rattle.utf8.proofs.Validity.{ascii-more}
 
 abbrev Inv-loop : tie.InvT-loop
-Inv-loop s at found₀ k₀ found k =
-    (k ≤ 16) × (found ≡ false → AllAscii s at k)
+Inv-loop s at n found₀ k₀ found k =
+    (k ≤ n) × (found ≡ false → AllAscii s at k)
 
 abbrev μ-loop : tie.MeasureT-loop
-μ-loop s at found₀ k₀ found k =
-    16 - k
+μ-loop s at n found₀ k₀ found k =
+    n - k
 
 loop-holds : tie.Need-loop-holds Inv-loop μ-loop
 loop-holds c =

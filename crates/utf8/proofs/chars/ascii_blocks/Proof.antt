@@ -9,16 +9,16 @@ use Rattle.utf8.specs.Checks.{Checked}
 use Rattle.utf8.proofs.Validity.{here, block-on}
 
 abbrev Inv-loop : tie.InvT-loop
-Inv-loop s from at₀ at =
+Inv-loop s from n at₀ at =
     Checked s from at
 
 abbrev μ-loop : tie.MeasureT-loop
-μ-loop s from at₀ at =
+μ-loop s from n at₀ at =
     length s - at
 
 loop-holds : tie.Need-loop-holds Inv-loop μ-loop
 loop-holds c =
-    here _ _ (c .before .pre)
+    here _ _ (c .before .pre .0)
 
 sub-loop : tie.Need-sub-loop Inv-loop μ-loop
 sub-loop c =
@@ -42,7 +42,7 @@ loop-less c =
 
 loop-again : tie.Need-loop-again Inv-loop μ-loop
 loop-again c =
-    block-on _ _ 16 _ (c .before .before .before .loop .inv) (omega (arith, c .before .before .before .loop .inv .inside)) (c .before .any-high .ensures (c .if1 .left))
+    block-on _ _ _ _ (c .before .before .before .loop .inv) (omega (arith, c .before .before .before .loop .inv .inside)) (c .before .any-high .ensures (c .if1 .left))
 
 returns-2 : tie.Need-returns-2 Inv-loop μ-loop
 returns-2 c =

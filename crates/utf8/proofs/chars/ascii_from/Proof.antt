@@ -15,7 +15,7 @@ returns c =
 
 ascii-blocks-requires : tie.Need-ascii-blocks-requires
 ascii-blocks-requires c κs =
-    c .before .before .pre
+    (c .before .before .pre, omega arith)
 
 sub-if2 : tie.Need-sub-if2
 sub-if2 c =

@@ -22,23 +22,23 @@ loop-holds c =
 
 ascii-blocks-requires : tie.Need-ascii-blocks-requires Inv-loop μ-loop
 ascii-blocks-requires c κs =
-    c .before .loop .inv .inside
+    (c .before .loop .inv .inside, omega arith)
 
-sixteen-on-requires : tie.Need-sixteen-on-requires Inv-loop μ-loop
-sixteen-on-requires c κs =
-    c .ascii-blocks .ensures .inside
+block-on-requires : tie.Need-block-on-requires Inv-loop μ-loop
+block-on-requires c κs =
+    (c .ascii-blocks .ensures .inside, omega arith)
 
 chars-until-requires : tie.Need-chars-until-requires Inv-loop μ-loop
 chars-until-requires c κs =
-    (c .before .before .before .before .before .pre, c .before .ascii-blocks .ensures .inside, c .sixteen-on .ensures .0)
+    (c .before .before .before .before .before .pre, c .before .ascii-blocks .ensures .inside, c .block-on .ensures .0)
 
 returns : tie.Need-returns Inv-loop μ-loop
 returns c =
-    stuck _ _ (further _ _ _ _ (further _ _ _ _ (c .before .before .before .before .before .loop .inv) (c .before .before .before .ascii-blocks .ensures)) (c .before .chars-until .ensures .checked)) (omega (arith, c .before .before .sixteen-on .ensures .0)) (c .before .chars-until .ensures .stop (c .if1 .taken))
+    stuck _ _ (further _ _ _ _ (further _ _ _ _ (c .before .before .before .before .before .loop .inv) (c .before .before .before .ascii-blocks .ensures)) (c .before .chars-until .ensures .checked)) (omega (arith, c .before .before .block-on .ensures .0)) (c .before .chars-until .ensures .stop (c .if1 .taken))
 
 loop-less : tie.Need-loop-less Inv-loop μ-loop
 loop-less c =
-    advances _ _ _ _ _ (c .before .before .before .before .loop-test .taken) (c .before .before .before .ascii-blocks .ensures .onward) (c .before .before .sixteen-on .ensures .1) (c .before .chars-until .ensures .checked .onward) (c .if1 .left) (c .before .chars-until .ensures .checked .inside)
+    advances _ _ _ _ _ (c .before .before .before .before .loop-test .taken) (c .before .before .before .ascii-blocks .ensures .onward) (c .before .before .block-on .ensures .1) (c .before .chars-until .ensures .checked .onward) (c .if1 .left) (c .before .chars-until .ensures .checked .inside)
 
 loop-again : tie.Need-loop-again Inv-loop μ-loop
 loop-again c =
@@ -56,7 +56,7 @@ valid-in-spec =
     μ-loop
     loop-holds
     ascii-blocks-requires
-    sixteen-on-requires
+    block-on-requires
     chars-until-requires
     returns
     loop-less
