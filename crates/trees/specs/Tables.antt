@@ -74,11 +74,12 @@ scalarOf text store v =
 abbrev pub leafOf : List ℕ → List ℕ → Node → Maybe Tree
 leafOf text store v = need (eqb (v .count) 1) (scalarOf text store v)
 
--- "keys of kind 5 or 6"
+-- the nodes of what stands before a member's value
 abbrev pub labelSize : Sort → ℕ
 labelSize Items = 0
 labelSize Pairs = 1
 
+-- "keys of kind 5 or 6"
 unfoldable pub labelAt : (b : Sort) → List ℕ → List ℕ → List Node → Maybe (Label b)
 labelAt Items text store r = just tt
 labelAt Pairs text store [] = unfit
