@@ -13,10 +13,10 @@ use lib.Seq.{sets, set-set, set-comm, drop-cons, drop-drop, take-add, length-tak
 use Rattle.prelude.proofs.Stores.{sets-append, copied}
 use Rattle.units.specs.declared.styles.Style.the-variants.{Json}
 use Rattle.utf8.specs.Utf8.{tail}
-use Rattle.units.specs.Blocks.{Running, Alone, AllAlone, AllTripled, Begun, owed}
-use Rattle.units.proofs.LiteralRuns.{here}
-use Rattle.units.proofs.BlockLaws.{over-block}
-use Rattle.units.proofs.ThreeBytes.{over-threes}
+use Rattle.runs.specs.Blocks.{Running, Alone, AllAlone, AllTripled, Begun, owed}
+use Rattle.runs.proofs.LiteralRuns.{here}
+use Rattle.runs.proofs.BlockLaws.{over-block}
+use Rattle.runs.proofs.ThreeBytes.{over-threes}
 use Rattle.bytewise.specs.Bytewise.{Fronted, Onward, owedAt}
 
 set-before : (b t : List ℕ) (i j y : ℕ) → j < i → set (sets t i b) j y ≡ sets (set t j y) i b

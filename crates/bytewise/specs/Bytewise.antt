@@ -10,7 +10,7 @@ use lib.Seq.{sets}
 use Rattle.prelude.specs.Pick.{pick}
 use Rattle.units.specs.declared.styles.Style.the-variants.{Json}
 use Rattle.utf8.specs.Utf8.{tail}
-use Rattle.units.specs.Blocks.{Running, owed}
+use Rattle.runs.specs.Blocks.{Running, owed}
 use Rattle.units.specs.Written.{escapeByte}
 
 -- a byte of valid data in `""`: by its escape where it is a control, the quote or the backslash, or else as it is

@@ -5,8 +5,8 @@ ghost use lib.ListN.{length, take, drop};
 ghost use lib.Seq.{sets};
 ghost use Rattle.bytewise.specs.Bytewise.{Fronted, Onward, owedAt};
 use crate::texts;
-use units::blocks;
-use units::threes;
+use runs::blocks;
+use runs::threes;
 use utf8::chars;
 
 // Sixteen bytes behind a quote.

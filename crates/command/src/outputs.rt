@@ -4,7 +4,7 @@ use libc::STDERR_FILENO;
 use libc::STDOUT_FILENO;
 use messages::messages::Message;
 use prelude::slices;
-use strings::answers::Written;
+use strings_write::answers::Written;
 
 // How a run ended: with a refusal's number or 0, or without an answer.
 pub enum Outcome {

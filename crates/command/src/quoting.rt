@@ -5,9 +5,9 @@ use crate::outputs;
 use crate::outputs::Outcome;
 use messages::messages::Message;
 use strings::answers::Decoded;
-use strings::answers::Written;
+use strings_write::answers::Written;
 use strings::read;
-use strings::write;
+use strings_write::write;
 
 // No longer string is read.
 const TEXT_MAX: usize = 32768;

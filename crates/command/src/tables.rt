@@ -5,14 +5,14 @@ use crate::outputs;
 use crate::outputs::Outcome;
 use json8::answers::Parsed;
 use json8::read;
-use json8::show;
-use json8::show::Shown;
+use json8_show::show;
+use json8_show::show::Shown;
 use json8_write::answers::WroteTable;
 use json8_write::write;
 use messages::entries;
 use messages::messages::Message;
 use messages::positions;
-use strings::answers::Written;
+use strings_write::answers::Written;
 
 // No longer text is read.
 const TEXT_MAX: usize = 32768;

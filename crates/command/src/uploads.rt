@@ -9,7 +9,7 @@ use messages::entries;
 use messages::messages::Message;
 use prelude::slices::least;
 use report::slices;
-use strings::answers::Written;
+use strings_write::answers::Written;
 use upload::uploads::Answer;
 use upload::uploads::Upload;
 

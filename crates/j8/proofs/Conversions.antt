@@ -10,14 +10,14 @@ use Rattle.prelude.specs.Pick.{pick}
 use Rattle.prelude.proofs.Cases.{split, never}
 use Rattle.strings.specs.declared.answers.Decoded.{Decoded}
 use Rattle.strings.specs.declared.answers.Decoded.the-variants.{Done, Refused}
-use Rattle.strings.specs.declared.answers.Written.{Written}
-use Rattle.strings.specs.declared.answers.Written.the-variants.{Wrote, Full}
+use Rattle.strings_write.specs.declared.answers.Written.{Written}
+use Rattle.strings_write.specs.declared.answers.Written.the-variants.{Wrote, Full}
 use Rattle.strings.specs.Read.{StringRead, accepted, refused, decodedOf}
-use Rattle.strings.specs.Write.{writtenIn}
-use Rattle.lines.specs.declared.write.WroteLines.{WroteLines}
-use Rattle.lines.specs.declared.write.WroteLines.the-variants as lines
-use Rattle.json8.specs.declared.show.Shown.{Shown}
-use Rattle.json8.specs.declared.show.Shown.the-variants.{InText, InStore, Nowhere}
+use Rattle.strings_write.specs.Write.{writtenIn}
+use Rattle.lines_write.specs.declared.write.WroteLines.{WroteLines}
+use Rattle.lines_write.specs.declared.write.WroteLines.the-variants as lines
+use Rattle.json8_show.specs.declared.show.Shown.{Shown}
+use Rattle.json8_show.specs.declared.show.Shown.the-variants.{InText, InStore, Nowhere}
 use Rattle.json8.specs.declared.answers.Parsed.{Parsed}
 use Rattle.json8.specs.declared.answers.Parsed.the-variants as parsed
 use Rattle.json8_write.specs.declared.answers.WroteTable.{WroteTable}

@@ -8,8 +8,8 @@ use lib.ListN.{length}
 use Rattle.prelude.specs.Pick.{pick}
 use Rattle.prelude.specs.Refusals.{noRoom}
 use Rattle.strings.specs.Read.{StringRead, accepted, refused}
-use Rattle.lines.specs.declared.write.WroteLines.{WroteLines}
-use Rattle.lines.specs.declared.write.WroteLines.the-variants.{Wrote, Refused}
+use Rattle.lines_write.specs.declared.write.WroteLines.{WroteLines}
+use Rattle.lines_write.specs.declared.write.WroteLines.the-variants.{Wrote, Refused}
 use Rattle.j8.specs.declared.J8Result.{J8Result}
 
 abbrev pub done : ℕ → J8Result

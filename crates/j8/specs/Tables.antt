@@ -2,8 +2,8 @@
 -- Assumes nothing.
 use Prim.Native.Nat.{ℕ}
 use Rattle.prelude.specs.Refusals.{unfit}
-use Rattle.json8.specs.declared.show.Shown.{Shown}
-use Rattle.json8.specs.declared.show.Shown.the-variants.{InText, InStore, Nowhere}
+use Rattle.json8_show.specs.declared.show.Shown.{Shown}
+use Rattle.json8_show.specs.declared.show.Shown.the-variants.{InText, InStore, Nowhere}
 use Rattle.json8.specs.declared.answers.Parsed.{Parsed}
 use Rattle.json8.specs.declared.answers.Parsed.the-variants.{Done, Refused}
 use Rattle.json8_write.specs.declared.answers.WroteTable.{WroteTable}

@@ -2,14 +2,14 @@
 ghost use mathlib.Core.Path.{_≡_};
 ghost use lib.ListN.{length};
 ghost use Rattle.strings.specs.Read.{readText, readInto};
-ghost use Rattle.strings.specs.Write.{writeString, wroteInto};
+ghost use Rattle.strings_write.specs.Write.{writeString, wroteInto};
 ghost use Rattle.j8.specs.Results.{readResult, writeResult, linesResult};
-ghost use Rattle.lines.specs.Write.{wroteLines, linesInto};
-use lines::write::WroteLines;
+ghost use Rattle.lines_write.specs.Write.{wroteLines, linesInto};
+use lines_write::write::WroteLines;
 use strings::answers::Decoded;
-use strings::answers::Written;
+use strings_write::answers::Written;
 use strings::read;
-use strings::write;
+use strings_write::write;
 
 pub mod tables;
 pub mod uploads;
@@ -67,7 +67,7 @@ pub extern "C" fn j8_lines_write(records: &[u8], out: &mut [u8]) -> J8Result
     ensures answer { λ r. ⌜ r ≡ linesResult (wroteLines (length (now (out .entry))) (now (records .entry))) ⌝ }
     ensures stored { λ r. ⌜ now (out .exit) ≡ linesInto (now (records .entry)) (now (out .entry)) ⌝ }
 {
-    let written = lines::write::write(records, out);
+    let written = lines_write::write::write(records, out);
     match written {
         WroteLines::Wrote(n) => J8Result {
             number: 0,

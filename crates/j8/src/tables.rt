@@ -3,15 +3,15 @@ ghost use mathlib.Core.Path.{_≡_};
 ghost use Prim.Native.Nat.{_/_};
 ghost use lib.ListN.{length};
 ghost use Rattle.json8.specs.Read.{readOf, parsedOf, tableAfter, storeAfter};
-ghost use Rattle.json8.specs.Show.{shownAt};
+ghost use Rattle.json8_show.specs.Show.{shownAt};
 ghost use Rattle.trees.specs.Tables.{nodesIn, treeOf};
 ghost use Rattle.json8_write.specs.Write.{wroteTree, treeInto};
 ghost use Rattle.j8.specs.Tables.{nodesResult, shownResult, tableResult};
 use crate::J8Result;
 use json8::answers::Parsed;
 use json8::read;
-use json8::show;
-use json8::show::Shown;
+use json8_show::show;
+use json8_show::show::Shown;
 use json8_write::answers::WroteTable;
 use json8_write::write;
 

@@ -5,5 +5,4 @@ pub mod Backslashes
 pub mod Single
 pub mod Choices
 pub mod Whole
-pub mod Showing
 pub mod Claims

@@ -3,5 +3,4 @@ pub mod Leaves
 pub mod Values
 pub mod Read
 pub mod Told
-pub mod Show
 pub mod Claims

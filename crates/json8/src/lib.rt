@@ -4,5 +4,4 @@ mod leaves;
 pub mod nodes;
 mod quoted;
 pub mod read;
-pub mod show;
 mod values;

@@ -22,7 +22,7 @@ use strings::read::Mark;
 use tokens::starts;
 use tokens::starts::Start;
 use tokens::words;
-use units::literals;
+use runs::literals;
 use units::styles;
 use units::styles::Style;
 

@@ -14,9 +14,9 @@ use Rattle.prelude.proofs.Picks.{pick-true, pick-false}
 use Rattle.tokens.specs.Numbers.{numberKind}
 use Rattle.json8.specs.declared.nodes.Sort.{Sort}
 use Rattle.json8.specs.declared.nodes.Sort.the-variants.{Items, Pairs}
-use Rattle.json8.specs.declared.show.Shown.{Shown}
+use Rattle.json8_show.specs.declared.show.Shown.{Shown}
 use Rattle.json8.specs.Nodes.{Node}
-use Rattle.json8.specs.Show.{shownAt}
+use Rattle.json8_show.specs.Show.{shownAt}
 use Rattle.trees.specs.Trees.{Tree, number, string, branch, render}
 use Rattle.trees.specs.Tables.{Maybe, just, unfit, bind, need, nodesIn, countAt, bytesOf, stringOf, numberOf, scalarOf, leafOf, labelAt, treeFrom, grouped, treeAt}
 use Rattle.json8_write.specs.declared.nodes.Branch.{Branch}

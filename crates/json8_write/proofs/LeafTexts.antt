@@ -12,11 +12,11 @@ use Rattle.prelude.specs.Pick.{pick}
 use Rattle.prelude.proofs.Cases.{split}
 use Rattle.prelude.proofs.Picks.{pick-true}
 use Rattle.tokens.specs.Numbers.{numberKind}
-use Rattle.strings.specs.Write.{writeString}
+use Rattle.strings_write.specs.Write.{writeString}
 use Rattle.json8.specs.declared.nodes.Sort.{Sort}
 use Rattle.json8.specs.declared.nodes.Sort.the-variants.{Items, Pairs}
 use Rattle.json8.specs.Nodes.{Node}
-use Rattle.json8.specs.Show.{shownBy}
+use Rattle.json8_show.specs.Show.{shownBy}
 use Rattle.trees.specs.Trees.{number, string, render}
 use Rattle.trees.specs.Tables.{Maybe, just, unfit, bind, nodesIn, countAt, bytesOf, stringOf, numberOf, leafOf, labelAt}
 use Rattle.json8_write.specs.Write.{isFit}

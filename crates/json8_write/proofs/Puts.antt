@@ -17,8 +17,8 @@ use Rattle.prelude.proofs.Stores.{sets-append, sets-part}
 use Rattle.prelude.specs.Pick.{pick}
 use Rattle.utf8.specs.Utf8.{validUtf8}
 use Rattle.units.specs.declared.styles.Style.the-variants.{Json, Bytes}
-use Rattle.strings.specs.Write.{quoted, writeString, Passed}
-use Rattle.strings.proofs.Writing.{quoted-positive}
+use Rattle.strings_write.specs.Write.{quoted, writeString, Passed}
+use Rattle.strings_write.proofs.Writing.{quoted-positive}
 use Rattle.tokens.specs.Words.{nullWord, falseWord, trueWord}
 use Rattle.trees.specs.Trees.{comma}
 use Rattle.json8_write.specs.Steps.{Put, wordText}

@@ -13,7 +13,7 @@ use lib.Seq.{sets}
 use Rattle.prelude.proofs.Cases.{split, never}
 use Rattle.prelude.proofs.Picks.{pick-true, pick-false}
 use Rattle.prelude.proofs.Stores.{sets-over, empty-front}
-use Rattle.strings.specs.Write.{wroteInto}
+use Rattle.strings_write.specs.Write.{wroteInto}
 use Rattle.json8.specs.declared.nodes.Sort.the-variants.{Items}
 use Rattle.trees.specs.Trees.{Tree, render}
 use Rattle.trees.specs.Tables.{Maybe, just, unfit, need, nodesIn, countAt, treeAt, treeOf}

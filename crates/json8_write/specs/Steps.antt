@@ -13,7 +13,7 @@ use Rattle.json8_write.specs.declared.nodes.Branch.{Branch}
 use Rattle.json8_write.specs.declared.nodes.Branch.the-variants.{Of, Leaf}
 use Rattle.prelude.specs.Pick.{pick}
 use Rattle.tokens.specs.Words.{nullWord, falseWord, trueWord}
-use Rattle.strings.specs.Write.{writeString}
+use Rattle.strings_write.specs.Write.{writeString}
 use Rattle.json8.specs.Nodes.{Node, node}
 use Rattle.trees.specs.Trees.{Label, Tree, Members, none, one, comma, render, renderLabel}
 use Rattle.trees.specs.Tables.{Maybe, just, unfit, nodesIn, labelSize, labelAt, memberSize, TreeReader, membersAt, treeAt}

@@ -8,7 +8,7 @@ use lib.ListN.{length}
 use Rattle.prelude.specs.Pick.{pick}
 use Rattle.prelude.specs.Refusals.{noRoom}
 use Rattle.prelude.specs.Refusals
-use Rattle.strings.specs.Write.{wroteInto}
+use Rattle.strings_write.specs.Write.{wroteInto}
 use Rattle.trees.specs.Trees.{Tree, render}
 use Rattle.trees.specs.Tables.{Maybe, just, unfit}
 use Rattle.json8_write.specs.declared.answers.WroteTable.{WroteTable}

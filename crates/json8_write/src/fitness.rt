@@ -14,8 +14,8 @@ use crate::nodes::Branch;
 use json8::nodes::NODE_MAX;
 use json8::nodes::Sort;
 use json8::read;
-use json8::show;
-use json8::show::Shown;
+use json8_show::show;
+use json8_show::show::Shown;
 
 // A string of kind 5 or 6 in its buffer.
 fn is_string(table: &[u32], text: &[u8], store: &[u8], i: usize) -> bool

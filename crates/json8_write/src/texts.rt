@@ -5,7 +5,7 @@ ghost use mathlib.Core.Path.{_≡_};
 ghost use Prim.Native.Nat.{_+_, _≤_};
 ghost use lib.ListN.{length, take, drop};
 ghost use Rattle.utf8.specs.Class.{IsTable};
-ghost use Rattle.strings.specs.Write.{writeString};
+ghost use Rattle.strings_write.specs.Write.{writeString};
 ghost use Rattle.tokens.specs.Words.{nullWord, falseWord, trueWord};
 ghost use Rattle.trees.specs.Trees.{comma, openOf};
 ghost use Rattle.json8.specs.Values.{closeOf};
@@ -86,7 +86,7 @@ pub fn put_string(t: &[u8; 256], s: &[u8], room: usize, o: usize, out: &mut [u8]
         return o;
     }
     let b = slices::least(o, out.len());
-    let m = strings::write::write_run(t, s, room - o, &mut out[b..]);
+    let m = strings_write::write::write_run(t, s, room - o, &mut out[b..]);
     if m == 0 {
         return room + 1;
     }

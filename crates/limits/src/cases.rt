@@ -1,11 +1,11 @@
 // A case is a call on a text, with the first bytes of a buffer as its room. It is a line: the text, the room, the answer, and the whole
 // buffer afterwards, which was filled with aa before.
-use lines::write::WroteLines;
+use lines_write::write::WroteLines;
 use report::show;
 use report::slices;
 use strings::answers::Decoded;
 use strings::answers::Token;
-use strings::answers::Written;
+use strings_write::answers::Written;
 
 pub enum Call {
     Read,
@@ -77,9 +77,9 @@ fn answer(call: Call, text: &[u8], out: &mut [u8]) {
     match call {
         Call::Read => print_decoded(strings::read::read(text, out)),
         Call::ReadToken => print_token(strings::read::read_token(text, out)),
-        Call::Write => print_written(strings::write::write(text, out)),
-        Call::WriteBytes => print_written(strings::write::write_bytes(text, out)),
-        Call::WriteLines => print_lines(lines::write::write(text, out)),
+        Call::Write => print_written(strings_write::write::write(text, out)),
+        Call::WriteBytes => print_written(strings_write::write::write_bytes(text, out)),
+        Call::WriteLines => print_lines(lines_write::write::write(text, out)),
     }
 }
 

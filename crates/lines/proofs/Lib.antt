@@ -3,4 +3,3 @@ pub mod BareTexts
 pub mod Refusing
 pub mod LineAnswers
 pub mod LineRecords
-pub mod LineTexts

@@ -14,7 +14,7 @@ use Rattle.prelude.proofs.Cases.{split, never}
 use Rattle.prelude.proofs.Stores.{sets-over}
 use Rattle.utf8.specs.Utf8.{validUtf8}
 use Rattle.units.specs.declared.styles.Style.{Style}
-use Rattle.units.specs.Blocks.{Running}
+use Rattle.runs.specs.Blocks.{Running}
 use Rattle.strings.specs.declared.answers.Decoded.{Decoded}
 use Rattle.strings.specs.declared.answers.Decoded.the-variants.{Done, Refused as Undone}
 use Rattle.strings.specs.declared.read.Mark.{Mark}

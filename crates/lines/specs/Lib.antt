@@ -1,5 +1,3 @@
 pub mod Line
 pub mod Answers
 pub mod Records
-pub mod Write
-pub mod Passes

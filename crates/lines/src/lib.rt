@@ -3,4 +3,3 @@ pub mod bare;
 pub mod read;
 pub mod records;
 pub mod strip;
-pub mod write;

@@ -13,9 +13,9 @@ use lib.Seq.{sets}
 use Rattle.prelude.proofs.Cases.{split}
 use Rattle.prelude.proofs.Picks.{pick-true, pick-false}
 use Rattle.prelude.proofs.Stores.{sets-over, empty-front}
-use Rattle.strings.specs.declared.answers.Written.{Written}
-use Rattle.strings.specs.declared.answers.Written.the-variants.{Wrote, Full}
-use Rattle.strings.specs.Write.{writeString, writtenIn, wroteInto}
+use Rattle.strings_write.specs.declared.answers.Written.{Written}
+use Rattle.strings_write.specs.declared.answers.Written.the-variants.{Wrote, Full}
+use Rattle.strings_write.specs.Write.{writeString, writtenIn, wroteInto}
 use Rattle.string_claims.proofs.Claims.{written-length}
 use Rattle.json8_write.specs.Steps.{Put}
 use Rattle.json8_write.proofs.Puts.{put-as}

@@ -12,7 +12,7 @@ use Rattle.prelude.proofs.Cases.{and-left, and-right}
 use Rattle.prelude.proofs.Picks.{pick-case}
 use Rattle.prelude.specs.Pick.{pick}
 use Rattle.units.proofs.WrittenUnits.{Plain, plain-append}
-use Rattle.strings.specs.Write.{writeString}
+use Rattle.strings_write.specs.Write.{writeString}
 use Rattle.string_claims.proofs.Plain.{write-plain}
 use Rattle.messages.specs.declared.messages.Message.{Message}
 use Rattle.messages.specs.declared.messages.Message.the-variants.{Line, Text, Quoted, Verdict, Failed, Empty, Long}

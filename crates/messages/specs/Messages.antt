@@ -5,7 +5,7 @@ use Prim.Native.String.{String}
 use mathlib.Core.List.{List, [], _∷_, _++_}
 use lib.Dec.{eqb}
 use Rattle.prelude.specs.Pick.{pick}
-use Rattle.strings.specs.Write.{writeString}
+use Rattle.strings_write.specs.Write.{writeString}
 use Rattle.messages.specs.declared.messages.Message.{Message}
 use Rattle.messages.specs.declared.messages.Message.the-variants.{Line, Text, Quoted, Verdict, Failed, Empty, Long}
 use Rattle.messages.specs.Texts.{words, decimal}

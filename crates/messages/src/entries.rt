@@ -4,14 +4,14 @@ ghost use mathlib.Core.Path.{_≡_};
 ghost use Prim.Native.Nat.{_+_, _*_, _≤_};
 ghost use lib.ListN.{length};
 ghost use Rattle.utf8.specs.Class.{IsTable};
-ghost use Rattle.strings.specs.Write.{writtenIn, wroteInto};
+ghost use Rattle.strings_write.specs.Write.{writtenIn, wroteInto};
 ghost use Rattle.json8_write.specs.Steps.{roomMax, Put};
 ghost use Rattle.messages.specs.Messages.{entryText};
 use crate::texts::put_decimal;
 use crate::texts::put_words;
 use json8_write::texts::put_string;
 use prelude::refusals;
-use strings::answers::Written;
+use strings_write::answers::Written;
 use utf8::classes;
 
 // An entry, as far as the buffer reaches.

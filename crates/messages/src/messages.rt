@@ -3,7 +3,7 @@ ghost use mathlib.Core.List.{_++_};
 ghost use mathlib.Core.Path.{_≡_};
 ghost use Prim.Native.Nat.{_≤_};
 ghost use lib.ListN.{length};
-ghost use Rattle.strings.specs.Write.{writtenIn, wroteInto};
+ghost use Rattle.strings_write.specs.Write.{writtenIn, wroteInto};
 ghost use Rattle.json8_write.specs.Steps.{roomMax, Put};
 ghost use Rattle.messages.specs.Texts.{decimal};
 ghost use Rattle.messages.specs.Messages.{numberText, lineText, columnText, placeText, verdictText, messageText};
@@ -11,7 +11,7 @@ use crate::sentences::put_sentence;
 use crate::texts::put_decimal;
 use crate::texts::put_words;
 use prelude::refusals;
-use strings::answers::Written;
+use strings_write::answers::Written;
 
 pub enum Message {
     // a refusal of a J8 Lines backup: number, line, place

@@ -12,14 +12,15 @@ use Rattle.units.specs.Escapes.{lookup, lowHalf, codeUnit, fourDigits, scalar, 
 use Rattle.units.specs.Units.{unitAt}
 use Rattle.units.proofs.Sizes.{took-size}
 use Rattle.strings.specs.Read.{readUnits, opening, readToken, readString}
-use Rattle.strings.specs.Write.{writeBytes, writeString}
+use Rattle.strings_write.specs.Write.{writeBytes, writeString}
 use Rattle.string_claims.specs.Claims.{Example-Strings, Written-Reads-Back, Bytes-Form-Reads-Back, Written-Token-Reads-Back, Bytes-Form-Token-Reads-Back, Ends-At-Its-Quote, Unicode-Is-Utf8, Writer-Is-Injective, Written-Is-One-Line, Bytes-Form-Is-One-Line, Places-Inside, Cut-Off-At-End, Units-Progress, Written-Length, Read-Length}
 use Rattle.string_claims.proofs.Ends.{token-cut}
 use Rattle.string_claims.proofs.RoundTrip.{quoted-back, token-back, text-back, write-injective}
 use Rattle.strings.proofs.Places.{string-inside, text-inside}
 use Rattle.strings.proofs.Utf8Denoted.{unicode-valid}
 use Rattle.string_claims.proofs.Plain.{quoted-plain, write-plain, plain-at}
-use Rattle.strings.proofs.Lengths.{write-length, string-length}
+use Rattle.strings.proofs.Lengths.{string-length}
+use Rattle.strings_write.proofs.WriteLengths.{write-length}
 
 pub example-strings : Example-Strings
 unfolding classOf lowOf highOf twoBytes threeBytes fourBytes longLen lenBy charLen encode hexVal hexDigits hexFrom lookup lowHalf codeUnit fourDigits scalar braced rawByte escape unitAt readUnits opening readToken readString pick

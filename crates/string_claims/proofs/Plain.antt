@@ -15,8 +15,8 @@ use Rattle.units.specs.Styles.{quote}
 use Rattle.units.specs.Written.{written}
 use Rattle.units.proofs.LiteralLaws.{quote-ascii}
 use Rattle.units.proofs.WrittenUnits.{Plain, plain-append, written-plain}
-use Rattle.strings.specs.Write.{writeUnits, mark, quoted, writeString}
-use Rattle.strings.proofs.Steps.{write-skip}
+use Rattle.strings_write.specs.Write.{writeUnits, mark, quoted, writeString}
+use Rattle.strings_write.proofs.WriteSteps.{write-skip}
 
 units-plain : (st : Style) (s : List ℕ) → Plain (writeUnits st 0 s)
 unfolding writeUnits

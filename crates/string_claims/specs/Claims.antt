@@ -15,7 +15,7 @@ use Rattle.units.specs.declared.styles.Style.the-variants.{Unicode}
 use Rattle.units.specs.Styles.{took}
 use Rattle.units.specs.Units.{unitAt}
 use Rattle.strings.specs.Read.{StringRead, accepted, refused, opens, opening, readToken, readString, readText, textMax}
-use Rattle.strings.specs.Write.{writeBytes, writeString}
+use Rattle.strings_write.specs.Write.{writeBytes, writeString}
 
 pub record Example : Type 0 where
   pub text : String

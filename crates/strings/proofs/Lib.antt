@@ -1,5 +1,4 @@
 pub mod Advancing
-pub mod AmpleRoom
 pub mod FewStored
 pub mod Lengths
 pub mod Places
@@ -8,6 +7,4 @@ pub mod Runs
 pub mod Steps
 pub mod Tokens
 pub mod Utf8Denoted
-pub mod ValidTexts
 pub mod WholeTexts
-pub mod Writing

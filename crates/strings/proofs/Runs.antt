@@ -1,7 +1,7 @@
--- A run of literal characters is read and written at once: by the induction over runs, a character at a time.
+-- A run of literal characters is read at once: by the induction over runs, a character at a time.
 -- Assumes nothing.
 use Prim.Native.Nat.{ℕ, suc, _+_}
-use mathlib.Core.List.{List, [], _∷_, _++_, append-assoc}
+use mathlib.Core.List.{List}
 use mathlib.Core.Path.{_≡_, refl, sym, ap, _∙_}
 use native.Mathlib.Nat.{add-zero}
 use native.Mathlib.Omega.{arith}
@@ -9,10 +9,9 @@ use lib.ListN.{take, drop}
 use lib.Seq.{drop-drop, take-add}
 use Rattle.units.specs.declared.styles.Style.{Style}
 use Rattle.units.specs.Units.{literalLen, literalRun}
-use Rattle.units.proofs.LiteralLaws.{by-run, literal-unit, literal-char, literal-written}
+use Rattle.units.proofs.LiteralLaws.{by-run, literal-unit}
 use Rattle.strings.specs.Read.{more, readUnits}
-use Rattle.strings.specs.Write.{writeUnits}
-use Rattle.strings.proofs.Steps.{read-took, more-none, more-more, write-skip}
+use Rattle.strings.proofs.Steps.{read-took, more-none, more-more}
 
 abbrev Read : Style → List ℕ → ℕ → Type 0
 Read st s n = (p : ℕ) → readUnits st p 0 s ≡ more (take n s) (readUnits st (p + n) 0 (drop n s))
@@ -29,19 +28,3 @@ pub run-law : (st : Style) (s : List ℕ) (p : ℕ)
     → readUnits st p 0 s ≡ more (take (literalRun st 0 s) s) (readUnits st (p + literalRun st 0 s) 0 (drop (literalRun st 0 s) s))
 run-law st =
     by-run st (Read st) (λ s e p. rw (add-zero p) (sym (more-none (readUnits st p 0 s)))) (λ s n m e f h. read-more st s n m e h)
-
-abbrev Write : Style → List ℕ → ℕ → Type 0
-Write st s n = writeUnits st 0 s ≡ take n s ++ writeUnits st 0 (drop n s)
-
-write-one : (st : Style) (s : List ℕ) (n : ℕ) → literalLen st s ≡ suc n → Write st s (suc n)
-unfolding writeUnits literalLen
-write-one st [] n e = absurd (omega arith)
-write-one st (x ∷ r) n e = rw (literal-written st x r n e, literal-char st (x ∷ r) n e) (ap (λ (l : List ℕ). (x ∷ take n r) ++ l) (write-skip st n r))
-
-pub write-run : (st : Style) (s : List ℕ) → writeUnits st 0 s ≡ take (literalRun st 0 s) s ++ writeUnits st 0 (drop (literalRun st 0 s) s)
-write-run st =
-    by-run st (Write st) (λ s e. refl)
-    (λ s n m e f h.
-    write-one st s n e ∙ ap (λ (l : List ℕ). take (suc n) s ++ l) h
-    ∙ sym (append-assoc (take (suc n) s) (take m (drop (suc n) s)) _)
-    ∙ rw (take-add (suc n) m s, ← drop-drop m (suc n) s) refl)

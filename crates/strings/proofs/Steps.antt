@@ -1,4 +1,4 @@
--- One step of reading and of writing: bytes to be skipped are dropped, and then the unit at the head decides.
+-- One step of reading: bytes to be skipped are dropped, and then the unit at the head decides.
 -- Assumes nothing.
 use Prim.Native.Nat.{ℕ, zero, suc, _+_}
 use mathlib.Core.List.{List, [], _∷_, _++_, append-assoc}
@@ -13,19 +13,12 @@ use Rattle.units.specs.Styles.{quote, close, took, fault}
 use Rattle.units.specs.Units.{unitAt}
 use Rattle.units.proofs.Sizes.{took-size}
 use Rattle.strings.specs.Read.{StringRead, accepted, refused, more, readUnits}
-use Rattle.strings.specs.Write.{writeUnits}
 
 pub read-skip : (st : Style) (p k : ℕ) (s : List ℕ) → readUnits st p k s ≡ readUnits st p 0 (drop k s)
 unfolding readUnits
 read-skip st p zero s = refl
 read-skip st p (suc k) [] = refl
 read-skip st p (suc k) (x ∷ r) = read-skip st p k r
-
-pub write-skip : (st : Style) (k : ℕ) (s : List ℕ) → writeUnits st k s ≡ writeUnits st 0 (drop k s)
-unfolding writeUnits
-write-skip st zero s = refl
-write-skip st (suc k) [] = refl
-write-skip st (suc k) (x ∷ r) = write-skip st k r
 
 -- by what stands at the head
 pub read-closes : (st : Style) (p : ℕ) (s : List ℕ) → unitAt st s ≡ close → readUnits st p 0 s ≡ accepted [] (p + 1)

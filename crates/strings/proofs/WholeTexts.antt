@@ -17,9 +17,9 @@ use Rattle.units.specs.declared.styles.Style.{Style}
 use Rattle.units.specs.declared.styles.Style.the-variants.{Json, Unicode, Bytes}
 use Rattle.units.specs.Styles.{quote, StringUnit, close}
 use Rattle.units.specs.Units.{unitAt, literalLen, literalRun}
-use Rattle.units.specs.Blocks.{Running}
+use Rattle.runs.specs.Blocks.{Running}
 use Rattle.units.proofs.LiteralLaws.{run-fits, run-utf8}
-use Rattle.units.proofs.LiteralRuns.{stopped}
+use Rattle.runs.proofs.LiteralRuns.{stopped}
 use Rattle.strings.specs.declared.answers.Decoded.{Decoded}
 use Rattle.strings.specs.declared.answers.Decoded.the-variants.{Done, Refused}
 use Rattle.strings.specs.declared.answers.Token.{Token}

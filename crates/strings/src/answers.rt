@@ -1,4 +1,4 @@
-// What reading and writing answer. specs/ has a definition that gives each one from the text.
+// What reading answers; specs/Read.antt gives each one from the text.
 
 // A string read: its length, or a refusal's number and place.
 pub enum Decoded {
@@ -10,10 +10,4 @@ pub enum Decoded {
 pub enum Token {
     Ended(usize, usize),
     Failed(u32, usize),
-}
-
-// A string written: its text's length, or the number of the refusal, which stands at 0.
-pub enum Written {
-    Wrote(usize),
-    Full(u32),
 }

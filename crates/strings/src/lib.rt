@@ -2,4 +2,3 @@
 pub mod answers;
 pub mod read;
 pub mod singles;
-pub mod write;

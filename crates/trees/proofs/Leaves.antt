@@ -23,7 +23,7 @@ use Rattle.tokens.specs.Numbers.{isNumber, numberKind, numberOf, legal, numberF
 use Rattle.tokens.proofs.Runs.{run-le, run-take}
 use Rattle.json8.specs.Nodes.{Node, node, got, limited}
 use Rattle.json8.specs.Leaves.{slashed, stringNode, string, plain, numberRead, number}
-use Rattle.json8.specs.Show.{shownBy}
+use Rattle.json8_show.specs.Show.{shownBy}
 use Rattle.json8.proofs.Backslashes.{quote-inside, whole-run, run-unslashed, slash-behind}
 use Rattle.trees.specs.Trees.{Tree, null, bool, number as numberTree}
 use Rattle.trees.specs.Tables.{just, stringOf, numberOf as numberIn, scalarOf}

@@ -12,14 +12,14 @@ use lib.ListN.{length, take, drop, length-append, length-take}
 use borrow.Author.Tests.{eqb-true, leb-true, ltb-true, le-ltb, le-leb}
 use Rattle.prelude.proofs.Cases.{never}
 use Rattle.prelude.proofs.Picks.{pick-true, pick-false, pick-case}
-use Rattle.strings.specs.Write.{writeString}
-use Rattle.strings.proofs.Lengths.{write-length}
+use Rattle.strings_write.specs.Write.{writeString}
+use Rattle.strings_write.proofs.WriteLengths.{write-length}
 use Rattle.json8.specs.declared.nodes.Sort.{Sort}
 use Rattle.json8.specs.declared.nodes.Sort.the-variants.{Items, Pairs}
-use Rattle.json8.specs.declared.show.Shown.{Shown}
+use Rattle.json8_show.specs.declared.show.Shown.{Shown}
 use Rattle.json8.specs.Nodes.{Node}
 use Rattle.json8.specs.Read.{depthMax}
-use Rattle.json8.specs.Show.{shownBy}
+use Rattle.json8_show.specs.Show.{shownBy}
 use Rattle.trees.specs.Trees.{Label, Tree, null, bool, number, string, branch, Members, none, one, comma, render, renderLabel, renderMembers}
 use Rattle.trees.specs.Tables.{Maybe, just, countAt, bytesOf, stringOf, numberOf, scalarOf, leafOf, labelSize, labelAt, memberSize, TreeReader, membersAt, treeFrom, grouped, treeAt, treeOf}
 use Rattle.trees.specs.Rooms.{bytesHeld, roomOf}

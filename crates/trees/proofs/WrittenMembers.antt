@@ -13,7 +13,7 @@ use borrow.Author.Tests.{eq-eqb}
 use Rattle.prelude.specs.Pick.{pick}
 use Rattle.prelude.proofs.Cases.{never}
 use Rattle.prelude.specs.Bytes.{IsBytes}
-use Rattle.strings.specs.Write.{writeString}
+use Rattle.strings_write.specs.Write.{writeString}
 use Rattle.tokens.specs.declared.starts.Start.{Start}
 use Rattle.tokens.specs.Blanks.{isSpace, blanksFrom}
 use Rattle.tokens.specs.Words.{isLetter, isWord}

@@ -13,7 +13,7 @@ use Rattle.utf8.specs.Utf8.{validUtf8}
 use Rattle.units.specs.declared.styles.Style.the-variants.{Json, Bytes}
 use Rattle.prelude.specs.Bytes.{IsBytes}
 use Rattle.strings.specs.Read.{opening}
-use Rattle.strings.specs.Write.{quoted, writeString}
+use Rattle.strings_write.specs.Write.{quoted, writeString}
 use Rattle.string_claims.proofs.RoundTrip.{token-back}
 use Rattle.tokens.specs.declared.words.Word.the-variants.{Value}
 use Rattle.tokens.specs.declared.starts.Start.{Start}

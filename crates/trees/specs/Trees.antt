@@ -4,7 +4,7 @@
 use Prim.Native.Nat.{ℕ}
 use mathlib.Core.Bool.{Bool, true, false}
 use mathlib.Core.List.{List, [], _∷_, _++_}
-use Rattle.strings.specs.Write.{writeString}
+use Rattle.strings_write.specs.Write.{writeString}
 use Rattle.tokens.specs.Words.{nullWord, falseWord, trueWord}
 use Rattle.json8.specs.declared.nodes.Sort.{Sort}
 use Rattle.json8.specs.declared.nodes.Sort.the-variants.{Items, Pairs}

@@ -1,14 +1,11 @@
-pub mod BlockLaws
 pub mod EscapeLaws
 pub mod EscapeStores
 pub mod HexLaws
 pub mod LiteralClasses
 pub mod LiteralLaws
-pub mod LiteralRuns
 pub mod OneCharacter
 pub mod SingleLaws
 pub mod Sizes
-pub mod ThreeBytes
 pub mod UnitLaws
 pub mod WrittenBack
 pub mod WrittenUnits

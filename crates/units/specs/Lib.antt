@@ -3,4 +3,3 @@ pub mod Hex
 pub mod Escapes
 pub mod Units
 pub mod Written
-pub mod Blocks

@@ -17,14 +17,14 @@ use Rattle.units.specs.declared.styles.Style.{Style}
 use Rattle.units.specs.declared.styles.Style.the-variants.{Json, Unicode, Bytes}
 use Rattle.units.specs.Styles.{quote}
 use Rattle.strings.specs.Read.{opening, readString}
-use Rattle.strings.specs.Write.{writeUnits, mark, quoted, writeString}
+use Rattle.strings_write.specs.Write.{writeUnits, mark, quoted, writeString}
 use Rattle.prelude.specs.Bytes.{IsBytes}
 use Rattle.string_claims.proofs.RoundTrip.{bytes-drop, bytes-take, round-trip}
 use Rattle.lines.specs.Line.{blank, leads, strip, kindOf, holds, fromString, readStripped, readLine}
 use Rattle.lines.specs.Records.{headSize, head, recordOf, lineRecord, none, lineFault}
-use Rattle.lines.specs.Write.{sizeAt, kindAt, payloadAt, sound, soundFrom}
+use Rattle.lines_write.specs.Write.{sizeAt, kindAt, payloadAt, sound, soundFrom}
 use Rattle.lines.proofs.LineEnds.{trim-stop}
-use Rattle.lines.proofs.LineTexts.{next, sound-step, sound-first, sound-size, sound-kind}
+use Rattle.lines_write.proofs.LineTexts.{next, sound-step, sound-first, sound-size, sound-kind}
 
 -- a text in quotes begins and ends with marks, which are no blanks
 no-leads : (st : Style) (r : List ℕ) → leads (mark st ++ r) ≡ 0

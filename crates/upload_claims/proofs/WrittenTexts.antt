@@ -11,14 +11,14 @@ use lib.ListN.{length, take, drop, length-append, take-append-drop}
 use lib.Seq.{append-snoc, length-take-le}
 use Rattle.prelude.specs.Pick.{pick}
 use Rattle.units.proofs.WrittenUnits.{Plain}
-use Rattle.strings.specs.Write.{writeString}
+use Rattle.strings_write.specs.Write.{writeString}
 use Rattle.prelude.specs.Bytes.{IsBytes}
 use Rattle.string_claims.proofs.RoundTrip.{bytes-drop}
 use Rattle.string_claims.proofs.Plain.{write-plain}
 use Rattle.lines.specs.Records.{headSize, lineRecord, none, lineFault}
-use Rattle.lines.specs.Write.{sizeAt, payloadAt, sound, soundFrom, linesFrom, writeQuoted}
-use Rattle.lines.specs.Passes.{lineAt}
-use Rattle.lines.proofs.LineTexts.{lines-step, sound-size}
+use Rattle.lines_write.specs.Write.{sizeAt, payloadAt, sound, soundFrom, linesFrom, writeQuoted}
+use Rattle.lines_write.specs.Passes.{lineAt}
+use Rattle.lines_write.proofs.LineTexts.{lines-step, sound-size}
 use Rattle.upload_claims.proofs.WrittenLines.{line-record, line-fault, by-records}
 use Rattle.upload.specs.Lines.{LF, uploadLimit, lineLimit, Cut, headed, cut, records, faultBehind, firstFrom, firstFault, Whole}
 use Rattle.upload_claims.specs.Claims.{firstRefusal, EndedWith, Finished, Within}

@@ -9,7 +9,7 @@ use lib.ListN.{length, take}
 use Rattle.prelude.specs.Bytes.{IsBytes, ascii}
 use Rattle.prelude.specs.Refusals.{noRoom}
 use Rattle.lines.specs.Records.{lineRecord, Fault, none, refuse}
-use Rattle.lines.specs.Write.{soundFrom, writeQuoted}
+use Rattle.lines_write.specs.Write.{soundFrom, writeQuoted}
 use Rattle.upload.specs.declared.uploads.Upload.{Upload}
 use Rattle.upload.specs.declared.uploads.Answer.{Answer}
 use Rattle.upload.specs.Lines.{LF, uploadLimit, lineLimit, cut, records, front, firstFault, openFault, Whole, j8Lines}

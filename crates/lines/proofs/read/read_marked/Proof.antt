@@ -6,7 +6,7 @@ use Rattle.lines.proofs.read.read_marked.Tie as tie
 use mathlib.Core.Path.{sym}
 use denote.Ref.{now}
 use lib.Seq.{length-take-le}
-use Rattle.units.proofs.LiteralRuns.{through}
+use Rattle.runs.proofs.LiteralRuns.{through}
 use Rattle.lines.proofs.LineAnswers.{mark-fits, quoted-holds, quoted-inside, quoted-faulty}
 
 table-requires : tie.Need-table-requires

@@ -3,7 +3,7 @@
 use borrow.Author.Needs.{needs}
 use Rattle.strings.proofs.read.read_marked.Statement.{statement}
 use Rattle.strings.proofs.read.read_marked.Tie as tie
-use Rattle.units.proofs.LiteralRuns.{through}
+use Rattle.runs.proofs.LiteralRuns.{through}
 
 literal-run-requires : tie.Need-literal-run-requires
 literal-run-requires c κs =

@@ -9,7 +9,7 @@ use native.Mathlib.Omega.{arith}
 use lib.ListN.{getD}
 use denote.Ref.{now}
 use borrow.Author.Tests.{eqb-false}
-use Rattle.units.proofs.BlockLaws.{one-more}
+use Rattle.runs.proofs.BlockLaws.{one-more}
 use Rattle.upload.specs.Calls.{NoLF}
 
 abbrev Inv-loop : tie.InvT-loop

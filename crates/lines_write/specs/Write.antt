@@ -1,0 +1,57 @@
+-- The Lines writer: it "takes records .. and puts each string quoted, one LF after each, however long; 1 if a record is cut short or its
+-- kind doesn't fit its payload, then 12".
+-- Assumes nothing.
+use Prim.Native.Nat.{ℕ, zero, suc, pred, _+_, _*_}
+use mathlib.Core.Bool.{Bool, true, false, _&&_}
+use mathlib.Core.List.{List, [], _∷_, _++_}
+use lib.Dec.{leb, eqb}
+use lib.ListN.{length, getD, take, drop}
+use Rattle.prelude.specs.Pick.{pick}
+use Rattle.prelude.specs.Refusals.{unfit, noRoom}
+use Rattle.strings_write.specs.Write.{writeString}
+use Rattle.lines_write.specs.declared.write.WroteLines.{WroteLines}
+use Rattle.lines_write.specs.declared.write.WroteLines.the-variants.{Wrote, Refused}
+use Rattle.lines.specs.Line.{kindOf}
+use Rattle.lines.specs.Records.{headSize}
+
+-- of the record at the head of s: the payload's length, its kind, and the payload
+abbrev pub sizeAt : List ℕ → ℕ
+sizeAt s = getD s 0 0 + 256 * getD s 1 0
+
+abbrev pub kindAt : List ℕ → ℕ
+kindAt s = getD s 2 0 + 256 * getD s 3 0
+
+abbrev pub payloadAt : List ℕ → List ℕ
+payloadAt s = take (sizeAt s) (drop headSize s)
+
+-- a record is there whole, and of its payload's kind
+unfoldable pub sound : List ℕ → Bool
+sound s = leb (headSize + sizeAt s) (length s) && eqb (kindAt s) (kindOf (payloadAt s))
+
+-- all records are sound; k bytes are skipped
+unfoldable pub soundFrom : ℕ → List ℕ → Bool
+soundFrom k [] = true
+soundFrom zero (x ∷ r) = sound (x ∷ r) && soundFrom (pred (headSize + sizeAt (x ∷ r))) r
+soundFrom (suc k) (x ∷ r) = soundFrom k r
+
+-- the lines of the records; k bytes are skipped
+unfoldable pub linesFrom : ℕ → List ℕ → List ℕ
+linesFrom k [] = []
+linesFrom zero (x ∷ r) = writeString (payloadAt (x ∷ r)) ++ (10 ∷ linesFrom (pred (headSize + sizeAt (x ∷ r))) r)
+linesFrom (suc k) (x ∷ r) = linesFrom k r
+
+-- the text that the writer gives for records
+abbrev pub writeQuoted : List ℕ → List ℕ
+writeQuoted records = linesFrom 0 records
+
+unfoldable pub wroteLines : ℕ → List ℕ → WroteLines
+wroteLines room records =
+    pick (soundFrom 0 records)
+    (pick (leb (length (writeQuoted records)) room) (Wrote (length (writeQuoted records))) (Refused noRoom))
+    (Refused unfit)
+
+unfoldable pub linesInto : List ℕ → List ℕ → List ℕ
+linesInto records out =
+    pick (soundFrom 0 records)
+    (pick (leb (length (writeQuoted records)) (length out)) (writeQuoted records ++ drop (length (writeQuoted records)) out) out)
+    out

@@ -1,0 +1,2 @@
+// J8 Lines, written from records.
+pub mod write;

@@ -1,0 +1,123 @@
+// The Lines writer.
+ghost use mathlib.Core.Bool.{true};
+ghost use mathlib.Core.Path.{_≡_};
+ghost use Prim.Native.Nat.{_+_, _*_, _-_, _<_, _≤_};
+ghost use lib.ListN.{length, getD, drop};
+ghost use Rattle.utf8.specs.Class.{IsTable};
+ghost use Rattle.lines_write.specs.Write.{sound, soundFrom, linesFrom, wroteLines, linesInto};
+ghost use Rattle.lines_write.specs.Passes.{lineAt, Placed, Filled};
+use lines::read;
+use lines::records::HEAD;
+use prelude::refusals;
+use prelude::slices;
+use utf8::classes;
+
+// The text's length, or the number of the refusal, which stands at 0.
+pub enum WroteLines {
+    Wrote(usize),
+    Refused(u32),
+}
+
+// The two-byte number k places behind a place; what stands past the end is 0.
+fn number_at(s: &[u8], at: usize, k: usize) -> usize
+    requires { ⌜ k ≤ 2 ⌝ }
+    ensures { λ r. ⌜ (r ≡ getD (drop at (now (s .entry))) k 0 + 256 * getD (drop at (now (s .entry))) (k + 1) 0) × (r ≤ 65535) ⌝ }
+{
+    let low = slices::byte_at(s, at, k);
+    let high = slices::byte_at(s, at, k + 1);
+    low as usize + 256 * (high as usize)
+}
+
+// Whether the record at a place is there whole, and of its payload's kind.
+fn sound_at(t: &[u8; 256], s: &[u8], at: usize) -> bool
+    requires { ⌜ IsTable (now t) × (at ≤ length (now s)) ⌝ }
+    ensures { λ r. ⌜ r ≡ sound (drop at (now (s .entry))) ⌝ }
+{
+    let n = number_at(s, at, 0);
+    if s.len() - at < HEAD + n {
+        return false;
+    }
+    let from = at + HEAD;
+    let kind = read::kind_in(t, &s[from..from + n]);
+    number_at(s, at, 2) == kind as usize
+}
+
+// Whether all records are sound.
+fn all_sound(t: &[u8; 256], s: &[u8]) -> bool
+    requires { ⌜ IsTable (now t) ⌝ }
+    ensures { λ r. ⌜ r ≡ soundFrom 0 (now (s .entry)) ⌝ }
+{
+    let mut at = 0;
+    while at < s.len() {
+        if !sound_at(t, s, at) {
+            return false;
+        }
+        at += HEAD + number_at(s, at, 0);
+    }
+    true
+}
+
+fn least(a: usize, b: usize) -> usize
+    ensures { λ r. ⌜ (a ≤ b → r ≡ a) × (b ≤ a → r ≡ b) ⌝ }
+{
+    if a < b { a } else { b }
+}
+
+// The line of a sound record, put at o as far as the buffer reaches: its length, or 0 where it passes the room.
+fn put_line(t: &[u8; 256], s: &[u8], at: usize, room: usize, o: usize, out: &mut [u8]) -> usize
+    requires { ⌜ IsTable (now t) × (at ≤ length (now s)) × (sound (drop at (now s)) ≡ true) × (o ≤ room) ⌝ }
+    ensures { λ r. ⌜ Placed (lineAt (drop at (now (s .entry)))) room o r (now (out .entry)) (now (out .exit)) ⌝ }
+{
+    if room - o == 0 {
+        return 0;
+    }
+    let n = number_at(s, at, 0);
+    let valid = number_at(s, at, 2) == 1;
+    let from = at + HEAD;
+    let b = least(o, out.len());
+    let m = strings_write::write::write_part(t, valid, &s[from..from + n], room - o - 1, &mut out[b..]);
+    if m == 0 {
+        return 0;
+    }
+    slices::put(10, o + m, out);
+    m + 1
+}
+
+// The lines of sound records, as far as the buffer reaches. The count stops at the room, so it can't run over.
+fn pass(t: &[u8; 256], s: &[u8], room: usize, out: &mut [u8]) -> WroteLines
+    requires { ⌜ IsTable (now t) × (soundFrom 0 (now s) ≡ true) ⌝ }
+    ensures { λ r. ⌜ Filled (linesFrom 0 (now (s .entry))) room r (now (out .entry)) (now (out .exit)) ⌝ }
+{
+    let mut at = 0;
+    let mut o: usize = 0;
+    while at < s.len() {
+        let m = put_line(t, s, at, room, o, out);
+        if m == 0 {
+            return WroteLines::Refused(refusals::NO_ROOM);
+        }
+        o += m;
+        at += HEAD + number_at(s, at, 0);
+    }
+    WroteLines::Wrote(o)
+}
+
+// Writes the strings of records, each quoted and with an LF behind it: the text in front of out, or a refusal and out as it was.
+// All records are judged first; then one pass over no buffer measures the text, and one stores it.
+pub fn write(records: &[u8], out: &mut [u8]) -> WroteLines
+    ensures answer { λ r. ⌜ r ≡ wroteLines (length (now (out .entry))) (now (records .entry)) ⌝ }
+    ensures stored { λ r. ⌜ now (out .exit) ≡ linesInto (now (records .entry)) (now (out .entry)) ⌝ }
+{
+    let t = classes::table();
+    if !all_sound(&t, records) {
+        return WroteLines::Refused(refusals::UNFIT);
+    }
+    let room = out.len();
+    let judged = pass(&t, records, room, &mut out[..0]);
+    match judged {
+        WroteLines::Wrote(n) => {
+            pass(&t, records, room, out);
+            WroteLines::Wrote(n)
+        }
+        WroteLines::Refused(number) => WroteLines::Refused(number),
+    }
+}

@@ -1,0 +1,270 @@
+// Literal characters by whole blocks of bytes. A block is tested without an early end, so that its bytes are compared at once.
+ghost use mathlib.Core.Path.{_≡_};
+ghost use mathlib.Core.Bool.{true, false};
+ghost use Prim.Native.Nat.{ℕ, _+_, _<_, _≤_};
+ghost use lib.ListN.{length, getD, drop};
+ghost use Rattle.utf8.specs.Utf8.{tail};
+ghost use Rattle.units.specs.Units.{literalLen};
+ghost use Rattle.runs.specs.Blocks.{Alone, Paired, AllAlone, AllPaired, Running, taken};
+use crate::shorts;
+use units::styles;
+use units::styles::Style;
+use prelude::slices;
+
+// A control, the backslash, the closing quote, or a byte that is not ASCII.
+pub fn odd(q: u8, b: u8) -> bool
+    ensures { λ r. ⌜ (r ≡ false → Alone q b) ⌝ }
+{
+    (b < 32) | ((b >= 128) | ((b == 92) | (b == q)))
+}
+
+// A continuation byte.
+pub fn continues(b: u8) -> bool
+    ensures { λ r. ⌜ r ≡ tail b ⌝ }
+{
+    (0x80 <= b) & (b <= 0xbf)
+}
+
+// A byte that stands in no literal character of one or two bytes, or that the next byte can't follow.
+fn odd_pair(q: u8, b: u8, c: u8) -> bool
+    ensures { λ r. ⌜ (r ≡ false → Paired q b c) ⌝ }
+{
+    (b < 32)
+        | ((b >= 0xe0)
+            | ((b == 92)
+                | ((b == q) | ((b == 0xc0) | ((b == 0xc1) | (continues(c) != (b >= 0xc0)))))))
+}
+
+// Whether one of n bytes is odd.
+pub fn any_odd(q: u8, s: &[u8], at: usize, n: usize) -> bool
+    requires { ⌜ at + n ≤ length (now s) ⌝ }
+    ensures { λ r. ⌜ (r ≡ false → AllAlone q (now (s .entry)) at n) ⌝ }
+{
+    let mut found = false;
+    let mut k: usize = 0;
+    while k < n {
+        found = found | odd(q, s[at + k]);
+        k += 1;
+    }
+    found
+}
+
+fn narrow(k: usize) -> u8
+    requires { ⌜ k < 16 ⌝ }
+    ensures { λ r. ⌜ r ≡ k ⌝ }
+{
+    k as u8
+}
+
+fn wide(k: u8) -> usize
+    ensures { λ r. ⌜ r ≡ k ⌝ }
+{
+    k as usize
+}
+
+// A place where something was found, and past all places else.
+fn place_of(found: bool, k: u8) -> u8
+    ensures { λ r. ⌜ (found ≡ true → r ≡ k) ⌝ }
+{
+    if found { k } else { 16 }
+}
+
+fn lesser(a: u8, b: u8) -> u8
+    ensures { λ r. ⌜ (r ≤ a) × (r ≤ b) ⌝ }
+{
+    if a < b { a } else { b }
+}
+
+// The first odd one of up to sixteen bytes, 16 where none is: the least of their places, so that all are compared at once.
+pub fn first_odd(q: u8, s: &[u8], at: usize, n: usize) -> usize
+    requires { ⌜ (at + n ≤ length (now s)) × (n ≤ 16) ⌝ }
+    ensures { λ r. ⌜ ((k : ℕ) → k < n → k < r → Alone q (getD (now (s .entry)) (at + k) 0)) ⌝ }
+{
+    let mut first: u8 = 16;
+    let mut k: usize = 0;
+    while k < n {
+        first = lesser(first, place_of(odd(q, s[at + k]), narrow(k)));
+        k += 1;
+    }
+    wide(first)
+}
+
+// Whether one of n bytes is odd beside the next.
+pub fn any_odd_pair(q: u8, s: &[u8], at: usize, n: usize) -> bool
+    requires { ⌜ at + n < length (now s) ⌝ }
+    ensures { λ r. ⌜ (r ≡ false → AllPaired q (now (s .entry)) at n) ⌝ }
+{
+    let mut found = false;
+    let mut k: usize = 0;
+    while k < n {
+        found = found | odd_pair(q, s[at + k], s[at + k + 1]);
+        k += 1;
+    }
+    found
+}
+
+// A place, or the next one where the byte there is a continuation.
+pub fn behind(s: &[u8], e: usize) -> usize
+    requires { ⌜ e < length (now s) ⌝ }
+    ensures { λ r. ⌜ r ≡ e + taken (tail (getD (now (s .entry)) e 0)) ⌝ }
+{
+    if continues(s[e]) {
+        return e + 1;
+    }
+    e
+}
+
+// Blocks of n bytes of ASCII. A caller's n is a constant, so that a block is still compared at once.
+fn alone_blocks(s: &[u8], from: usize, style: Style, n: usize) -> usize
+    requires { ⌜ (from ≤ length (now s)) × (0 < n) ⌝ }
+    ensures { λ r. ⌜ Running style (now (s .entry)) from r ⌝ }
+{
+    let mut at = from;
+    while n <= s.len() - at {
+        if any_odd(styles::quote_of(style), s, at, n) {
+            return at;
+        }
+        at += n;
+    }
+    at
+}
+
+// A place behind blocks of sixteen, for runs inside a longer text, which are likely to end soon.
+pub fn sixteens(s: &[u8], from: usize, style: Style) -> usize
+    requires { ⌜ from ≤ length (now s) ⌝ }
+    ensures { λ r. ⌜ Running style (now (s .entry)) from r ⌝ }
+{
+    let mut at = from;
+    while at < s.len() {
+        let n = slices::least(16, s.len() - at);
+        let k = first_odd(styles::quote_of(style), s, at, n);
+        if k < n {
+            return at + k;
+        }
+        at += n;
+    }
+    at
+}
+
+// Whether a byte stands at a place that is no part of a literal character.
+pub fn ends(s: &[u8], at: usize, style: Style) -> bool
+    ensures { λ r. ⌜ (r ≡ true → 0 ≡ literalLen style (drop at (now (s .entry)))) ⌝ }
+{
+    if s.len() <= at {
+        return false;
+    }
+    let b = s[at];
+    (b < 32) | ((b == 92) | (b == styles::quote_of(style)))
+}
+
+// Blocks of ASCII and characters of two bytes.
+fn pair_blocks(s: &[u8], from: usize, style: Style) -> usize
+    requires { ⌜ from ≤ length (now s) ⌝ }
+    ensures { λ r. ⌜ Running style (now (s .entry)) from r ⌝ }
+{
+    let mut at = from;
+    while 33 <= s.len() - at {
+        if continues(s[at]) {
+            return at;
+        }
+        if any_odd_pair(styles::quote_of(style), s, at, 32) {
+            return at;
+        }
+        at = behind(s, at + 32);
+    }
+    at
+}
+
+// Where less than 64 bytes and more than the closing quote are left, two blocks of ASCII that may overlap; part of them may be passed
+// already.
+fn last_alone(s: &[u8], from: usize, style: Style) -> usize
+    requires { ⌜ from ≤ length (now s) ⌝ }
+    ensures { λ r. ⌜ Running style (now (s .entry)) from r ⌝ }
+{
+    let n = s.len();
+    if n < 33 {
+        return from;
+    }
+    if 64 <= n - from {
+        return from;
+    }
+    if n - from < 2 {
+        return from;
+    }
+    let q = styles::quote_of(style);
+    let p = n - 33;
+    if any_odd(q, s, slices::least(from, p), 32) | any_odd(q, s, p, 32) {
+        return from;
+    }
+    n - 1
+}
+
+// Where less than a block and more than the closing quote is left, the last block of the text, though part of it is passed already.
+fn last_pairs(s: &[u8], from: usize, style: Style) -> usize
+    requires { ⌜ from ≤ length (now s) ⌝ }
+    ensures { λ r. ⌜ Running style (now (s .entry)) from r ⌝ }
+{
+    let n = s.len();
+    if n < 33 {
+        return from;
+    }
+    if 33 <= n - from {
+        return from;
+    }
+    if n - from < 2 {
+        return from;
+    }
+    if continues(s[from]) {
+        return from;
+    }
+    if any_odd_pair(styles::quote_of(style), s, n - 33, 32) {
+        return from;
+    }
+    behind(s, n - 1)
+}
+
+// The last byte of a text.
+fn last_byte(s: &[u8], from: usize, style: Style) -> usize
+    requires { ⌜ from ≤ length (now s) ⌝ }
+    ensures { λ r. ⌜ Running style (now (s .entry)) from r ⌝ }
+{
+    if s.len() - from != 1 {
+        return from;
+    }
+    if odd(styles::quote_of(style), s[from]) {
+        return from;
+    }
+    from + 1
+}
+
+// All but the last byte of more than 33: ASCII is cheapest, so it comes first; a last block saves the byte loop.
+fn long(s: &[u8], from: usize, style: Style) -> usize
+    requires { ⌜ from ≤ length (now s) ⌝ }
+    ensures { λ r. ⌜ Running style (now (s .entry)) from r ⌝ }
+{
+    let a = alone_blocks(s, from, style, 64);
+    let b = last_alone(s, a, style);
+    let c = pair_blocks(s, b, style);
+    last_pairs(s, c, style)
+}
+
+// The same of any number.
+fn most(s: &[u8], from: usize, style: Style) -> usize
+    requires { ⌜ from ≤ length (now s) ⌝ }
+    ensures { λ r. ⌜ Running style (now (s .entry)) from r ⌝ }
+{
+    if s.len() - from < 34 {
+        return shorts::short(s, from, style);
+    }
+    long(s, from, style)
+}
+
+// A place behind literal characters only, as far as blocks go: a character of three or four bytes ends them. Where they reach the end,
+// or all but the closing quote, the class table needn't be made.
+pub fn strides(s: &[u8], from: usize, style: Style) -> usize
+    requires { ⌜ from ≤ length (now s) ⌝ }
+    ensures { λ r. ⌜ Running style (now (s .entry)) from r ⌝ }
+{
+    let a = most(s, from, style);
+    last_byte(s, a, style)
+}

@@ -1,0 +1,5 @@
+pub mod AmpleRoom
+pub mod ValidTexts
+pub mod WriteLengths
+pub mod WriteSteps
+pub mod Writing

@@ -1,0 +1,276 @@
+-- The pass over the data: the text is what is written already and then what the rest of the data is written as, a run or an escape at
+-- a time; so the count passes the room exactly if the text does.
+-- Assumes nothing.
+use mathlib.Core.Path.{_≡_, refl, sym, ap, _∙_, subst}
+use mathlib.Core.Bool.{Bool, true, false}
+use mathlib.Core.List.{List, [], _∷_, _++_, append-assoc, append-nil}
+use Prim.Native.Nat.{ℕ, zero, suc, pred, _+_, _-_, _≤_, _<_}
+use native.Mathlib.Omega.{arith}
+use borrow.Author.Tests.{le-leb, lt-leb, leb-true, leb-false}
+use lib.Dec.{leb}
+use lib.ListN.{length, getD, take, drop, set, length-drop, length-append, drop-of-length-le}
+use lib.Seq.{sets, length-sets, length-take-le, take-length, drop-drop, drop-cons}
+use Rattle.prelude.specs.Pick.{pick}
+use Rattle.prelude.proofs.Cases.{split}
+use Rattle.prelude.proofs.Stores.{sets-append, sets-over, empty-front}
+use Rattle.utf8.specs.Utf8.{charLen, validUtf8}
+use Rattle.units.specs.declared.styles.Style.{Style}
+use Rattle.units.specs.declared.styles.Style.the-variants.{Json, Bytes}
+use Rattle.units.specs.Styles.{quote}
+use Rattle.units.specs.Units.{literalLen, literalRun}
+use Rattle.units.specs.Written.{escapeByte}
+use Rattle.runs.specs.Blocks.{Running}
+use Rattle.units.proofs.LiteralLaws.{run-fits, run-ends, run-valid, all-literal}
+use Rattle.runs.proofs.LiteralRuns.{at-end}
+use Rattle.units.proofs.EscapeStores.{escape-written}
+use Rattle.units.proofs.WrittenUnits.{limit}
+use Rattle.strings_write.specs.declared.answers.Written.{Written}
+use Rattle.strings_write.specs.declared.answers.Written.the-variants.{Wrote, Full}
+use Rattle.strings_write.specs.Write.{writeUnits, mark, quoted, writeString, writtenIn, wroteInto, Passed}
+use Rattle.strings_write.proofs.WriteLengths.{quoted-length}
+use Rattle.strings_write.proofs.WriteSteps.{write-skip}
+use Rattle.strings_write.proofs.WriteSteps.{write-run}
+
+-- the units of s and the closing quote
+abbrev closed : Style → List ℕ → List ℕ
+closed st s = writeUnits st 0 s ++ (quote st ∷ [])
+
+-- the loop's invariant: `done` is written, and the rest of the text is that of the data from `at` on
+pub record Writing (st : Style) (s : List ℕ) (cap : ℕ) (out₀ : List ℕ) (at o : ℕ) (out : List ℕ) : Type 0 where
+  pub inside : at ≤ length s
+  pub below : o ≤ cap
+  pub done : List ℕ
+  pub size : length done ≡ o
+  pub same : quoted st s ≡ done ++ closed st (drop at s)
+  pub stored : (t : List ℕ) → out₀ ≡ sets t 0 (mark st) → out ≡ sets t 0 done
+
+pub begun : {st : Style} {s : List ℕ} {room f : ℕ} {out₀ : List ℕ} → f ≡ length (mark st) → f < room → Writing st s (room - 1) out₀ 0 f out₀
+unfolding quoted
+begun {st} e h = record { inside = omega arith; below = omega arith; done = mark st; size = sym e; same = refl; stored = λ t w. w }
+
+-- one byte by its escape, where the run stops at once
+escape-step : (st : Style) (s : List ℕ) (at : ℕ) → at < length s → literalRun st 0 (drop at s) ≡ 0
+    → writeUnits st 0 (drop at s) ≡ escapeByte st (getD s at 0) ++ writeUnits st 0 (drop (at + 1) s)
+unfolding writeUnits
+escape-step st s at h e =
+    let l : literalLen st (getD s at 0 ∷ drop (suc at) s) ≡ 0 =
+    ap (literalLen st) (sym (drop-cons s at 0 h)) ∙ (rw e at (run-ends st (drop at s))) in
+    let w = escape-written st (getD s at 0) (drop (suc at) s) l in
+    let a : suc at ≡ at + 1 = omega arith in
+    rw (← a, drop-cons s at 0 h, w .0, w .1) refl
+
+module _ {st : Style} {s : List ℕ} {cap : ℕ} {out₀ : List ℕ} {at o : ℕ} {out : List ℕ} (i : Writing st s cap out₀ at o out) where
+  -- the next `u` bytes of the data are written as `p`
+  module _ (p : List ℕ) (u : ℕ) (step : writeUnits st 0 (drop at s) ≡ p ++ writeUnits st 0 (drop (at + u) s)) where
+    parts : closed st (drop at s) ≡ p ++ closed st (drop (at + u) s)
+    parts = ap (λ (x : List ℕ). x ++ (quote st ∷ [])) step ∙ append-assoc p _ _
+
+    moved : {out' : List ℕ} → at + u ≤ length s → length p ≤ cap - o → out' ≡ sets out o p → Writing st s cap out₀ (at + u) (o + length p) out'
+    moved {out'} h f w = record {
+      inside = h;
+      below = omega (arith, i .below);
+      done = i .done ++ p;
+      size = length-append (i .done) p ∙ ap (λ (n : ℕ). n + length p) (i .size);
+      same = i .same ∙ ap (λ (x : List ℕ). i .done ++ x) parts ∙ sym (append-assoc (i .done) p _);
+      stored = λ t g. w ∙ ap (λ (x : List ℕ). sets x o p) (i .stored t g) ∙ sets-append (i .done) p t 0 o (omega (arith, i .size));
+    }
+
+    stuck : cap - o < length p → suc cap < length (quoted st s)
+    stuck f =
+        let a : length (quoted st s) ≡ length (i .done) + length (closed st (drop at s)) = ap length (i .same) ∙ length-append (i .done) (closed st (drop at s)) in
+        let b : length (closed st (drop at s)) ≡ length p + length (closed st (drop (at + u) s)) = ap length parts ∙ length-append p (closed st (drop (at + u) s)) in
+        let d : length (closed st (drop (at + u) s)) ≡ length (writeUnits st 0 (drop (at + u) s)) + 1 = length-append (writeUnits st 0 (drop (at + u) s)) (quote st ∷ []) in
+        omega (arith, i .size, i .below)
+
+  -- an escape
+  module _ (e m : ℕ) (h : at < length s) (ee : e ≡ at + literalRun st 0 (drop at s)) (z : e ≡ at) (em : m ≡ length (escapeByte st (getD s at 0))) where
+    escape-here : writeUnits st 0 (drop at s) ≡ escapeByte st (getD s at 0) ++ writeUnits st 0 (drop (at + 1) s)
+    escape-here = escape-step st s at h (omega (arith, ee, z))
+
+    pub escape-moved : {out' : List ℕ} → m ≤ cap - o → out' ≡ sets out o (escapeByte st (getD s at 0)) → Writing st s cap out₀ (at + 1) (o + m) out'
+    escape-moved f w = rw em (moved (escapeByte st (getD s at 0)) 1 escape-here (omega arith) (rw em at f) w)
+
+    pub escape-stuck : cap - o < m → suc cap < length (quoted st s)
+    escape-stuck f = stuck (escapeByte st (getD s at 0)) 1 escape-here (rw em at f)
+
+  -- a run
+  module _ (e : ℕ) (h : at < length s) (ee : e ≡ at + literalRun st 0 (drop at s)) where
+    abbrev run : List ℕ
+    run = take (e - at) (drop at s)
+
+    count : e - at ≡ literalRun st 0 (drop at s)
+    count = omega (arith, ee)
+
+    pub run-inside : at + (e - at) ≤ length s
+    run-inside = omega (arith, count, run-fits st (drop at s), length-drop at s)
+
+    run-here : writeUnits st 0 (drop at s) ≡ run ++ writeUnits st 0 (drop (at + (e - at)) s)
+    run-here =
+        rw (count) (write-run st (drop at s) ∙ ap (λ (x : List ℕ). take (literalRun st 0 (drop at s)) (drop at s) ++ writeUnits st 0 x) (drop-drop (literalRun st 0 (drop at s)) at s))
+
+    run-length : length run ≡ e - at
+    run-length = length-take-le (e - at) (drop at s) (omega (arith, count, run-fits st (drop at s)))
+
+    pub run-moved : {out' : List ℕ} → e - at ≤ cap - o → out' ≡ sets out o run → Writing st s cap out₀ e (o + (e - at)) out'
+    run-moved f w =
+        let a : at + (e - at) ≡ e = omega (arith, ee) in
+        rw (a, run-length) at (moved run (e - at) run-here run-inside (omega (arith, run-length)) w)
+
+    pub run-stuck : cap - o < e - at → suc cap < length (quoted st s)
+    run-stuck f = stuck run (e - at) run-here (omega (arith, run-length))
+
+  pub kept : (t : List ℕ) → out₀ ≡ sets t 0 (mark st) → length out ≡ length t
+  kept t g = ap length (i .stored t g) ∙ length-sets t 0 (i .done)
+
+  ended : length s ≤ at → quoted st s ≡ i .done ++ (quote st ∷ [])
+  unfolding writeUnits
+  ended h = i .same ∙ rw (drop-of-length-le s h) refl
+
+  pub last : {out' : List ℕ} (t : List ℕ) → out₀ ≡ sets t 0 (mark st) → length s ≤ at → out' ≡ set out o (quote st)
+      → (length (quoted st s) ≡ o + 1) × (out' ≡ sets t 0 (quoted st s))
+  last t g h w = (
+    ap length (ended h) ∙ length-append (i .done) (quote st ∷ []) ∙ omega (arith, i .size),
+    w ∙ ap (λ (x : List ℕ). set x o (quote st)) (i .stored t g) ∙ sets-append (i .done) (quote st ∷ []) t 0 o (omega (arith, i .size)) ∙ ap (sets t 0) (sym (ended h)),
+  )
+
+-- a pass that stops at the room, and one that ends
+pub stopped : {text : List ℕ} {room : ℕ} {out new : List ℕ} → room < length text → Passed text room 0 out new
+unfolding pick
+stopped {text} {room} h = record { answer = rw (lt-leb (length text) room h); stored = λ g. absurd (omega arith) }
+
+pub finished : {text : List ℕ} {room r : ℕ} {out new : List ℕ} → length text ≤ room → length text ≡ r → new ≡ sets out 0 text → Passed text room r out new
+unfolding pick
+finished {text} {room} h e w = record { answer = rw (le-leb (length text) room h) (sym e); stored = λ g. w }
+
+-- the mark alone passes the room
+pub mark-long : (st : Style) (s : List ℕ) (room f : ℕ) → f ≡ length (mark st) → room ≤ f → room < length (quoted st s)
+unfolding quoted
+mark-long st s room f e h = omega (arith, length-append (mark st) (closed st s), length-append (writeUnits st 0 s) (quote st ∷ []))
+
+-- what a call answers and leaves
+abbrev Wrote-It : List ℕ → List ℕ → Written → List ℕ → Type 0
+Wrote-It text out r new = (r ≡ writtenIn (length out) text) × (new ≡ wroteInto text out)
+
+pub full : (text out : List ℕ) → length out < length text → Wrote-It text out (Full 12) out
+unfolding writtenIn wroteInto pick
+full text out h = simp (lt-leb (length text) (length out) h) (refl, refl)
+
+pub wrote : (text out : List ℕ) (n : ℕ) (new : List ℕ) → length text ≤ length out → n ≡ length text → new ≡ sets out 0 text → Wrote-It text out (Wrote n) new
+unfolding writtenIn wroteInto pick
+wrote text out n new h e w = simp (le-leb (length text) (length out) h) (ap Wrote e, w ∙ sets-over text out h)
+
+-- one pass, where the text is known to fit
+pub one-pass : (text out : List ℕ) {n : ℕ} {new : List ℕ} → length text ≤ length out → Passed text (length out) n out new → Wrote-It text out (Wrote n) new
+unfolding pick
+one-pass text out {n} {new} h p = wrote text out n new h (p .answer ∙ rw (le-leb (length text) (length out) h)) (p .stored h)
+
+-- room for the longest text of n bytes
+pub room-enough : (st to : Style) (n room : ℕ) → st ≡ to → length (mark to) + limit to n + 1 ≤ room → (s : List ℕ) → length s ≡ n → length (quoted st s) ≤ room
+room-enough st to n room e h s l =
+    rw e (omega (arith, quoted-length to s, ap (limit to) l))
+
+-- the first pass over the empty part `l`, and the second over the buffer
+module _ (text l out : List ℕ) {n : ℕ} {l₀ : List ℕ} (pos : 0 < length text) (z : length l ≡ 0) (p : Passed text (length out) n l₀ l) where
+  fits : (n ≡ 0 → ⊥) → length text ≤ length out
+  unfolding pick
+  fits h = split (leb (length text) (length out)) (λ e. leb-true _ _ e) (λ e. absurd (h (p .answer ∙ rw e)))
+
+  longer : n ≡ 0 → length out < length text
+  unfolding pick
+  longer h =
+      split (leb (length text) (length out))
+      (λ e. let q : n ≡ length text = p .answer ∙ rw e in absurd (omega arith))
+      (λ e. leb-false _ _ e)
+
+  count-is : length text ≤ length out → n ≡ length text
+  unfolding pick
+  count-is h = p .answer ∙ rw (le-leb (length text) (length out) h)
+
+  pub too-long : n ≡ 0 → Wrote-It text out (Full 12) (l ++ out)
+  too-long h = let f = full text out (longer h) in (f .0, empty-front l out z ∙ f .1)
+
+  pub both-passes : {n2 : ℕ} {new : List ℕ} → (n ≡ 0 → ⊥) → Passed text (length out) n2 (l ++ out) new → Wrote-It text out (Wrote n) new
+  both-passes {n2} {new} h q =
+      let e : l ++ out ≡ out = empty-front l out z in
+      let f : length text ≤ length out = fits h in
+      wrote text out n new f (count-is f) (q .stored f ∙ ap (λ (x : List ℕ). sets x 0 text) e)
+
+pub quoted-positive : (st : Style) (s : List ℕ) → 0 < length (quoted st s)
+unfolding quoted
+quoted-positive st s = omega (arith, length-append (mark st) (closed st s), length-append (writeUnits st 0 s) (quote st ∷ []))
+
+pub stored-mark : (st to : Style) (out new : List ℕ) → st ≡ to → new ≡ sets out 0 (mark to) → (length (mark to) ≡ length (mark st)) × (new ≡ sets out 0 (mark st))
+stored-mark st to out new e w = rw e (refl, w)
+
+-- valid data takes the `""` form
+pub valid-text : (s : List ℕ) → validUtf8 s ≡ true → writeString s ≡ quoted Json s
+unfolding writeString pick
+valid-text s e = rw e
+
+-- data that is one run of literal characters
+pub literal-text : (s : List ℕ) → literalRun Json 0 s ≡ length s → quoted Json s ≡ 34 ∷ (s ++ (34 ∷ []))
+unfolding quoted writeUnits
+literal-text s e =
+    let u : writeUnits Json 0 s ≡ s =
+    write-run Json s ∙ rw (e, drop-of-length-le s {i = length s} (omega arith), take-length s) (append-nil s) in
+    rw u
+
+module _ (s out : List ℕ) (e : literalRun Json 0 s ≡ length s) where
+  text-length : length (quoted Json s) ≡ length s + 2
+  text-length = ap length (literal-text s e) ∙ (let l : length (s ++ (34 ∷ [])) ≡ length s + 1 = length-append s (34 ∷ []) in omega arith)
+
+  -- what the stores of a quote, the data and a quote leave
+  literal-stored : {o1 o2 o3 : List ℕ} → o1 ≡ set out 0 34 → o2 ≡ sets o1 1 (take (length s) s) → o3 ≡ set o2 (length s + 1) 34 → o3 ≡ sets out 0 (quoted Json s)
+  literal-stored {o1} {o2} {o3} p q r =
+      r ∙ ap (λ (x : List ℕ). set x (length s + 1) 34) (q ∙ (λ i. sets (p i) 1 (take-length s i)))
+      ∙ sets-append s (34 ∷ []) (set out 0 34) 1 (length s + 1) (omega arith) ∙ ap (sets out 0) (sym (literal-text s e))
+
+  pub literal-full : length out < length s + 2 → Wrote-It (quoted Json s) out (Full 12) out
+  literal-full h = full (quoted Json s) out (omega (arith, text-length))
+
+  pub literal-wrote : {o1 o2 o3 : List ℕ} → length s + 2 ≤ length out → o1 ≡ set out 0 34 → o2 ≡ sets o1 1 (take (length s) s) → o3 ≡ set o2 (length s + 1) 34
+      → Wrote-It (quoted Json s) out (Wrote (length s + 2)) o3
+  literal-wrote {o1} {o2} {o3} h p q r = wrote (quoted Json s) out (length s + 2) o3 (omega (arith, text-length)) (sym text-length) (literal-stored p q r)
+
+  -- the same as one pass, in a room
+  pub literal-over : {room : ℕ} {new : List ℕ} → room < length s + 2 → Passed (writeString s) room 0 out new
+  literal-over h = rw (valid-text s (all-literal Json s e)) (stopped (omega (arith, text-length)))
+
+  pub literal-part : {room : ℕ} {o1 o2 o3 : List ℕ} → length s + 2 ≤ room → o1 ≡ set out 0 34 → o2 ≡ sets o1 1 (take (length s) s) → o3 ≡ set o2 (length s + 1) 34
+      → Passed (writeString s) room (length s + 2) out o3
+  literal-part h p q r = rw (valid-text s (all-literal Json s e)) (finished (omega (arith, text-length)) text-length (literal-stored p q r))
+
+-- the form that the data takes
+pub other-text : (s : List ℕ) → validUtf8 s ≡ false → writeString s ≡ quoted Bytes s
+unfolding writeString pick
+other-text s e = rw e
+
+module _ (s : List ℕ) (r : Written) (out new : List ℕ) where
+  pub valid-form : validUtf8 s ≡ true → Wrote-It (quoted Json s) out r new → Wrote-It (writeString s) out r new
+  valid-form e w = subst (λ (x : List ℕ). Wrote-It x out r new) (sym (valid-text s e)) w
+
+  pub other-form : validUtf8 s ≡ false → Wrote-It (quoted Bytes s) out r new → Wrote-It (writeString s) out r new
+  other-form e w = subst (λ (x : List ℕ). Wrote-It x out r new) (sym (other-text s e)) w
+
+pub valid-pass : (s : List ℕ) (room : ℕ) {v : Bool} {r : ℕ} {out new : List ℕ} → v ≡ validUtf8 s → v ≡ true → Passed (quoted Json s) room r out new
+    → Passed (writeString s) room r out new
+valid-pass s room {v} {r} {out} {new} e h w = subst (λ (x : List ℕ). Passed x room r out new) (sym (valid-text s (sym e ∙ h))) w
+
+pub other-pass : (s : List ℕ) (room : ℕ) {v : Bool} {r : ℕ} {out new : List ℕ} → v ≡ validUtf8 s → v ≡ false → Passed (quoted Bytes s) room r out new
+    → Passed (writeString s) room r out new
+other-pass s room {v} {r} {out} {new} e h w = subst (λ (x : List ℕ). Passed x room r out new) (sym (other-text s (sym e ∙ h))) w
+
+-- whether data is valid UTF-8, by what stands behind its first run of literal characters
+pub valid-behind : (s : List ℕ) (at e : ℕ) (r : Bool) → Running Json s 0 at → e ≡ at + literalRun Json 0 (drop at s)
+    → r ≡ validUtf8 (take (length s - e) (drop e s)) → r ≡ validUtf8 s
+valid-behind s at e r k h v =
+    let n : e ≡ literalRun Json 0 s = omega (arith, k .same) in
+    let w : take (length s - e) (drop e s) ≡ drop e s = rw (← length-drop e s) (take-length (drop e s)) in
+    v ∙ ap validUtf8 (w ∙ ap (λ (i : ℕ). drop i s) n) ∙ sym (run-valid Json s)
+
+-- the data lent as a part that is all of it
+pub all-of-it : (s : List ℕ) (at : ℕ) → Running Json (take (length s) s) 0 at → Running Json s 0 at
+all-of-it s at r = subst (λ (l : List ℕ). Running Json l 0 at) (take-length s) r
+
+pub one-run : (s : List ℕ) (at : ℕ) → Running Json (take (length s) s) 0 at → at ≡ length s → literalRun Json 0 s ≡ length s
+one-run s at r e = omega (arith, at-end Json s 0 at (all-of-it s at r) (omega arith))

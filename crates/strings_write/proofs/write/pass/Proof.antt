@@ -1,0 +1,176 @@
+-- The invariant `Writing`: what is written, and then the text of the rest; so the count passes the room exactly if the text does.
+-- Assumes nothing.
+use Rattle.strings_write.proofs.write.pass.Statement.{statement}
+use Rattle.strings_write.proofs.write.pass.Tie as tie
+use denote.Ref.{now}
+use borrow.Author.Needs.{needs}
+use native.Mathlib.Omega.{arith}
+use mathlib.Core.Path.{_≡_, refl, sym, ap, _∙_}
+use Prim.Native.Nat.{_+_, _-_, _≤_, _<_}
+use lib.ListN.{length, getD, length-set}
+use Rattle.strings_write.specs.Write.{quoted}
+use Rattle.strings_write.proofs.Writing.{Writing, begun, escape-moved, escape-stuck, run-inside, run-moved, run-stuck, kept, last, stopped, finished, mark-long}
+
+abbrev Inv-loop : tie.InvT-loop
+Inv-loop t style s room out₀ first cap o₀ at₀ out o at =
+    Writing style s cap out₀ at o out
+
+abbrev μ-loop : tie.MeasureT-loop
+μ-loop t style s room out₀ first cap o₀ at₀ out o at =
+    length s - at
+
+put-mark-requires : tie.Need-put-mark-requires Inv-loop μ-loop
+put-mark-requires c κs =
+    tt
+
+same-length : tie.Need-same-length Inv-loop μ-loop
+same-length c =
+    search needs
+
+returns : tie.Need-returns Inv-loop μ-loop
+returns c =
+    stopped (mark-long (c .before .before .before .before .before .before .before .args .style) (now (c .before .before .before .before .before .before .before .args .s)) (c .before .before .before .before .before .before .before .args .room) _ (c .before .before .before .put-mark .ensures .0) (c .if1 .taken))
+
+sub-cap : tie.Need-sub-cap Inv-loop μ-loop
+sub-cap c =
+    omega arith
+
+loop-holds : tie.Need-loop-holds Inv-loop μ-loop
+loop-holds c =
+    begun (c .before .before .before .put-mark .ensures .0) (c .if1 .left)
+
+short-run-requires : tie.Need-short-run-requires Inv-loop μ-loop
+short-run-requires c κs =
+    (c .before .before .before .before .before .before .before .before .before .pre, c .before .loop .inv .inside)
+
+shared-slice-read-x : tie.Need-shared-slice-read-x Inv-loop μ-loop
+shared-slice-read-x c =
+    omega arith
+
+escape-len-requires : tie.Need-escape-len-requires Inv-loop μ-loop
+escape-len-requires c κs =
+    tt
+
+sub-if3 : tie.Need-sub-if3 Inv-loop μ-loop
+sub-if3 c =
+    omega (arith, c .before .before .before .before .before .loop .inv .below)
+
+same-length-2 : tie.Need-same-length-2 Inv-loop μ-loop
+same-length-2 c =
+    kept (c .before .before .before .before .before .before .loop .inv) (now (c .before .before .before .before .before .before .before .before .before .before .before .before .before .before .args .out)) (c .before .before .before .before .before .before .before .before .before .before .put-mark .ensures .1)
+
+returns-2 : tie.Need-returns-2 Inv-loop μ-loop
+returns-2 c =
+    let g : c .before .before .before .before .before .before .before .before .before .before .before .before .before .before .args .room < length (quoted (c .before .before .before .before .before .before .before .before .before .before .before .before .before .before .args .style) (now (c .before .before .before .before .before .before .before .before .before .before .before .before .before .before .args .s))) = omega (arith, escape-stuck (c .before .before .before .before .before .before .loop .inv) _ _ (c .before .before .before .before .before .loop-test .taken) (c .before .before .before .before .short-run .ensures) (c .before .before .before .if2 .taken) (c .before .escape-len .ensures) (c .if3 .taken)) in
+    stopped g
+
+put-escape-requires : tie.Need-put-escape-requires Inv-loop μ-loop
+put-escape-requires c κs =
+    tt
+
+add-o : tie.Need-add-o Inv-loop μ-loop
+add-o c =
+    omega (arith, c .before .before .before .before .before .before .before .before .before .before .loop .inv .below)
+
+add-at : tie.Need-add-at Inv-loop μ-loop
+add-at c =
+    omega arith
+
+loop-less : tie.Need-loop-less Inv-loop μ-loop
+loop-less c =
+    omega arith
+
+loop-again : tie.Need-loop-again Inv-loop μ-loop
+loop-again c =
+    escape-moved (c .before .before .before .before .before .before .before .before .before .before .loop .inv) _ _ (c .before .before .before .before .before .before .before .before .before .loop-test .taken) (c .before .before .before .before .before .before .before .before .short-run .ensures) (c .before .before .before .before .before .before .before .if2 .taken) (c .before .before .before .before .before .escape-len .ensures) (c .before .before .before .before .if3 .left) (c .before .before .put-escape .ensures)
+
+sub-n : tie.Need-sub-n Inv-loop μ-loop
+sub-n c =
+    omega (arith, c .before .short-run .ensures)
+
+sub-if4 : tie.Need-sub-if4 Inv-loop μ-loop
+sub-if4 c =
+    omega (arith, c .before .before .before .loop .inv .below)
+
+same-length-3 : tie.Need-same-length-3 Inv-loop μ-loop
+same-length-3 c =
+    kept (c .before .before .before .before .loop .inv) (now (c .before .before .before .before .before .before .before .before .before .before .before .before .args .out)) (c .before .before .before .before .before .before .before .before .put-mark .ensures .1)
+
+returns-3 : tie.Need-returns-3 Inv-loop μ-loop
+returns-3 c =
+    let g : c .before .before .before .before .before .before .before .before .before .before .before .before .args .room < length (quoted (c .before .before .before .before .before .before .before .before .before .before .before .before .args .style) (now (c .before .before .before .before .before .before .before .before .before .before .before .before .args .s))) = omega (arith, run-stuck (c .before .before .before .before .loop .inv) _ (c .before .before .before .loop-test .taken) (c .before .before .short-run .ensures) (c .if4 .taken)) in
+    stopped g
+
+copy-run-requires : tie.Need-copy-run-requires Inv-loop μ-loop
+copy-run-requires c κs =
+    run-inside (c .before .before .before .before .before .loop .inv) _ (c .before .before .before .before .loop-test .taken) (c .before .before .before .short-run .ensures)
+
+add-o-2 : tie.Need-add-o-2 Inv-loop μ-loop
+add-o-2 c =
+    omega (arith, c .before .before .before .before .before .before .before .before .loop .inv .below)
+
+loop-less-2 : tie.Need-loop-less-2 Inv-loop μ-loop
+loop-less-2 c =
+    omega (arith, c .before .before .before .before .before .before .short-run .ensures, run-inside (c .before .before .before .before .before .before .before .before .loop .inv) _ (c .before .before .before .before .before .before .before .loop-test .taken) (c .before .before .before .before .before .before .short-run .ensures))
+
+loop-again-2 : tie.Need-loop-again-2 Inv-loop μ-loop
+loop-again-2 c =
+    run-moved (c .before .before .before .before .before .before .before .before .loop .inv) _ (c .before .before .before .before .before .before .before .loop-test .taken) (c .before .before .before .before .before .before .short-run .ensures) (c .before .before .before .before .if4 .left) (c .before .before .copy-run .ensures)
+
+quote-of-requires : tie.Need-quote-of-requires Inv-loop μ-loop
+quote-of-requires c κs =
+    tt
+
+put-requires : tie.Need-put-requires Inv-loop μ-loop
+put-requires c κs =
+    tt
+
+add-result : tie.Need-add-result Inv-loop μ-loop
+add-result c =
+    omega (arith, c .before .before .before .before .before .before .loop .inv .below)
+
+same-length-4 : tie.Need-same-length-4 Inv-loop μ-loop
+same-length-4 c =
+    ap length (c .before .before .put .ensures) ∙ simp length-set (kept (c .before .before .before .before .before .before .loop .inv) (now (c .before .before .before .before .before .before .before .before .before .before .before .before .before .before .args .out)) (c .before .before .before .before .before .before .before .before .before .before .put-mark .ensures .1))
+
+returns-4 : tie.Need-returns-4 Inv-loop μ-loop
+returns-4 c =
+    let h : length (now (c .before .before .before .before .before .before .before .before .before .before .before .before .before .before .args .s)) ≤ c .before .before .before .before .before .before .loop .at = omega arith in
+    let e = last (c .before .before .before .before .before .before .loop .inv) (now (c .before .before .before .before .before .before .before .before .before .before .before .before .before .before .args .out)) (c .before .before .before .before .before .before .before .before .before .before .put-mark .ensures .1) h (rw (c .before .before .before .before .quote-of .ensures) at (c .before .before .put .ensures)) in
+    finished (omega (arith, e .0, c .before .before .before .before .before .before .loop .inv .below)) (e .0) (e .1)
+
+pub pass-spec : {M : Type 1} → statement M
+pass-spec =
+    tie.close
+    (tie.spec
+    Inv-loop
+    μ-loop
+    put-mark-requires
+    same-length
+    returns
+    sub-cap
+    loop-holds
+    short-run-requires
+    shared-slice-read-x
+    escape-len-requires
+    sub-if3
+    same-length-2
+    returns-2
+    put-escape-requires
+    add-o
+    add-at
+    loop-less
+    loop-again
+    sub-n
+    sub-if4
+    same-length-3
+    returns-3
+    copy-run-requires
+    add-o-2
+    loop-less-2
+    loop-again-2
+    quote-of-requires
+    put-requires
+    add-result
+    same-length-4
+    returns-4)

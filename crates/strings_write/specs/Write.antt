@@ -1,0 +1,55 @@
+-- Writing a J8 string: "one form for each byte string".
+-- Assumes nothing.
+use Prim.Native.Nat.{ℕ, zero, suc, pred, _≤_}
+use mathlib.Core.List.{List, [], _∷_, _++_}
+use mathlib.Core.Path.{_≡_}
+use lib.Dec.{leb}
+use lib.ListN.{length, drop}
+use lib.Seq.{sets}
+use Rattle.prelude.specs.Pick.{pick}
+use Rattle.prelude.specs.Refusals.{noRoom}
+use Rattle.utf8.specs.Utf8.{charLen, validUtf8}
+use Rattle.units.specs.declared.styles.Style.{Style}
+use Rattle.units.specs.declared.styles.Style.the-variants.{Json, Unicode, Bytes}
+use Rattle.units.specs.Styles.{quote}
+use Rattle.units.specs.Written.{written}
+use Rattle.strings_write.specs.declared.answers.Written.{Written}
+use Rattle.strings_write.specs.declared.answers.Written.the-variants.{Wrote, Full}
+
+-- the units of a byte string; k bytes are skipped
+unfoldable pub writeUnits : Style → ℕ → List ℕ → List ℕ
+writeUnits st k [] = []
+writeUnits st zero (x ∷ r) = written st (charLen (x ∷ r)) x r ++ writeUnits st (pred (charLen (x ∷ r))) r
+writeUnits st (suc k) (x ∷ r) = writeUnits st k r
+
+-- the mark that the writer puts before a style's units
+abbrev pub mark : Style → List ℕ
+mark Json = 34 ∷ []
+mark Unicode = 117 ∷ 39 ∷ []
+mark Bytes = 98 ∷ 39 ∷ []
+
+-- the text of a byte string in a style
+unfoldable pub quoted : Style → List ℕ → List ℕ
+quoted st s = mark st ++ (writeUnits st 0 s ++ (quote st ∷ []))
+
+-- "Anything else goes as `b''`"; the form by itself
+abbrev pub writeBytes : List ℕ → List ℕ
+writeBytes s = quoted Bytes s
+
+-- "valid UTF-8 goes as `""`"
+unfoldable pub writeString : List ℕ → List ℕ
+writeString s = pick (validUtf8 s) (quoted Json s) (writeBytes s)
+
+-- the answer for a text in a room: "Writing refuses only with 12"
+unfoldable pub writtenIn : ℕ → List ℕ → Written
+writtenIn room text = pick (leb (length text) room) (Wrote (length text)) (Full noRoom)
+
+-- what a buffer holds afterwards: the text in front of what was there, or all as it was
+unfoldable pub wroteInto : List ℕ → List ℕ → List ℕ
+wroteInto text out = pick (leb (length text) (length out)) (text ++ drop (length text) out) out
+
+-- one pass over the data: the text's length, or 0 where it is longer than the room, and the text stored as far as the buffer reaches.
+-- A text that doesn't fit is never stored, so nothing is promised of it
+pub record Passed (text : List ℕ) (room r : ℕ) (out new : List ℕ) : Type 0 where
+  pub answer : r ≡ pick (leb (length text) room) (length text) 0
+  pub stored : length text ≤ room → new ≡ sets out 0 text

@@ -1,0 +1,3 @@
+// J8 strings, written.
+pub mod answers;
+pub mod write;
