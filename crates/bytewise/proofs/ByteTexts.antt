@@ -22,7 +22,7 @@ use Rattle.utf8.proofs.ByteClasses.{by-byte}
 use Rattle.units.specs.declared.styles.Style.the-variants.{Json}
 use Rattle.units.specs.Escapes.{lookup}
 use Rattle.units.specs.Written.{escapeByte, byNumber, escaped}
-use Rattle.bytewise.specs.Bytewise.{byteText, bytesText, textOf, Unmarked, Texted}
+use Rattle.bytewise.specs.inner.Bytewise.{byteText, bytesText, textOf, Unmarked, Texted}
 
 pub or-none : (a b : Bool) → a ≡ false → b ≡ false → a || b ≡ false
 or-none a b e f = rw (e, f)

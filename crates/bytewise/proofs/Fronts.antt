@@ -13,11 +13,11 @@ use lib.Seq.{sets, set-set, set-comm, drop-cons, drop-drop, take-add, length-tak
 use Rattle.prelude.proofs.Stores.{sets-append, copied}
 use Rattle.units.specs.declared.styles.Style.the-variants.{Json}
 use Rattle.utf8.specs.Utf8.{tail}
-use Rattle.runs.specs.Blocks.{Running, Alone, AllAlone, AllTripled, Begun, owed}
+use Rattle.runs.specs.inner.Blocks.{Running, Alone, AllAlone, AllTripled, Begun, owed}
 use Rattle.runs.proofs.LiteralRuns.{here}
 use Rattle.runs.proofs.BlockLaws.{over-block}
 use Rattle.runs.proofs.ThreeBytes.{over-threes}
-use Rattle.bytewise.specs.Bytewise.{Fronted, Onward, owedAt}
+use Rattle.bytewise.specs.inner.Bytewise.{Fronted, Onward, owedAt}
 
 set-before : (b t : List ℕ) (i j y : ℕ) → j < i → set (sets t i b) j y ≡ sets (set t j y) i b
 set-before [] t i j y h = refl

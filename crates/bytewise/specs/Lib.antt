@@ -1,1 +1,1 @@
-pub mod Bytewise
+pub mod inner

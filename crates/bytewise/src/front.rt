@@ -3,7 +3,7 @@ ghost use Prim.Native.Nat.{_+_, _-_, _≤_};
 ghost use mathlib.Core.Path.{_≡_};
 ghost use lib.ListN.{length, take, drop};
 ghost use lib.Seq.{sets};
-ghost use Rattle.bytewise.specs.Bytewise.{Fronted, Onward, owedAt};
+ghost use Rattle.bytewise.specs.inner.Bytewise.{Fronted, Onward, owedAt};
 use crate::texts;
 use runs::blocks;
 use runs::threes;

@@ -8,7 +8,7 @@ ghost use lib.ListN.{length, getD, take, drop};
 ghost use lib.Seq.{sets};
 ghost use Rattle.prelude.specs.Pick.{pick};
 ghost use Rattle.utf8.specs.Class.{IsTable};
-ghost use Rattle.bytewise.specs.Bytewise.{byteText, NoControl, Unmarked, Texted};
+ghost use Rattle.bytewise.specs.inner.Bytewise.{byteText, NoControl, Unmarked, Texted};
 use units::styles::Style;
 use units::written;
 use utf8::classes;

@@ -5,8 +5,8 @@ use crate::outputs;
 use crate::outputs::Outcome;
 use messages::messages::Message;
 use strings::answers::Decoded;
-use strings_write::answers::Written;
 use strings::read;
+use strings_write::answers::Written;
 use strings_write::write;
 
 // No longer string is read.

@@ -4,7 +4,7 @@ use crate::inputs::Filled;
 use crate::outputs;
 use crate::outputs::Outcome;
 use json8::answers::Parsed;
-use json8::read;
+use json8_read::read;
 use json8_show::show;
 use json8_show::show::Shown;
 use json8_write::answers::WroteTable;

@@ -7,8 +7,8 @@ ghost use Rattle.j8.specs.Results.{readResult, writeResult, linesResult}
 ghost use Rattle.lines_write.specs.Write.{wroteLines, linesInto};
 use lines_write::write::WroteLines;
 use strings::answers::Decoded;
-use strings_write::answers::Written;
 use strings::read;
+use strings_write::answers::Written;
 use strings_write::write;
 
 pub mod tables;

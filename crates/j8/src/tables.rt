@@ -9,7 +9,7 @@ ghost use Rattle.json8_write.specs.Write.{wroteTree, treeInto};
 ghost use Rattle.j8.specs.Tables.{nodesResult, shownResult, tableResult};
 use crate::J8Result;
 use json8::answers::Parsed;
-use json8::read;
+use json8_read::read;
 use json8_show::show;
 use json8_show::show::Shown;
 use json8_write::answers::WroteTable;

@@ -27,7 +27,7 @@ use Rattle.strings.proofs.Runs.{run-law}
 use Rattle.strings.proofs.Steps.{read-skip, read-close, read-fault}
 use Rattle.strings.proofs.Places.{Inside, units-inside}
 use Rattle.json8.specs.Leaves.{slashed}
-use Rattle.json8.specs.Told.{Slashed}
+use Rattle.json8.specs.inner.Slashes.{Slashed}
 
 -- where the bytes stand
 pub slash-append : (a b : List ℕ) → slashed a ≡ false → slashed b ≡ false → slashed (a ++ b) ≡ false

@@ -7,7 +7,7 @@ use native.Mathlib.Omega.{arith}
 use lib.Dec.{ltb}
 use lib.ListN.{length}
 use Rattle.prelude.proofs.Picks.{pick-case}
-use Rattle.strings.specs.Read.{textMax}
+use Rattle.prelude.specs.Limits.{textMax}
 use Rattle.json8.specs.Nodes.{Node, Read, got, refused}
 use Rattle.json8.specs.Values.{value}
 use Rattle.json8.specs.Read.{readAll, fitted, readOf}

@@ -32,10 +32,11 @@ use Rattle.tokens.proofs.Runs.{run-le}
 use Rattle.tokens.proofs.Progress.{Passed, blanks-passed, Begun, start-begun, Sized, number-sized}
 use Rattle.json8.specs.declared.nodes.Sort.{Sort}
 use Rattle.json8.specs.declared.nodes.Sort.the-variants.{Items, Pairs}
-use Rattle.json8.specs.Nodes.{Node, Read, got, refused, Reader, more, chain, seq, nodeMax, limited}
+use Rattle.json8.specs.Nodes.{Node, Read, got, refused, Reader, more, chain, seq, limited}
+use Rattle.prelude.specs.Limits.{nodeMax, depthMax}
 use Rattle.json8.specs.Leaves.{passed, spaces, marked, colon, comma, markLen, slashed, stringNode, stringRead, string, plain, wordRead, word, numberRead, number, keyBy, key}
 use Rattle.json8.specs.Values.{valueBy, valueOf, kindOf, closeOf, memberOf, closeOr, round, again, follow, members, branch, bracketed, opened, value}
-use Rattle.json8.specs.Read.{finish, readAll, depthMax}
+use Rattle.json8.specs.Read.{finish, readAll}
 
 -- at least a bytes taken, and no more than there are; 1,024 nodes at most; no more bytes for the store than taken; a refusal's place in the
 -- text or at its end

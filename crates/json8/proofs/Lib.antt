@@ -1,8 +1,4 @@
 pub mod Fair
-pub mod Joined
-pub mod Members
+pub mod Limited
 pub mod Backslashes
-pub mod Single
-pub mod Choices
-pub mod Whole
 pub mod Claims

@@ -4,7 +4,8 @@ use Prim.Native.Nat.{ℕ, _≤_, _<_}
 use mathlib.Core.List.{List}
 use mathlib.Core.Path.{_≡_}
 use lib.ListN.{length}
-use Rattle.json8.specs.Nodes.{Node, got, refused, nodeMax}
+use Rattle.json8.specs.Nodes.{Node, got, refused}
+use Rattle.prelude.specs.Limits.{nodeMax}
 use Rattle.json8.specs.Values.{value}
 use Rattle.json8.specs.Read.{readAll, readOf}
 

@@ -2,5 +2,5 @@ pub mod Nodes
 pub mod Leaves
 pub mod Values
 pub mod Read
-pub mod Told
 pub mod Claims
+pub mod inner

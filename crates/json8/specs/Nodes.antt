@@ -4,6 +4,7 @@ use Prim.Native.Nat.{ℕ, _+_}
 use mathlib.Core.List.{List, [], _∷_, _++_}
 use lib.Dec.{ltb}
 use lib.ListN.{length, drop}
+use Rattle.prelude.specs.Limits.{nodeMax}
 use Rattle.prelude.specs.Pick.{pick}
 use Rattle.prelude.specs.Refusals.{tooMany}
 
@@ -44,8 +45,5 @@ unfoldable pub seq : Reader → Reader → Reader
 seq a b p n m s = chain (a p n m s) b p n m s
 
 -- "a 1,025th node", at its "token start"
-abbrev pub nodeMax : ℕ
-nodeMax = 1024
-
 unfoldable pub limited : Reader → Reader
 limited a p n m s = pick (ltb n nodeMax) (a p n m s) (refused tooMany p)

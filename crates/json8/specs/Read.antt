@@ -4,9 +4,9 @@ use Prim.Native.Nat.{ℕ}
 use mathlib.Core.List.{List, [], _∷_, _++_}
 use lib.Dec.{ltb}
 use lib.ListN.{length, drop}
+use Rattle.prelude.specs.Limits.{depthMax, textMax}
 use Rattle.prelude.specs.Pick.{pick}
 use Rattle.prelude.specs.Refusals.{tooLong, trailing, noRoom}
-use Rattle.strings.specs.Read.{textMax}
 use Rattle.json8.specs.Nodes.{Read, got, refused, Reader, seq, flat}
 use Rattle.json8.specs.Leaves.{spaces}
 use Rattle.json8.specs.Values.{value}
@@ -18,11 +18,7 @@ unfoldable pub finish : Reader
 finish p n m [] = got 0 0 [] []
 finish p n m (x ∷ r) = refused trailing p
 
--- "32 deep"
-abbrev pub depthMax : ℕ
-depthMax = 32
-
--- the leftmost fault, or what the text holds
+-- the leftmost fault, or what the text holds; brackets may stand "32 deep"
 unfoldable pub readAll : List ℕ → Read
 readAll s = seq spaces (seq (value depthMax) (seq spaces finish)) 0 0 0 s
 

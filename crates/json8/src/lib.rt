@@ -1,7 +1,3 @@
-// JSON8: a text read to a node table, and the strings of a table shown.
+// JSON8 as definitions: the node table, the grammar, and what a text is read to; claims of these, and no code.
 pub mod answers;
-mod leaves;
 pub mod nodes;
-mod quoted;
-pub mod read;
-mod values;

@@ -17,7 +17,8 @@ use Rattle.prelude.proofs.Stores.{sets-append, sets-part}
 use Rattle.prelude.specs.Pick.{pick}
 use Rattle.utf8.specs.Utf8.{validUtf8}
 use Rattle.units.specs.declared.styles.Style.the-variants.{Json, Bytes}
-use Rattle.strings_write.specs.Write.{quoted, writeString, Passed}
+use Rattle.strings_write.specs.Write.{quoted, writeString}
+use Rattle.strings_write.specs.inner.Passes.{Passed}
 use Rattle.strings_write.proofs.Writing.{quoted-positive}
 use Rattle.tokens.specs.Words.{nullWord, falseWord, trueWord}
 use Rattle.trees.specs.Trees.{comma}

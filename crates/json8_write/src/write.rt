@@ -13,7 +13,7 @@ use crate::nodes;
 use crate::rooms;
 use crate::values;
 use json8::nodes::Sort;
-use json8::read;
+use prelude::limits::DEPTH_MAX;
 use prelude::refusals;
 use utf8::classes;
 
@@ -38,7 +38,7 @@ fn pass(
         0,
         1,
         count,
-        read::DEPTH_MAX,
+        DEPTH_MAX,
         Sort::Items,
         room,
         0,

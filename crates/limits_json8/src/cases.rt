@@ -44,7 +44,11 @@ fn answer(text: &[u8], rooms: Rooms, table: &mut [u32], store: &mut [u8]) {
     if store.len() < rooms.bytes {
         return;
     }
-    let answer = json8::read::read(text, &mut table[..rooms.numbers], &mut store[..rooms.bytes]);
+    let answer = json8_read::read::read(
+        text,
+        &mut table[..rooms.numbers],
+        &mut store[..rooms.bytes],
+    );
     print_answer(answer);
 }
 

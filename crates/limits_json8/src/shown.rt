@@ -9,7 +9,10 @@ fn print_head(table: &[u32], node: usize) {
 }
 
 fn print_shown<'a>(table: &[u32], text: &'a [u8], store: &'a [u8], node: usize) {
-    show::print_named(b": ", json8_show::show::shows(table, text, store, node) as usize);
+    show::print_named(
+        b": ",
+        json8_show::show::shows(table, text, store, node) as usize,
+    );
     show::print_runs(json8_show::show::show(table, text, store, node));
     show::end_line();
 }
@@ -112,7 +115,7 @@ fn read_and_shown() {
     let text = b"{a:\"b\\n\",'c':[u'\\u{e9}',\"\",b'\\yff',0],\"\\t\":null}";
     let mut table = [tables::FILL; 52];
     let mut store = [0xaau8; 8];
-    json8::read::read(text, &mut table, &mut store);
+    json8_read::read::read(text, &mut table, &mut store);
     each_node(&table, text, &store);
 }
 

@@ -18,14 +18,15 @@ use Rattle.prelude.proofs.Picks.{pick-case}
 use Rattle.prelude.proofs.Stores.{sets-append, sets-out, sets-over, empty-front, sets-part}
 use Rattle.utf8.specs.Utf8.{validUtf8}
 use Rattle.units.specs.declared.styles.Style.the-variants.{Json, Bytes}
-use Rattle.strings_write.specs.Write.{writeString, Passed}
+use Rattle.strings_write.specs.Write.{writeString}
+use Rattle.strings_write.specs.inner.Passes.{Passed}
 use Rattle.strings_write.proofs.Writing.{quoted-positive}
 use Rattle.lines_write.specs.declared.write.WroteLines.{WroteLines}
 use Rattle.lines_write.specs.declared.write.WroteLines.the-variants.{Wrote, Refused}
 use Rattle.lines.specs.Line.{kindOf}
 use Rattle.lines.specs.Records.{headSize}
 use Rattle.lines_write.specs.Write.{sizeAt, kindAt, payloadAt, sound, soundFrom, linesFrom, wroteLines, linesInto}
-use Rattle.lines_write.specs.Passes.{lineAt, Placed, Filled}
+use Rattle.lines_write.specs.inner.Passes.{lineAt, Placed, Filled}
 
 sound-skip : (k : ℕ) (s : List ℕ) → soundFrom k s ≡ soundFrom 0 (drop k s)
 unfolding soundFrom

@@ -5,7 +5,7 @@ ghost use Prim.Native.Nat.{_+_, _*_, _-_, _<_, _≤_};
 ghost use lib.ListN.{length, getD, drop};
 ghost use Rattle.utf8.specs.Class.{IsTable};
 ghost use Rattle.lines_write.specs.Write.{sound, soundFrom, linesFrom, wroteLines, linesInto};
-ghost use Rattle.lines_write.specs.Passes.{lineAt, Placed, Filled};
+ghost use Rattle.lines_write.specs.inner.Passes.{lineAt, Placed, Filled};
 use lines::read;
 use lines::records::HEAD;
 use prelude::refusals;
@@ -75,7 +75,13 @@ fn put_line(t: &[u8; 256], s: &[u8], at: usize, room: usize, o: usize, out: &mut
     let valid = number_at(s, at, 2) == 1;
     let from = at + HEAD;
     let b = least(o, out.len());
-    let m = strings_write::write::write_part(t, valid, &s[from..from + n], room - o - 1, &mut out[b..]);
+    let m = strings_write::write::write_part(
+        t,
+        valid,
+        &s[from..from + n],
+        room - o - 1,
+        &mut out[b..],
+    );
     if m == 0 {
         return 0;
     }

@@ -1,4 +1,4 @@
--- Byte strings, and texts of ASCII characters as bytes.
+-- Byte strings, and texts of ASCII characters as bytes; the byte that ends a line.
 -- Assumes nothing.
 use Prim.Native.Nat.{ℕ, _<_}
 use Prim.Native.Char.{code}
@@ -15,3 +15,6 @@ IsBytes s = (i : ℕ) → getD s i 0 < 256
 abbrev pub ascii : String → List ℕ
 ascii String.[] = []
 ascii (String._∷_ c s) = code c ∷ ascii s
+
+abbrev pub LF : ℕ
+LF = 10

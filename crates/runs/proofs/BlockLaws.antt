@@ -20,7 +20,7 @@ use Rattle.units.specs.declared.styles.Style.{Style}
 use Rattle.units.specs.declared.styles.Style.the-variants.{Json}
 use Rattle.units.specs.Styles.{quote}
 use Rattle.units.specs.Units.{literalLen}
-use Rattle.runs.specs.Blocks.{Running, Alone, Paired, AllAlone, AllPaired, taken}
+use Rattle.runs.specs.inner.Blocks.{Running, Alone, Paired, AllAlone, AllPaired, taken}
 use Rattle.units.proofs.LiteralClasses.{two-bytes}
 use Rattle.runs.proofs.LiteralRuns.{here, moved}
 

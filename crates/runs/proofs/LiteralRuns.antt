@@ -18,7 +18,7 @@ use Rattle.utf8.proofs.PlainRuns.{run-plain, run-stop, after-eights}
 use Rattle.utf8.proofs.Characters.{char-le}
 use Rattle.units.specs.declared.styles.Style.{Style}
 use Rattle.units.specs.Units.{literalLen, onward, literalRun}
-use Rattle.runs.specs.Blocks.{Running}
+use Rattle.runs.specs.inner.Blocks.{Running}
 use Rattle.units.proofs.LiteralClasses.{literal-class}
 use Rattle.units.proofs.LiteralLaws.{literal-char, run-skip, run-fits, run-ends}
 

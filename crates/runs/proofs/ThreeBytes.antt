@@ -17,7 +17,7 @@ use Rattle.utf8.specs.Utf8.{tail, lowOf, highOf, threeBytes, longLen, lenBy, ch
 use Rattle.units.specs.declared.styles.Style.{Style}
 use Rattle.units.specs.Styles.{quote}
 use Rattle.units.specs.Units.{literalLen}
-use Rattle.runs.specs.Blocks.{Running, Tripled, AllTripled, Begun, owed}
+use Rattle.runs.specs.inner.Blocks.{Running, Tripled, AllTripled, Begun, owed}
 use Rattle.runs.proofs.LiteralRuns.{moved}
 use Rattle.runs.proofs.BlockLaws.{or-left, or-right, same-test, tail-ascii, tail-is, tail-lead, two-len, char-at, one-char}
 

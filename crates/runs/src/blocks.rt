@@ -5,11 +5,11 @@ ghost use Prim.Native.Nat.{ℕ, _+_, _<_, _≤_};
 ghost use lib.ListN.{length, getD, drop};
 ghost use Rattle.utf8.specs.Utf8.{tail};
 ghost use Rattle.units.specs.Units.{literalLen};
-ghost use Rattle.runs.specs.Blocks.{Alone, Paired, AllAlone, AllPaired, Running, taken};
+ghost use Rattle.runs.specs.inner.Blocks.{Alone, Paired, AllAlone, AllPaired, Running, taken};
 use crate::shorts;
+use prelude::slices;
 use units::styles;
 use units::styles::Style;
-use prelude::slices;
 
 // A control, the backslash, the closing quote, or a byte that is not ASCII.
 pub fn odd(q: u8, b: u8) -> bool

@@ -8,11 +8,11 @@ ghost use Rattle.utf8.specs.Utf8.{tail};
 ghost use Rattle.units.specs.declared.styles.Style.{Style};
 ghost use Rattle.units.specs.Styles.{bareClass};
 ghost use Rattle.units.specs.Units.{literalLen, literalRun};
-ghost use Rattle.runs.specs.Blocks.{Running, Ran};
+ghost use Rattle.runs.specs.inner.Blocks.{Running, Ran};
 use crate::blocks;
+use prelude::slices;
 use units::styles;
 use units::styles::Style;
-use prelude::slices;
 use utf8::chars;
 use utf8::classes;
 

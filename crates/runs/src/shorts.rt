@@ -5,7 +5,7 @@ ghost use mathlib.Core.Path.{_≡_};
 ghost use Prim.Native.Nat.{_+_, _<_, _≤_};
 ghost use lib.ListN.{length};
 ghost use Rattle.units.specs.declared.styles.Style.the-variants.{Json};
-ghost use Rattle.runs.specs.Blocks.{Running};
+ghost use Rattle.runs.specs.inner.Blocks.{Running};
 use crate::blocks;
 use crate::literals;
 use units::styles;

@@ -4,7 +4,7 @@ ghost use mathlib.Core.Bool.{true, false};
 ghost use mathlib.Core.Path.{_≡_};
 ghost use Prim.Native.Nat.{_+_, _≤_};
 ghost use lib.ListN.{length, getD};
-ghost use Rattle.runs.specs.Blocks.{Tripled, AllTripled, Begun};
+ghost use Rattle.runs.specs.inner.Blocks.{Tripled, AllTripled, Begun};
 use crate::blocks;
 
 // A byte that stands in no literal character of up to three bytes, or that the next two can't follow.

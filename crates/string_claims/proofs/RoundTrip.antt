@@ -21,7 +21,8 @@ use Rattle.units.specs.Styles.{quote, took}
 use Rattle.units.specs.Units.{unitAt}
 use Rattle.units.specs.Written.{written}
 use Rattle.units.proofs.WrittenBack.{Writes, unit-back}
-use Rattle.strings.specs.Read.{accepted, readUnits, opens, opening, readToken, readString, readText, textMax}
+use Rattle.strings.specs.Read.{accepted, readUnits, opens, opening, readToken, readString, readText}
+use Rattle.prelude.specs.Limits.{textMax}
 use Rattle.strings_write.specs.Write.{writeUnits, mark, quoted, writeString}
 use Rattle.prelude.specs.Bytes.{IsBytes}
 use Rattle.strings.proofs.Steps.{read-skip, read-close, read-took}

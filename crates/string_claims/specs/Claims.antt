@@ -14,7 +14,8 @@ use Rattle.units.specs.declared.styles.Style.{Style}
 use Rattle.units.specs.declared.styles.Style.the-variants.{Unicode}
 use Rattle.units.specs.Styles.{took}
 use Rattle.units.specs.Units.{unitAt}
-use Rattle.strings.specs.Read.{StringRead, accepted, refused, opens, opening, readToken, readString, readText, textMax}
+use Rattle.strings.specs.Read.{StringRead, accepted, refused, opens, opening, readToken, readString, readText}
+use Rattle.prelude.specs.Limits.{textMax}
 use Rattle.strings_write.specs.Write.{writeBytes, writeString}
 
 pub record Example : Type 0 where

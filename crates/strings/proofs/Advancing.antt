@@ -12,7 +12,7 @@ use Rattle.units.specs.Styles.{took}
 use Rattle.units.specs.Units.{unitAt}
 use Rattle.units.proofs.Sizes.{took-size}
 use Rattle.strings.specs.Read.{more, readUnits}
-use Rattle.strings.specs.Turns.{Advanced}
+use Rattle.strings.specs.inner.Turns.{Advanced}
 use Rattle.strings.proofs.Steps.{read-on, more-none, more-more}
 
 pub nothing-yet : (st : Style) (s : List ℕ) (from o : ℕ) (out : List ℕ) → from ≤ length s → Advanced st s from o out from o out

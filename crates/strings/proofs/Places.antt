@@ -17,7 +17,8 @@ use Rattle.units.specs.declared.styles.Style.{Style}
 use Rattle.units.specs.Styles.{StringUnit, close, took, fault}
 use Rattle.units.specs.Units.{unitAt}
 use Rattle.units.proofs.Sizes.{took-size, fault-inside}
-use Rattle.strings.specs.Read.{StringRead, accepted, refused, more, after, whole, fitted, readUnits, Opening, opens, unopened, opening, readFrom, readToken, readString, readText, textMax}
+use Rattle.strings.specs.Read.{StringRead, accepted, refused, more, after, whole, fitted, readUnits, Opening, opens, unopened, opening, readFrom, readToken, readString, readText}
+use Rattle.prelude.specs.Limits.{textMax}
 use Rattle.strings.proofs.Steps.{read-skip}
 
 -- from the place p on, in a text of m bytes

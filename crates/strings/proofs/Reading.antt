@@ -22,8 +22,8 @@ use Rattle.strings.specs.declared.answers.Token.{Token}
 use Rattle.strings.specs.declared.answers.Token.the-variants.{Ended as TokenEnded, Failed as TokenFailed}
 use Rattle.strings.specs.declared.read.Step.{Step}
 use Rattle.strings.specs.declared.read.Step.the-variants.{On, Ended, Failed}
-use Rattle.strings.specs.Read.{StringRead, accepted, refused, more, readUnits, tokenOf, Stored}
-use Rattle.strings.specs.Turns.{stepOf, bytesOf, turnOf, turnBytes, Advanced}
+use Rattle.strings.specs.Read.{StringRead, accepted, refused, more, readUnits, tokenOf}
+use Rattle.strings.specs.inner.Turns.{stepOf, bytesOf, turnOf, turnBytes, Advanced, Stored}
 use Rattle.strings.proofs.Steps.{read-closes, read-fault, read-took, more-none, more-more}
 use Rattle.strings.proofs.Runs.{run-law}
 

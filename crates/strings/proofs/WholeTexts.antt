@@ -17,7 +17,7 @@ use Rattle.units.specs.declared.styles.Style.{Style}
 use Rattle.units.specs.declared.styles.Style.the-variants.{Json, Unicode, Bytes}
 use Rattle.units.specs.Styles.{quote, StringUnit, close}
 use Rattle.units.specs.Units.{unitAt, literalLen, literalRun}
-use Rattle.runs.specs.Blocks.{Running}
+use Rattle.runs.specs.inner.Blocks.{Running}
 use Rattle.units.proofs.LiteralLaws.{run-fits, run-utf8}
 use Rattle.runs.proofs.LiteralRuns.{stopped}
 use Rattle.strings.specs.declared.answers.Decoded.{Decoded}
@@ -26,8 +26,9 @@ use Rattle.strings.specs.declared.answers.Token.{Token}
 use Rattle.strings.specs.declared.answers.Token.the-variants.{Ended, Failed}
 use Rattle.strings.specs.declared.read.Mark.{Mark}
 use Rattle.strings.specs.declared.read.Mark.the-variants.{Opens, Unopened}
-use Rattle.strings.specs.Read.{StringRead, accepted, refused, more, readUnits, Opening, opens, unopened, opening, readFrom, readToken, readString, readText, textMax, whole, fitted, decodedOf, tokenOf, readInto, Stored}
-use Rattle.strings.specs.Turns.{openingOf, Closed}
+use Rattle.strings.specs.Read.{StringRead, accepted, refused, more, readUnits, Opening, opens, unopened, opening, readFrom, readToken, readString, readText, whole, fitted, decodedOf, tokenOf, readInto}
+use Rattle.prelude.specs.Limits.{textMax}
+use Rattle.strings.specs.inner.Turns.{openingOf, Closed, Stored}
 use Rattle.strings.proofs.Places.{Marked, opening-fits}
 use Rattle.strings.proofs.Steps.{read-skip, read-closes}
 use Rattle.strings.proofs.Runs.{run-law}

@@ -4,10 +4,9 @@
 use Prim.Native.Nat.{ℕ, zero, suc, pred, _+_}
 use mathlib.Core.Bool.{_&&_}
 use mathlib.Core.List.{List, [], _∷_, _++_}
-use mathlib.Core.Path.{_≡_}
 use lib.Dec.{ltb, eqb}
 use lib.ListN.{length, getD, drop}
-use lib.Seq.{sets}
+use Rattle.prelude.specs.Limits.{textMax}
 use Rattle.prelude.specs.Pick.{pick}
 use Rattle.prelude.specs.Refusals.{tooLong, noOpening, cutOff, trailing, noRoom}
 use Rattle.units.specs.declared.styles.Style.{Style}
@@ -76,11 +75,7 @@ abbrev pub fitted : ℕ → StringRead → StringRead
 fitted room (accepted bs e) = pick (ltb room (length bs)) (refused noRoom 0) (accepted bs e)
 fitted room (refused number at) = refused number at
 
--- "string .. text over 32,768 bytes (0)"
-abbrev pub textMax : ℕ
-textMax = 32768
-
--- a whole text, read into a room of so many bytes: "2 on whole texts, then the leftmost fault in the text, then 12"
+-- a whole text, read into a room of so many bytes: "string .. text over 32,768 bytes (0)"; "2 on whole texts, then the leftmost fault in the text, then 12"
 unfoldable pub readText : ℕ → List ℕ → StringRead
 readText room s = pick (ltb textMax (length s)) (refused tooLong 0) (fitted room (readString s))
 
@@ -97,9 +92,3 @@ tokenOf (refused number at) = Failed number at
 abbrev pub readInto : StringRead → List ℕ → List ℕ
 readInto (accepted bs e) out = bs ++ drop (length bs) out
 readInto (refused number at) out = out
-
--- what a token reader stores: the bytes denoted, each if there is room for it. It is lent a part without room until the text is
--- known to be right, so nothing is promised of a refused text
-abbrev pub Stored : StringRead → List ℕ → List ℕ → Type 0
-Stored (accepted bs e) out new = new ≡ sets out 0 bs
-Stored (refused number at) out new = Unit

@@ -6,13 +6,14 @@ ghost use lib.ListN.{length, drop};
 ghost use lib.Seq.{sets};
 ghost use Rattle.utf8.specs.Class.{IsTable};
 ghost use Rattle.utf8.specs.Utf8.{fewOf};
-ghost use Rattle.runs.specs.Blocks.{Running};
+ghost use Rattle.runs.specs.inner.Blocks.{Running};
 ghost use Rattle.units.specs.Units.{unitAt, literalRun};
-ghost use Rattle.strings.specs.Read.{opening, readUnits, readToken, readString, readText, fitted, decodedOf, tokenOf, readInto, Stored};
-ghost use Rattle.strings.specs.Turns.{openingOf, readBehind, stepOf, bytesOf, turnOf, turnBytes, Closed};
+ghost use Rattle.strings.specs.Read.{opening, readUnits, readToken, readString, readText, fitted, decodedOf, tokenOf, readInto};
+ghost use Rattle.strings.specs.inner.Turns.{openingOf, readBehind, stepOf, bytesOf, turnOf, turnBytes, Closed, Stored};
 use crate::answers::Decoded;
 use crate::answers::Token;
 use crate::singles;
+use prelude::limits::TEXT_MAX;
 use prelude::refusals;
 use prelude::slices;
 use runs::blocks;
@@ -22,9 +23,6 @@ use units::styles::Style;
 use units::styles::Unit;
 use utf8::classes;
 use utf8::encoding::Few;
-
-// The longest text that `read` takes.
-pub const TEXT_MAX: usize = 32768;
 
 // An opening mark: its style and its length.
 pub enum Mark {

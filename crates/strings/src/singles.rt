@@ -2,7 +2,7 @@
 ghost use Prim.Native.Nat.{_<_, _≤_};
 ghost use lib.ListN.{length};
 ghost use Rattle.utf8.specs.Class.{IsTable};
-ghost use Rattle.strings.specs.Turns.{Advanced};
+ghost use Rattle.strings.specs.inner.Turns.{Advanced};
 use prelude::slices;
 use units::singles;
 use units::styles::Style;

@@ -9,13 +9,14 @@ use lib.ListN.{length, take, drop, set, length-append, length-drop, drop-of-leng
 use lib.Seq.{sets, take-add, take-length, drop-drop, length-take-le}
 use Rattle.prelude.proofs.Stores.{sets-append}
 use Rattle.utf8.specs.Utf8.{validFrom, validUtf8}
-use Rattle.utf8.specs.Checks.{Checked}
+use Rattle.utf8.specs.inner.Checks.{Checked}
 use Rattle.units.specs.declared.styles.Style.the-variants.{Json, Bytes}
 use Rattle.units.specs.Units.{literalRun}
-use Rattle.runs.specs.Blocks.{Running}
+use Rattle.runs.specs.inner.Blocks.{Running}
 use Rattle.units.proofs.LiteralLaws.{run-fits, run-valid}
-use Rattle.strings_write.specs.Write.{writeUnits, quoted, writeString, Passed}
-use Rattle.bytewise.specs.Bytewise.{bytesText, textOf, Texted, Fronted}
+use Rattle.strings_write.specs.Write.{writeUnits, quoted, writeString}
+use Rattle.strings_write.specs.inner.Passes.{Passed}
+use Rattle.bytewise.specs.inner.Bytewise.{bytesText, textOf, Texted, Fronted}
 use Rattle.strings_write.proofs.WriteLengths.{quoted-length, quoted-least}
 use Rattle.strings_write.proofs.WriteSteps.{write-run}
 use Rattle.bytewise.proofs.Fronts.{sets-again}

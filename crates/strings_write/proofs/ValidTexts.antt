@@ -20,7 +20,7 @@ use Rattle.units.specs.Written.{escapeByte}
 use Rattle.units.proofs.LiteralLaws.{literal-char, literal-written}
 use Rattle.units.proofs.EscapeStores.{escape-written}
 use Rattle.strings_write.specs.Write.{writeUnits}
-use Rattle.bytewise.specs.Bytewise.{byteText, bytesText}
+use Rattle.bytewise.specs.inner.Bytewise.{byteText, bytesText}
 use Rattle.bytewise.proofs.ByteTexts.{or-none, unslashed}
 use Rattle.strings_write.proofs.WriteSteps.{write-skip}
 

@@ -19,14 +19,15 @@ use Rattle.units.specs.declared.styles.Style.the-variants.{Json, Bytes}
 use Rattle.units.specs.Styles.{quote}
 use Rattle.units.specs.Units.{literalLen, literalRun}
 use Rattle.units.specs.Written.{escapeByte}
-use Rattle.runs.specs.Blocks.{Running}
+use Rattle.runs.specs.inner.Blocks.{Running}
 use Rattle.units.proofs.LiteralLaws.{run-fits, run-ends, run-valid, all-literal}
 use Rattle.runs.proofs.LiteralRuns.{at-end}
 use Rattle.units.proofs.EscapeStores.{escape-written}
 use Rattle.units.proofs.WrittenUnits.{limit}
 use Rattle.strings_write.specs.declared.answers.Written.{Written}
 use Rattle.strings_write.specs.declared.answers.Written.the-variants.{Wrote, Full}
-use Rattle.strings_write.specs.Write.{writeUnits, mark, quoted, writeString, writtenIn, wroteInto, Passed}
+use Rattle.strings_write.specs.Write.{writeUnits, mark, quoted, writeString, writtenIn, wroteInto}
+use Rattle.strings_write.specs.inner.Passes.{Passed}
 use Rattle.strings_write.proofs.WriteLengths.{quoted-length}
 use Rattle.strings_write.proofs.WriteSteps.{write-skip}
 use Rattle.strings_write.proofs.WriteSteps.{write-run}

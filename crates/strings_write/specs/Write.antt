@@ -1,11 +1,9 @@
 -- Writing a J8 string: "one form for each byte string".
 -- Assumes nothing.
-use Prim.Native.Nat.{ℕ, zero, suc, pred, _≤_}
+use Prim.Native.Nat.{ℕ, zero, suc, pred}
 use mathlib.Core.List.{List, [], _∷_, _++_}
-use mathlib.Core.Path.{_≡_}
 use lib.Dec.{leb}
 use lib.ListN.{length, drop}
-use lib.Seq.{sets}
 use Rattle.prelude.specs.Pick.{pick}
 use Rattle.prelude.specs.Refusals.{noRoom}
 use Rattle.utf8.specs.Utf8.{charLen, validUtf8}
@@ -47,9 +45,3 @@ writtenIn room text = pick (leb (length text) room) (Wrote (length text)) (Full 
 -- what a buffer holds afterwards: the text in front of what was there, or all as it was
 unfoldable pub wroteInto : List ℕ → List ℕ → List ℕ
 wroteInto text out = pick (leb (length text) (length out)) (text ++ drop (length text) out) out
-
--- one pass over the data: the text's length, or 0 where it is longer than the room, and the text stored as far as the buffer reaches.
--- A text that doesn't fit is never stored, so nothing is promised of it
-pub record Passed (text : List ℕ) (room r : ℕ) (out new : List ℕ) : Type 0 where
-  pub answer : r ≡ pick (leb (length text) room) (length text) 0
-  pub stored : length text ≤ room → new ≡ sets out 0 text

@@ -12,7 +12,7 @@ use Rattle.prelude.specs.Pick.{pick}
 use Rattle.strings.specs.declared.read.Mark.{Mark as Opener}
 use Rattle.strings.specs.declared.read.Mark.the-variants.{Opens, Unopened}
 use Rattle.strings.specs.Read.{opens, unopened, opening}
-use Rattle.strings.specs.Turns.{openingOf}
+use Rattle.strings.specs.inner.Turns.{openingOf}
 use Rattle.units.specs.declared.styles.Style.{Style}
 use Rattle.tokens.specs.declared.starts.Start.the-variants.{Ended, String, Word, Number, List as ListStart, Dict, Nothing}
 use Rattle.tokens.specs.declared.starts.Mark.the-variants.{Close, Separator, Fault}

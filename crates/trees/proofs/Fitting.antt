@@ -18,8 +18,8 @@ use Rattle.json8.specs.declared.nodes.Sort.{Sort}
 use Rattle.json8.specs.declared.nodes.Sort.the-variants.{Items, Pairs}
 use Rattle.json8_show.specs.declared.show.Shown.{Shown}
 use Rattle.json8_show.specs.declared.show.Shown.the-variants.{InText, InStore, Nowhere}
-use Rattle.json8.specs.Nodes.{Node, nodeMax}
-use Rattle.json8.specs.Read.{depthMax}
+use Rattle.json8.specs.Nodes.{Node}
+use Rattle.prelude.specs.Limits.{nodeMax, depthMax}
 use Rattle.json8_show.specs.Show.{shownBy}
 use Rattle.trees.specs.Trees.{Label, Tree, null, bool, number, string, branch, Members, none, one}
 use Rattle.trees.specs.Tables.{Maybe, just, countAt, bytesOf, stringOf, numberOf, scalarOf, leafOf, labelSize, labelAt, memberSize, TreeReader, membersAt, treeFrom, grouped, treeAt, treeOf}

@@ -30,10 +30,11 @@ use Rattle.tokens.specs.Starts.{startOf, colonAt, commaAt}
 use Rattle.tokens.proofs.Progress.{Begun, start-begun}
 use Rattle.json8.specs.declared.nodes.Sort.{Sort}
 use Rattle.json8.specs.declared.nodes.Sort.the-variants.{Items, Pairs}
-use Rattle.json8.specs.Nodes.{Node, node, Read, got, refused, Reader, more, chain, seq, nodeMax, limited}
+use Rattle.json8.specs.Nodes.{Node, node, Read, got, refused, Reader, more, chain, seq, limited}
+use Rattle.prelude.specs.Limits.{nodeMax, depthMax}
 use Rattle.json8.specs.Leaves.{passed, spaces, marked, colon, comma, string, plain, wordRead, word, number, keyBy, key}
 use Rattle.json8.specs.Values.{valueBy, valueOf, kindOf, closeOf, memberOf, closeOr, round, again, follow, members, branch as branched, bracketed, opened, value}
-use Rattle.json8.specs.Read.{finish, depthMax, readAll}
+use Rattle.json8.specs.Read.{finish, readAll}
 use Rattle.json8.proofs.Fair.{members-skip}
 use Rattle.trees.specs.Trees.{Label, Tree, string as stringTree, number as numberTree, branch, Members, none, one}
 use Rattle.trees.proofs.DenotedBytes.{bytes-none, bytes-append, token-bytes}

@@ -11,13 +11,13 @@ use borrow.Author.Tests.{le-ltb, ltb-false, le-leb}
 use Rattle.prelude.specs.Pick.{pick}
 use Rattle.prelude.proofs.Cases.{split, never}
 use Rattle.prelude.specs.Bytes.{IsBytes}
-use Rattle.strings.specs.Read.{textMax}
+use Rattle.prelude.specs.Limits.{textMax, nodeMax, depthMax}
 use Rattle.tokens.specs.Blanks.{blanksFrom}
 use Rattle.json8.specs.declared.answers.Parsed.the-variants.{Done}
-use Rattle.json8.specs.Nodes.{Node, Read, got, refused, seq, flat, nodeMax}
+use Rattle.json8.specs.Nodes.{Node, Read, got, refused, seq, flat}
 use Rattle.json8.specs.Leaves.{spaces}
 use Rattle.json8.specs.Values.{value}
-use Rattle.json8.specs.Read.{depthMax, finish, readAll, fitted, readOf, parsedOf}
+use Rattle.json8.specs.Read.{finish, readAll, fitted, readOf, parsedOf}
 use Rattle.json8.proofs.Claims.{tables-fit}
 use Rattle.trees.specs.Trees.{Tree, render}
 use Rattle.trees.specs.Tables.{just, nodesIn, treeOf}

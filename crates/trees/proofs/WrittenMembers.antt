@@ -21,11 +21,12 @@ use Rattle.tokens.specs.Numbers.{isE, isSign, isNumber}
 use Rattle.tokens.specs.Starts.{startOf, colonAt, commaAt}
 use Rattle.json8.specs.declared.nodes.Sort.{Sort}
 use Rattle.json8.specs.declared.nodes.Sort.the-variants.{Items, Pairs}
-use Rattle.json8.specs.Nodes.{Node, got, Reader, seq, nodeMax}
+use Rattle.json8.specs.Nodes.{Node, got, Reader, seq}
+use Rattle.prelude.specs.Limits.{nodeMax}
 use Rattle.json8.specs.Leaves.{spaces, marked, colon, comma, string, keyBy, key}
 use Rattle.json8.specs.Values.{closeOf, memberOf, closeOr, round, again, members, value}
 use Rattle.json8.proofs.Fair.{members-skip}
-use Rattle.json8.proofs.Single.{limited-free}
+use Rattle.json8.proofs.Limited.{limited-free}
 use Rattle.trees.specs.Trees.{Label, Tree, Members, none, one, renderLabel, render, renderMembers}
 use Rattle.trees.specs.Tables.{labelSize}
 use Rattle.trees.specs.Sound.{SoundLabel, sizeOf, sizesOf}

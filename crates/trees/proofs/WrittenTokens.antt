@@ -24,10 +24,11 @@ use Rattle.tokens.specs.Numbers.{isNumber, numberKind, numberOf}
 use Rattle.tokens.specs.Starts.{startOf}
 use Rattle.tokens.proofs.Runs.{run-none}
 use Rattle.json8.specs.declared.nodes.Sort.the-variants.{Items, Pairs}
-use Rattle.json8.specs.Nodes.{Node, node, got, Reader, seq, nodeMax}
+use Rattle.json8.specs.Nodes.{Node, node, got, Reader, seq}
+use Rattle.prelude.specs.Limits.{nodeMax}
 use Rattle.json8.specs.Leaves.{string, plain, word}
 use Rattle.json8.specs.Values.{valueBy, valueOf, opened, value}
-use Rattle.json8.proofs.Single.{limited-free}
+use Rattle.json8.proofs.Limited.{limited-free}
 use Rattle.trees.specs.Trees.{Tree, null, bool, number as numberTree, string as stringTree, render}
 use Rattle.trees.specs.Claims.{Stops}
 use Rattle.trees.proofs.Firsts.{solid, begins, Heads}

@@ -14,9 +14,10 @@ use Rattle.tokens.specs.Words.{isLetter}
 use Rattle.tokens.specs.Starts.{startOf}
 use Rattle.json8.specs.declared.nodes.Sort.{Sort}
 use Rattle.json8.specs.declared.nodes.Sort.the-variants.{Items, Pairs}
-use Rattle.json8.specs.Nodes.{node, nodeMax}
+use Rattle.json8.specs.Nodes.{node}
+use Rattle.prelude.specs.Limits.{nodeMax}
 use Rattle.json8.specs.Values.{valueOf, kindOf, closeOf, memberOf, members, branch as branched, bracketed, opened, value}
-use Rattle.json8.proofs.Single.{limited-free}
+use Rattle.json8.proofs.Limited.{limited-free}
 use Rattle.trees.specs.Trees.{Tree, null, bool, number as numberTree, string as stringTree, branch, Members, none, one, openOf, render, renderMembers}
 use Rattle.trees.specs.Sound.{SoundTo, SoundMembers, sizeOf, sizesOf}
 use Rattle.trees.specs.Claims.{Stops}

@@ -6,13 +6,13 @@ use mathlib.Core.List.{List, [], _∷_, _++_}
 use mathlib.Core.Path.{_≡_}
 use lib.ListN.{length}
 use Rattle.prelude.specs.Bytes.{IsBytes}
-use Rattle.strings.specs.Read.{textMax}
+use Rattle.prelude.specs.Limits.{textMax, depthMax}
 use Rattle.tokens.specs.Words.{isWord}
 use Rattle.tokens.specs.Numbers.{isNumber}
 use Rattle.json8.specs.declared.answers.Parsed.the-variants.{Done}
 use Rattle.json8.specs.Nodes.{Node, Read, got, refused}
 use Rattle.json8.specs.Values.{value}
-use Rattle.json8.specs.Read.{depthMax, readAll, readOf, parsedOf, tableAfter, storeAfter}
+use Rattle.json8.specs.Read.{readAll, readOf, parsedOf, tableAfter, storeAfter}
 use Rattle.trees.specs.Trees.{Tree, render}
 use Rattle.trees.specs.Tables.{Maybe, just, unfit, nodesIn, countAt, treeOf}
 use Rattle.trees.specs.Sound.{Sound, sizeOf}

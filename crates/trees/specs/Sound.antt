@@ -8,8 +8,7 @@ use Rattle.prelude.specs.Bytes.{IsBytes}
 use Rattle.tokens.specs.Numbers.{numberKind}
 use Rattle.json8.specs.declared.nodes.Sort.{Sort}
 use Rattle.json8.specs.declared.nodes.Sort.the-variants.{Items, Pairs}
-use Rattle.json8.specs.Nodes.{nodeMax}
-use Rattle.json8.specs.Read.{depthMax}
+use Rattle.prelude.specs.Limits.{nodeMax, depthMax}
 use Rattle.trees.specs.Trees.{Label, Tree, null, bool, number, string, branch, Members, none, one}
 use Rattle.trees.specs.Tables.{labelSize}
 

@@ -14,8 +14,8 @@ use Rattle.json8.specs.declared.nodes.Sort.{Sort}
 use Rattle.json8.specs.declared.nodes.Sort.the-variants.{Items, Pairs}
 use Rattle.json8_show.specs.declared.show.Shown.{Shown}
 use Rattle.json8_show.specs.declared.show.Shown.the-variants.{InText, InStore, Nowhere}
-use Rattle.json8.specs.Nodes.{Node, node, nodeMax}
-use Rattle.json8.specs.Read.{depthMax}
+use Rattle.json8.specs.Nodes.{Node, node}
+use Rattle.prelude.specs.Limits.{nodeMax, depthMax}
 use Rattle.json8_show.specs.Show.{shownBy}
 use Rattle.trees.specs.Trees.{Label, Tree, null, bool, number, string, branch, Members, none, one}
 

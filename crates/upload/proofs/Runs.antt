@@ -14,7 +14,9 @@ use lib.Seq.{sets, take-add, drop-cons}
 use Rattle.prelude.specs.Pick.{pick}
 use Rattle.prelude.proofs.Cases.{split}
 use Rattle.upload.specs.declared.uploads.Upload.{Upload}
-use Rattle.upload.specs.Lines.{LF, uploadLimit, lineLimit, Whole}
+use Rattle.upload.specs.Lines.{Whole}
+use Rattle.prelude.specs.Bytes.{LF}
+use Rattle.prelude.specs.Limits.{uploadMax, lineMax}
 use Rattle.upload.specs.Calls.{stored, feedByte, feedBytes, whole, lineRun, NoLF, storedRun}
 use Rattle.upload.proofs.Step.{state-path, whole-path}
 use Rattle.upload.proofs.Values.{byte-kept, byte-stored}
@@ -83,7 +85,7 @@ one-run s line out x n xs =
     (ap (λ (k : ℕ). sets (set line (s .held) x) k xs) (sym (add-one (s .held))))
     refl
 
-pub bytes-run : (n : ℕ) (r : List ℕ) (s : Upload) (line out : List ℕ) → n ≤ lineRun r → s .refusal ≡ 0 → s .held + n ≤ lineLimit → s .taken + n ≤ uploadLimit
+pub bytes-run : (n : ℕ) (r : List ℕ) (s : Upload) (line out : List ℕ) → n ≤ lineRun r → s .refusal ≡ 0 → s .held + n ≤ lineMax → s .taken + n ≤ uploadMax
     → storedRun (whole s line out) n (take n r) ≡ feedBytes (whole s line out) (take n r)
 bytes-run zero r s line out h e a b = none-run s line out ∙ sym (bytes-nil (whole s line out))
 bytes-run (suc n) [] s line out h e a b = let z : lineRun [] ≡ 0 = run-nil in absurd (let q : ⊥ = omega arith in q)
@@ -98,7 +100,7 @@ bytes-run (suc n) (x ∷ r) s line out h e a b =
 
 -- a run behind the bytes taken
 pub run-next : (m : Whole) (piece : List ℕ) (i a : ℕ) (s : Upload) (line out : List ℕ) → whole s line out ≡ feedBytes m (take i piece)
-    → a ≤ lineRun (drop i piece) → s .refusal ≡ 0 → s .held + a ≤ lineLimit → s .taken + a ≤ uploadLimit
+    → a ≤ lineRun (drop i piece) → s .refusal ≡ 0 → s .held + a ≤ lineMax → s .taken + a ≤ uploadMax
     → (v : Whole) → v ≡ storedRun (whole s line out) a (take a (drop i piece)) → v ≡ feedBytes m (take (i + a) piece)
 run-next m piece i a s line out w h e x y v q =
     q ∙ bytes-run a (drop i piece) s line out h e x y

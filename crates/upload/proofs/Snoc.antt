@@ -11,7 +11,8 @@ use lib.ListN.{length, take, getD, set, length-append, List·getD-append, List·
 use lib.Seq.{take-append-le, getD-at}
 use Rattle.prelude.specs.Pick.{pick}
 use Rattle.lines.specs.Records.{lineRecord, Fault, none, refuse}
-use Rattle.upload.specs.Lines.{LF, Cut, headed, cut, countLF, records, faultAt, Stop, orElse, firstFrom, firstFault, lastAt, lineBuffer}
+use Rattle.upload.specs.Lines.{Cut, headed, cut, countLF, records, faultAt, Stop, orElse, firstFrom, firstFault, lastAt, lineBuffer}
+use Rattle.prelude.specs.Bytes.{LF}
 
 -- the last byte is an LF, or not
 abbrev pub shut : Cut → Cut

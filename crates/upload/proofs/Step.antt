@@ -18,7 +18,9 @@ use Rattle.lines.specs.Line.{LineRead, ignored, holds, faulty, readLine}
 use Rattle.lines.proofs.Refusing.{refusing}
 use Rattle.lines.specs.Records.{recordOf, recordBy, lineRecord, Fault, none, refuse, faultBy, lineFault, putAt}
 use Rattle.upload.specs.declared.uploads.Upload.{Upload}
-use Rattle.upload.specs.Lines.{LF, uploadLimit, lineLimit, cut, records, faultBehind, faultAt, Stop, orElse, firstFrom, firstFault, front, Whole, left, byStop, j8Lines}
+use Rattle.upload.specs.Lines.{cut, records, faultBehind, faultAt, Stop, orElse, firstFrom, firstFault, front, Whole, left, byStop, j8Lines}
+use Rattle.prelude.specs.Bytes.{LF}
+use Rattle.prelude.specs.Limits.{uploadMax, lineMax}
 use Rattle.upload.specs.Calls.{refused, stored, heldLine, appended, byteFault, byteBy, feedByte}
 use Rattle.upload.proofs.Snoc.{cut-lf, cut-byte, count-snoc, records-snoc, buffer-shut, buffer-set, buffer-held, first-snoc, none-end, stop-inside}
 
@@ -75,9 +77,9 @@ line-nonzero room used l = line-nonzero-by room used (readLine l) (refusing l)
 behind-nonzero : (room : ℕ) (t : List ℕ) (b : ℕ) → NonZero (faultBehind room t b)
 unfolding faultBehind pick
 behind-nonzero room t b =
-    pick-nonzero (eqb (length t) uploadLimit) _ _ refl
+    pick-nonzero (eqb (length t) uploadMax) _ _ refl
     (pick-nonzero (eqb b LF) _ _ (line-nonzero room (length (records (cut t .closed))) (cut t .openLine))
-    (pick-nonzero (eqb (length (cut t .openLine)) lineLimit) (refuse tooLong lineLimit) none refl tt))
+    (pick-nonzero (eqb (length (cut t .openLine)) lineMax) (refuse tooLong lineMax) none refl tt))
 
 else-nonzero : (p : ℕ) (f : Fault) (s : Stop) → NonZero f → NonZero (s .why) → NonZero (orElse p f s .why)
 else-nonzero p none s a b = b
@@ -100,8 +102,8 @@ front-length rs out h = omega (arith, length-append rs (drop (length rs) out), l
 -- What is known where nothing is refused.
 pub record Sound (t line out : List ℕ) : Type 0 where
   pub room : length (records (cut t .closed)) ≤ length out
-  pub short : length (cut t .openLine) ≤ lineLimit
-  pub large : lineLimit ≤ length line
+  pub short : length (cut t .openLine) ≤ lineMax
+  pub large : lineMax ≤ length line
 
 module _ (t line out : List ℕ) (b : ℕ) (s : Sound t line out) where
   pub held-open : heldLine (standing t none line out) ≡ cut t .openLine
@@ -179,13 +181,13 @@ defined-refused t line out n p e = rw e
 
 -- What the calls keep.
 pub record Ok (line out : List ℕ) (m : Whole) : Type 0 where
-  pub held : m .state .held ≤ lineLimit
-  pub taken : m .state .taken ≤ uploadLimit
+  pub held : m .state .held ≤ lineMax
+  pub taken : m .state .taken ≤ uploadMax
   pub lfs : m .state .lfs ≤ m .state .taken
   pub used : m .state .used ≤ length out
   pub room : length (m .out) ≡ length out
   pub wide : length (m .line) ≡ length line
-  pub large : lineLimit ≤ length line
+  pub large : lineMax ≤ length line
 
 pub nonzero-at : (room : ℕ) (t : List ℕ) (n p : ℕ) → firstFault room t .why ≡ refuse n p → eqb n 0 ≡ false
 nonzero-at room t n p e = subst NonZero e (first-nonzero room t (length t) 0)
@@ -229,8 +231,8 @@ module _ (line out : List ℕ) (m : Whole) (b : ℕ) (k : Ok line out m) where
   ok-none : byteFault m b ≡ none → (t : Bool) → eqb b LF ≡ t → Ok line out (pick t (appended m (lineRecord (heldLine m))) (stored m b))
   unfolding pick
   ok-none e true q =
-      let a = pick-none (eqb (m .state .taken) uploadLimit) _ _ _ e in
-      let ne : m .state .taken ≡ uploadLimit → ⊥ = eqb-false _ _ (a .0) in
+      let a = pick-none (eqb (m .state .taken) uploadMax) _ _ _ e in
+      let ne : m .state .taken ≡ uploadMax → ⊥ = eqb-false _ _ (a .0) in
       let f : lineFault (length (m .out)) (m .state .used) (heldLine m) ≡ none = rw q at (a .1) in
       let fits : m .state .used + length (lineRecord (heldLine m)) ≤ length out =
       omega (arith, line-fits (length (m .out)) (m .state .used) (heldLine m) (omega (arith, k .used, k .room)) f, k .room) in
@@ -244,10 +246,10 @@ module _ (line out : List ℕ) (m : Whole) (b : ℕ) (k : Ok line out m) where
         large = k .large;
       }
   ok-none e false q =
-      let a = pick-none (eqb (m .state .taken) uploadLimit) _ _ _ e in
-      let ne : m .state .taken ≡ uploadLimit → ⊥ = eqb-false _ _ (a .0) in
-      let f : pick (eqb (m .state .held) lineLimit) (refuse tooLong lineLimit) none ≡ none = rw q at (a .1) in
-      let nh : m .state .held ≡ lineLimit → ⊥ = eqb-false _ _ (pick-none (eqb (m .state .held) lineLimit) tooLong lineLimit none f .0) in
+      let a = pick-none (eqb (m .state .taken) uploadMax) _ _ _ e in
+      let ne : m .state .taken ≡ uploadMax → ⊥ = eqb-false _ _ (a .0) in
+      let f : pick (eqb (m .state .held) lineMax) (refuse tooLong lineMax) none ≡ none = rw q at (a .1) in
+      let nh : m .state .held ≡ lineMax → ⊥ = eqb-false _ _ (pick-none (eqb (m .state .held) lineMax) tooLong lineMax none f .0) in
       record {
         held = omega (arith, k .held, nh);
         taken = omega (arith, k .taken, ne);

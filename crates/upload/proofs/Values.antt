@@ -16,29 +16,31 @@ use Rattle.prelude.proofs.Cases.{split, and-left, and-right}
 use Rattle.lines.specs.Records.{Fault, none, refuse, lineFault, putAt, Appended, appendBy, appendLine}
 use Rattle.upload.specs.declared.uploads.Upload.{Upload}
 use Rattle.upload.specs.declared.uploads.Answer.{Answer}
-use Rattle.upload.specs.Lines.{LF, uploadLimit, lineLimit, Whole}
+use Rattle.upload.specs.Lines.{Whole}
+use Rattle.prelude.specs.Bytes.{LF}
+use Rattle.prelude.specs.Limits.{uploadMax, lineMax}
 use Rattle.upload.specs.Calls.{keeping, stored, behindLF, atEnd, byteBy, feedByte, feedBytes, finishBy, finishAll, fitBy, fit, plain, answerOf, stopBy, stop, guarded, feed, finish, whole, Fit}
 use Rattle.upload.proofs.Step.{line-fits, NonZero, line-nonzero, Ok}
 use Rattle.upload.proofs.WholeList.{ok-bytes}
 
 -- is_fit
-pub fit-rest : (s : Upload) (line out : ℕ) → lineLimit ≤ line → s .held ≤ lineLimit → s .taken ≤ uploadLimit → s .lfs ≤ s .taken → leb (s .used) out ≡ fitBy s line out
+pub fit-rest : (s : Upload) (line out : ℕ) → lineMax ≤ line → s .held ≤ lineMax → s .taken ≤ uploadMax → s .lfs ≤ s .taken → leb (s .used) out ≡ fitBy s line out
 unfolding fitBy pick
-fit-rest s line out a b c d = rw (le-leb lineLimit line a, le-leb (s .held) lineLimit b, le-leb (s .taken) uploadLimit c, le-leb (s .lfs) (s .taken) d)
+fit-rest s line out a b c d = rw (le-leb lineMax line a, le-leb (s .held) lineMax b, le-leb (s .taken) uploadMax c, le-leb (s .lfs) (s .taken) d)
 
 pub fit-facts : (m : Whole) → fit m ≡ true → Fit m
 unfolding fitBy pick
 fit-facts m e =
     let s = m .state in
-    let e₁ = and-right (leb lineLimit (length (m .line))) _ e in
-    let e₂ = and-right (leb (s .held) lineLimit) _ e₁ in
-    let e₃ = and-right (leb (s .taken) uploadLimit) _ e₂ in
+    let e₁ = and-right (leb lineMax (length (m .line))) _ e in
+    let e₂ = and-right (leb (s .held) lineMax) _ e₁ in
+    let e₃ = and-right (leb (s .taken) uploadMax) _ e₂ in
     record {
-      held = leb-true _ _ (and-left (leb (s .held) lineLimit) _ e₁);
-      taken = leb-true _ _ (and-left (leb (s .taken) uploadLimit) _ e₂);
+      held = leb-true _ _ (and-left (leb (s .held) lineMax) _ e₁);
+      taken = leb-true _ _ (and-left (leb (s .taken) uploadMax) _ e₂);
       lfs = leb-true _ _ (and-left (leb (s .lfs) (s .taken)) _ e₃);
       used = leb-true _ _ (and-right (leb (s .lfs) (s .taken)) _ e₃);
-      large = leb-true _ _ (and-left (leb lineLimit (length (m .line))) _ e);
+      large = leb-true _ _ (and-left (leb lineMax (length (m .line))) _ e);
     }
 
 put-none : (out : List ℕ) (used : ℕ) → putAt out used [] ≡ out
@@ -51,18 +53,18 @@ module _ (s : Upload) (line out : List ℕ) (b : ℕ) where
   byte-kept e = rw (ne-eqb (s .refusal) 0 e)
 
   module _ (r : s .refusal ≡ 0) where
-    pub byte-over : (t : Upload) → t ≡ keeping s 17 (s .held) → s .taken ≡ uploadLimit → whole t line out ≡ feedByte (whole s line out) b
+    pub byte-over : (t : Upload) → t ≡ keeping s 17 (s .held) → s .taken ≡ uploadMax → whole t line out ≡ feedByte (whole s line out) b
     unfolding feedByte pick
-    byte-over t e q = rw (eq-eqb (s .refusal) 0 r, eq-eqb (s .taken) uploadLimit q, e)
+    byte-over t e q = rw (eq-eqb (s .refusal) 0 r, eq-eqb (s .taken) uploadMax q, e)
 
-    module _ (n : s .taken ≡ uploadLimit → ⊥) where
-      pub byte-long : (t : Upload) → t ≡ keeping s 2 lineLimit → (b ≡ 10 → ⊥) → s .held ≡ lineLimit → whole t line out ≡ feedByte (whole s line out) b
+    module _ (n : s .taken ≡ uploadMax → ⊥) where
+      pub byte-long : (t : Upload) → t ≡ keeping s 2 lineMax → (b ≡ 10 → ⊥) → s .held ≡ lineMax → whole t line out ≡ feedByte (whole s line out) b
       unfolding feedByte pick
-      byte-long t e l h = rw (eq-eqb (s .refusal) 0 r, ne-eqb (s .taken) uploadLimit n, ne-eqb b LF l, eq-eqb (s .held) lineLimit h, e)
+      byte-long t e l h = rw (eq-eqb (s .refusal) 0 r, ne-eqb (s .taken) uploadMax n, ne-eqb b LF l, eq-eqb (s .held) lineMax h, e)
 
-      pub byte-stored : (b ≡ 10 → ⊥) → (s .held ≡ lineLimit → ⊥) → stored (whole s line out) b ≡ feedByte (whole s line out) b
+      pub byte-stored : (b ≡ 10 → ⊥) → (s .held ≡ lineMax → ⊥) → stored (whole s line out) b ≡ feedByte (whole s line out) b
       unfolding feedByte pick
-      byte-stored l h = rw (eq-eqb (s .refusal) 0 r, ne-eqb (s .taken) uploadLimit n, ne-eqb b LF l, ne-eqb (s .held) lineLimit h) (rw (ne-eqb b LF l))
+      byte-stored l h = rw (eq-eqb (s .refusal) 0 r, ne-eqb (s .taken) uploadMax n, ne-eqb b LF l, ne-eqb (s .held) lineMax h) (rw (ne-eqb b LF l))
 
       lf-refused : (f : Fault) → lineFault (length out) (s .used) (take (s .held) line) ≡ f → (appendBy f (take (s .held) line) out (s .used) .number ≡ 0 → ⊥) → whole (keeping s (appendBy f (take (s .held) line) out (s .used) .number) (appendBy f (take (s .held) line) out (s .used) .place)) line (appendBy f (take (s .held) line) out (s .used) .out) ≡ byteBy f (whole s line out) b
       lf-refused none e z = absurd (z refl)
@@ -76,13 +78,13 @@ module _ (s : Upload) (line out : List ℕ) (b : ℕ) where
       pub byte-lf-refused : b ≡ 10 → (a : Appended) → a ≡ appendLine (take (s .held) line) out (s .used) → (a .number ≡ 0 → ⊥) → (t : Upload) → t ≡ keeping s (a .number) (a .place) → whole t line (a .out) ≡ feedByte (whole s line out) b
       unfolding feedByte appendLine pick
       byte-lf-refused l a ea z t et =
-          rw (et, ea, eq-eqb (s .refusal) 0 r, ne-eqb (s .taken) uploadLimit n, eq-eqb b LF l)
+          rw (et, ea, eq-eqb (s .refusal) 0 r, ne-eqb (s .taken) uploadMax n, eq-eqb b LF l)
           (lf-refused (lineFault (length out) (s .used) (take (s .held) line)) refl (rw ea at z))
 
       pub byte-lf : b ≡ 10 → (a : Appended) → a ≡ appendLine (take (s .held) line) out (s .used) → a .number ≡ 0 → whole (behindLF s (s .used + a .count)) line (a .out) ≡ feedByte (whole s line out) b
       unfolding feedByte appendLine pick
       byte-lf l a ea z =
-          rw (ea, eq-eqb (s .refusal) 0 r, ne-eqb (s .taken) uploadLimit n, eq-eqb b LF l)
+          rw (ea, eq-eqb (s .refusal) 0 r, ne-eqb (s .taken) uploadMax n, eq-eqb b LF l)
           (lf-taken l (lineFault (length out) (s .used) (take (s .held) line)) (line-nonzero (length out) (s .used) (take (s .held) line)) (rw ea at z))
 
 -- take_end

@@ -13,7 +13,8 @@ use lib.Seq.{take-all}
 use Rattle.prelude.specs.Pick.{pick}
 use Rattle.lines.specs.Line.{readLine, readStripped, strip, trimmed, leads}
 use Rattle.lines.specs.Records.{lineRecord, Fault, none, refuse, lineFault}
-use Rattle.upload.specs.Lines.{uploadLimit, lineLimit, cut, countLF, records, firstFrom, firstFault, openFault, Whole, left, endBy, j8Lines, zeros, j8Answer}
+use Rattle.upload.specs.Lines.{cut, countLF, records, firstFrom, firstFault, openFault, Whole, left, endBy, j8Lines, zeros, j8Answer}
+use Rattle.prelude.specs.Limits.{uploadMax, lineMax}
 use Rattle.upload.specs.Calls.{fresh, refused, heldLine, closing, feedByte, feedBytes, endFault, finishBy, finishAll, fitBy, fit, Called, keptAnswer, answerOf, stopBy, guarded, feed, finish, Call, feeds, finishes, call, run, began, joined, finished, earlier, defined}
 use Rattle.upload.proofs.Snoc.{buffer-none}
 use Rattle.upload.proofs.Step.{standing, state-path, whole-path, line-fits, NonZero, line-nonzero, front-put, front-length, Sound, held-open, stop-none, defined-none, defined-refused, Ok, nonzero-at, stays, step, put-length, ok-byte}
@@ -23,7 +24,7 @@ pub begun : (line out : List ℕ) → record { state = fresh; line = line; out =
 unfolding j8Lines left firstFrom cut countLF records pick
 begun line out = whole-path _ _ refl (sym (buffer-none 0 line)) refl
 
-ok-fresh : (line out : List ℕ) → lineLimit ≤ length line → Ok line out (record { state = fresh; line = line; out = out })
+ok-fresh : (line out : List ℕ) → lineMax ≤ length line → Ok line out (record { state = fresh; line = line; out = out })
 ok-fresh line out h =
     record { held = omega arith; taken = omega arith; lfs = omega arith; used = omega arith; room = refl; wide = refl; large = h }
 
@@ -40,7 +41,7 @@ steps t line out (b ∷ bs) k =
     rw (step t line out b k, steps (t ++ (b ∷ [])) line out bs (rw (step t line out b k) at (ok-byte line out (j8Lines t false line out) b k)), append-assoc t (b ∷ []) bs)
 
 -- the definition's state is fit, at any text
-pub ok-defined : (t line out : List ℕ) → lineLimit ≤ length line → Ok line out (j8Lines t false line out)
+pub ok-defined : (t line out : List ℕ) → lineMax ≤ length line → Ok line out (j8Lines t false line out)
 ok-defined t line out h =
     let k : Ok line out (j8Lines [] false line out) = rw (begun line out) at (ok-fresh line out h) in
     rw (steps [] line out t k) at (ok-bytes line out (j8Lines [] false line out) t k)
@@ -48,7 +49,7 @@ ok-defined t line out h =
 pub ok-fit : (line out : List ℕ) (m : Whole) → Ok line out m → fit m ≡ true
 unfolding fitBy pick
 ok-fit line out m k =
-    rw (le-leb lineLimit (length (m .line)) (omega (arith, k .wide, k .large)), le-leb (m .state .held) lineLimit (k .held), le-leb (m .state .taken) uploadLimit (k .taken), le-leb (m .state .lfs) (m .state .taken) (k .lfs), le-leb (m .state .used) (length (m .out)) (omega (arith, k .used, k .room)))
+    rw (le-leb lineMax (length (m .line)) (omega (arith, k .wide, k .large)), le-leb (m .state .held) lineMax (k .held), le-leb (m .state .taken) uploadMax (k .taken), le-leb (m .state .lfs) (m .state .taken) (k .lfs), le-leb (m .state .used) (length (m .out)) (omega (arith, k .used, k .room)))
 
 -- a finish
 pub empty-record : lineRecord [] ≡ []
@@ -141,7 +142,7 @@ guard-refused : (t line out : List ℕ) (n p : ℕ) (d : Whole) → eqb n 0 ≡ 
 unfolding left stopBy pick
 guard-refused t line out n p d z f = rw (f, z) (rw z)
 
-module _ (t line out : List ℕ) (h : lineLimit ≤ length line) where
+module _ (t line out : List ℕ) (h : lineMax ≤ length line) where
   feed-by : (piece : List ℕ) (f : Fault) → firstFault (length out) t .why ≡ f → feed (j8Lines t false line out) piece ≡ says (t ++ piece) false false line out
   unfolding feed pick
   feed-by piece none e =
@@ -197,7 +198,7 @@ unfolding j8Answer stopBy pick
 settled-guard m d f true e s = rw (f, e, s)
 settled-guard m d f false e s = rw (f, e) (rw e)
 
-module _ (t line out : List ℕ) (h : lineLimit ≤ length line) where
+module _ (t line out : List ℕ) (h : lineMax ≤ length line) where
   ended-by : (f : Fault) → firstFault (length out) t .why ≡ f → (finish (j8Lines t false line out) ≡ says t true false line out) × (Ok line out (j8Lines t true line out) × Settled (j8Lines t true line out))
   unfolding finish pick
   ended-by none e =
@@ -251,7 +252,7 @@ unfolding earlier pick
 earlier-feed piece [] = refl
 earlier-feed piece (c ∷ cs) = refl
 
-from : (t line out : List ℕ) → lineLimit ≤ length line → (cs : List Call) → run (says t false false line out) cs ≡ says (t ++ joined cs) (finished cs) (earlier cs) line out
+from : (t line out : List ℕ) → lineMax ≤ length line → (cs : List Call) → run (says t false false line out) cs ≡ says (t ++ joined cs) (finished cs) (earlier cs) line out
 unfolding run joined finished call pick
 from t line out h [] = rw (append-nil t) (unfold earlier in refl)
 from t line out h (feeds piece ∷ cs) =
@@ -263,6 +264,6 @@ unfolding j8Lines j8Answer left firstFrom pick
 begun-answer line out = refl
 
 -- the whole list
-pub whole-list : (cs : List Call) (line out : List ℕ) → lineLimit ≤ length line → run (began line out) cs ≡ defined cs line out
+pub whole-list : (cs : List Call) (line out : List ℕ) → lineMax ≤ length line → run (began line out) cs ≡ defined cs line out
 unfolding defined pick
 whole-list cs line out h = rw (begun line out, begun-answer line out) (from [] line out h cs)

@@ -13,7 +13,9 @@ use Rattle.lines.specs.Records.{lineRecord, Fault, none, refuse, lineFault, put
 use Rattle.upload.specs.declared.uploads.Upload.{Upload}
 use Rattle.upload.specs.declared.uploads.Answer.{Answer}
 use Rattle.upload.specs.declared.uploads.Fed.{Fed}
-use Rattle.upload.specs.Lines.{LF, uploadLimit, lineLimit, Whole, zeros, j8Lines, j8Answer}
+use Rattle.upload.specs.Lines.{Whole, zeros, j8Lines, j8Answer}
+use Rattle.prelude.specs.Bytes.{LF}
+use Rattle.prelude.specs.Limits.{uploadMax, lineMax}
 
 -- "A fresh state holds 0 for each of these and isn't ended."
 abbrev pub fresh : Upload
@@ -117,9 +119,9 @@ closing m r =
 -- "A byte over the upload limit, LF or not, is 17 before anything else." "A byte other than LF .. is 2 if 1,024 are held."
 abbrev pub byteFault : Whole → ℕ → Fault
 byteFault m b =
-    pick (eqb (m .state .taken) uploadLimit) (refuse overLimit (m .state .held))
+    pick (eqb (m .state .taken) uploadMax) (refuse overLimit (m .state .held))
     (pick (eqb b LF) (lineFault (length (m .out)) (m .state .used) (heldLine m))
-    (pick (eqb (m .state .held) lineLimit) (refuse tooLong lineLimit) none))
+    (pick (eqb (m .state .held) lineMax) (refuse tooLong lineMax) none))
 
 abbrev pub byteBy : Fault → Whole → ℕ → Whole
 byteBy none m b = pick (eqb b LF) (appended m (lineRecord (heldLine m))) (stored m b)
@@ -148,8 +150,8 @@ finishAll m = finishBy (endFault m) m
 -- "Refusal 1 stands for a short line buffer, held over 1,024, taken over 1,048,576, LFs over taken, or used over the output"
 unfoldable pub fitBy : Upload → ℕ → ℕ → Bool
 fitBy s line out =
-    leb lineLimit line
-    && (leb (s .held) lineLimit && (leb (s .taken) uploadLimit && (leb (s .lfs) (s .taken) && leb (s .used) out)))
+    leb lineMax line
+    && (leb (s .held) lineMax && (leb (s .taken) uploadMax && (leb (s .lfs) (s .taken) && leb (s .used) out)))
 
 abbrev pub fit : Whole → Bool
 fit m = fitBy (m .state) (length (m .line)) (length (m .out))
@@ -247,11 +249,11 @@ called r line out = record { whole = whole (r .state) line out; answer = r .answ
 
 -- the tests of `fit`, passed
 pub record Fit (m : Whole) : Type 0 where
-  pub held : m .state .held ≤ lineLimit
-  pub taken : m .state .taken ≤ uploadLimit
+  pub held : m .state .held ≤ lineMax
+  pub taken : m .state .taken ≤ uploadMax
   pub lfs : m .state .lfs ≤ m .state .taken
   pub used : m .state .used ≤ length (m .out)
-  pub large : lineLimit ≤ length (m .line)
+  pub large : lineMax ≤ length (m .line)
 
 -- how many bytes stand before the first LF
 unfoldable pub lineRun : List ℕ → ℕ

@@ -6,21 +6,13 @@ use mathlib.Core.Bool.{Bool, true, false}
 use mathlib.Core.List.{List, [], _∷_, _++_}
 use lib.Dec.{eqb}
 use lib.ListN.{length, take, drop, getD}
+use Rattle.prelude.specs.Bytes.{LF}
+use Rattle.prelude.specs.Limits.{lineMax, uploadMax}
 use Rattle.prelude.specs.Pick.{pick}
 use Rattle.prelude.specs.Refusals.{tooLong, overLimit, ended}
 use Rattle.lines.specs.Records.{lineRecord, Fault, none, refuse, lineFault}
 use Rattle.upload.specs.declared.uploads.Upload.{Upload}
 use Rattle.upload.specs.declared.uploads.Answer.{Answer}
-
-abbrev pub LF : ℕ
-LF = 10
-
--- the bytes of an upload, and of a line
-abbrev pub uploadLimit : ℕ
-uploadLimit = 1048576
-
-abbrev pub lineLimit : ℕ
-lineLimit = 1024
 
 -- "It cuts the text at its LFs, which belong to no line": the lines that an LF ends, in order, and the open line
 pub record Cut : Type 0 where
@@ -54,9 +46,9 @@ records (l ∷ ls) = lineRecord l ++ records ls
 -- byte (2); an LF whose line has a fault or whose record finds no room behind the earlier ones". 17 has the place "bytes held of this line".
 unfoldable pub faultBehind : ℕ → List ℕ → ℕ → Fault
 faultBehind room before b =
-    pick (eqb (length before) uploadLimit) (refuse overLimit (length (cut before .openLine)))
+    pick (eqb (length before) uploadMax) (refuse overLimit (length (cut before .openLine)))
     (pick (eqb b LF) (lineFault room (length (records (cut before .closed))) (cut before .openLine))
-    (pick (eqb (length (cut before .openLine)) lineLimit) (refuse tooLong lineLimit) none))
+    (pick (eqb (length (cut before .openLine)) lineMax) (refuse tooLong lineMax) none))
 
 abbrev pub faultAt : ℕ → List ℕ → ℕ → Fault
 faultAt room text p = faultBehind room (take p text) (getD text p 0)

@@ -5,17 +5,17 @@ ghost use mathlib.Core.Path.{_≡_};
 ghost use Prim.Native.Nat.{ℕ, _+_, _≤_};
 ghost use lib.ListN.{length, take, drop};
 ghost use Rattle.upload.specs.Calls.{keeping, atEnd, whole, Fit, feedByte, feedBytes, finishAll, lineRun, NoLF, storedRun};
-ghost use Rattle.upload.specs.Lines.{uploadLimit, lineLimit};
-use crate::uploads::LINE_MAX;
-use crate::uploads::UPLOAD_MAX;
+ghost use Rattle.prelude.specs.Limits.{uploadMax, lineMax};
 use crate::uploads::Upload;
 use lines::records;
+use prelude::limits::LINE_MAX;
+use prelude::limits::UPLOAD_MAX;
 use prelude::refusals;
 use prelude::slices;
 
 // The state before a byte, with the refusal that the byte causes.
 fn with_refusal(before: Upload, number: u32, place: usize) -> Upload
-    requires { ⌜ before .lfs ≤ uploadLimit ⌝ }
+    requires { ⌜ before .lfs ≤ uploadMax ⌝ }
     ensures { λ r. ⌜ r ≡ keeping before number place ⌝ }
 {
     Upload {
@@ -126,15 +126,15 @@ fn least(a: usize, b: usize) -> usize
 
 // How many of n bytes that are no LF find their place in the line and in the upload.
 fn run_fits(s: Upload, n: usize) -> usize
-    requires { ⌜ (s .held ≤ lineLimit) × (s .taken ≤ uploadLimit) ⌝ }
-    ensures { λ r. ⌜ (r ≤ n) × (s .held + r ≤ lineLimit) × (s .taken + r ≤ uploadLimit) ⌝ }
+    requires { ⌜ (s .held ≤ lineMax) × (s .taken ≤ uploadMax) ⌝ }
+    ensures { λ r. ⌜ (r ≤ n) × (s .held + r ≤ lineMax) × (s .taken + r ≤ uploadMax) ⌝ }
 {
     least(n, least(LINE_MAX - s.held, UPLOAD_MAX - s.taken))
 }
 
 // The a bytes of a piece from i on, none an LF, stored behind those held.
 fn take_run(s: Upload, piece: &[u8], i: usize, a: usize, line: &mut [u8]) -> Upload
-    requires { ⌜ (i + a ≤ length (now piece)) × (s .held + a ≤ lineLimit) × (s .taken + a ≤ uploadLimit) ⌝ }
+    requires { ⌜ (i + a ≤ length (now piece)) × (s .held + a ≤ lineMax) × (s .taken + a ≤ uploadMax) ⌝ }
     ensures { λ r. ⌜ ((out : List ℕ) → whole r (now (line .exit)) out ≡ storedRun (whole s (now (line .entry)) out) a (take a (drop i (now (piece .entry))))) ⌝ }
 {
     slices::copy_run(piece, i, a, s.held, line);

@@ -3,7 +3,7 @@ ghost use mathlib.Core.Path.{_≡_};
 ghost use Prim.Native.Nat.{_≤_};
 ghost use lib.ListN.{length};
 ghost use Rattle.upload.specs.Calls.{whole, called, began, run, defined, decode, OneCall};
-ghost use Rattle.upload.specs.Lines.{lineLimit};
+ghost use Rattle.prelude.specs.Limits.{lineMax};
 use crate::uploads::Answer;
 use crate::uploads::Fed;
 use crate::uploads::Upload;
@@ -36,7 +36,7 @@ fn play_one(s: Upload, text: &[u8], at: usize, c: usize, line: &mut [u8], out: &
 // A whole list of feeds and finishes, from a fresh state. With a fit line buffer it ends as the J8 Lines definition of the joined text says.
 pub fn replay(text: &[u8], cuts: &[usize], line: &mut [u8], out: &mut [u8]) -> Fed
     ensures { λ r. ⌜ called r (now (line .exit)) (now (out .exit)) ≡ run (began (now (line .entry)) (now (out .entry))) (decode (now (text .entry)) (now (cuts .entry))) ⌝ }
-    ensures { λ r. ⌜ (lineLimit ≤ length (now (line .entry)) → called r (now (line .exit)) (now (out .exit)) ≡ defined (decode (now (text .entry)) (now (cuts .entry))) (now (line .entry)) (now (out .entry))) ⌝ }
+    ensures { λ r. ⌜ (lineMax ≤ length (now (line .entry)) → called r (now (line .exit)) (now (out .exit)) ≡ defined (decode (now (text .entry)) (now (cuts .entry))) (now (line .entry)) (now (out .entry))) ⌝ }
 {
     let mut state = Upload::fresh();
     let mut answer = Answer {

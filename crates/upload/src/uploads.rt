@@ -3,13 +3,9 @@ ghost use mathlib.Core.Path.{_≡_};
 ghost use lib.ListN.{length};
 ghost use Rattle.upload.specs.Calls.{fresh, whole, called, fitBy, plain, answerOf, stopBy, feed, finish};
 use crate::pieces;
+use prelude::limits::LINE_MAX;
+use prelude::limits::UPLOAD_MAX;
 use prelude::refusals;
-
-// The longest line, without its LF.
-pub const LINE_MAX: usize = 1024;
-
-// The most bytes that an upload takes.
-pub const UPLOAD_MAX: usize = 1048576;
 
 // The state of an upload. A refusal of 0 says that nothing is refused.
 pub struct Upload {

@@ -6,7 +6,7 @@ use mathlib.Core.List.{List, [], _∷_, _++_}
 use mathlib.Core.Path.{_≡_, refl, sym}
 use lib.ListN.{length}
 use Rattle.prelude.proofs.Cases.{never}
-use Rattle.upload.specs.Lines.{lineLimit}
+use Rattle.prelude.specs.Limits.{lineMax}
 use Rattle.upload.specs.Calls.{Called, Call, feeds, finishes, call, run, began, joined, finished, earlier, defined}
 use Rattle.upload_claims.specs.Claims.{answers, definedAnswers}
 use Rattle.upload.proofs.WholeList.{whole-list}
@@ -16,7 +16,7 @@ unfolding run
 run-last [] c r = refl
 run-last (d ∷ cs) c r = run-last cs c (call (r .whole) d)
 
-pub each-answer : (line out : List ℕ) → lineLimit ≤ length line → (before cs : List Call)
+pub each-answer : (line out : List ℕ) → lineMax ≤ length line → (before cs : List Call)
     → answers (run (began line out) before .whole) cs ≡ definedAnswers before cs line out
 unfolding answers definedAnswers
 each-answer line out h before [] = refl

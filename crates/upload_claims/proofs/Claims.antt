@@ -5,7 +5,7 @@ use mathlib.Core.List.{[], _∷_}
 use mathlib.Core.Path.{refl, ap}
 use native.Mathlib.Omega.{arith}
 use lib.ListN.{length}
-use Rattle.upload.specs.Lines.{lineLimit}
+use Rattle.prelude.specs.Limits.{lineMax}
 use Rattle.upload.specs.Calls.{Called, feeds, finishes, run, began, joined, finished, defined}
 use Rattle.upload_claims.specs.Claims.{Every-List-Of-Calls, Pieces-Do-Not-Matter, Records-After-Finish, Written-Lines-Read-Back, Every-List-Is-Encoded, Whole-Case, Handing-On-Changes-Nothing, caseText}
 use Rattle.upload_claims.proofs.Answers.{each-answer, same-pieces}
@@ -19,7 +19,7 @@ use Rattle.upload_claims.proofs.WrittenTexts.{text-read, all-read}
 pub every-list-of-calls : Every-List-Of-Calls
 unfolding defined run
 every-list-of-calls cs line out h =
-    let z : lineLimit ≤ length line = omega arith in
+    let z : lineMax ≤ length line = omega arith in
     record { state-and-buffers = ap (λ (r : Called). r .whole) (whole-list cs line out z); each-answer = each-answer line out z [] cs }
 
 pub pieces-do-not-matter : Pieces-Do-Not-Matter
@@ -41,7 +41,7 @@ every-list-is-encoded cs = (textOf cs, cutsOf cs, all-lists cs)
 pub whole-case : Whole-Case
 unfolding defined joined finished
 whole-case line out h k =
-    let z : lineLimit ≤ length line = omega arith in
+    let z : lineMax ≤ length line = omega arith in
     let e = whole-list (feeds caseText ∷ finishes ∷ []) line out z in
     (refl, rw e (case-state line out k), rw e (case-out line out k))
 

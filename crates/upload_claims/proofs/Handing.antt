@@ -17,7 +17,9 @@ use Rattle.lines.specs.Line.{LineRead, ignored, holds, faulty, readLine}
 use Rattle.lines.specs.Records.{recordOf, lineRecord, Fault, none, refuse, faultBy, lineFault, putAt}
 use Rattle.upload.specs.declared.uploads.Upload.{Upload}
 use Rattle.upload.specs.declared.uploads.Answer.{Answer}
-use Rattle.upload.specs.Lines.{LF, uploadLimit, lineLimit, Whole, zeros}
+use Rattle.upload.specs.Lines.{Whole, zeros}
+use Rattle.prelude.specs.Bytes.{LF}
+use Rattle.prelude.specs.Limits.{uploadMax, lineMax}
 use Rattle.upload.specs.Calls.{keeping, refused, stored, behindLF, atEnd, heldLine, appended, closing, byteFault, byteBy, feedByte, feedBytes, endFault, finishBy, finishAll, fitBy, Called, plain, keptAnswer, answerOf, stop, stopBy, guarded, feed, finish, Call, feeds, finishes, call, run, began}
 use Rattle.upload_claims.specs.Claims.{emptied, recordsIn, Turn, calls, hands, turn, turns, handing, callsOf, Alike, Handing-On-Changes-Nothing}
 
@@ -81,14 +83,14 @@ put-inside out used r h =
 -- the fault of a byte, by what it goes by
 abbrev faultIn : ℕ → ℕ → List ℕ → ℕ → ℕ → ℕ → Fault
 faultIn taken held line room used b =
-    pick (eqb taken uploadLimit) (refuse overLimit held)
-    (pick (eqb b LF) (lineFault room used (take held line)) (pick (eqb held lineLimit) (refuse tooLong lineLimit) none))
+    pick (eqb taken uploadMax) (refuse overLimit held)
+    (pick (eqb b LF) (lineFault room used (take held line)) (pick (eqb held lineMax) (refuse tooLong lineMax) none))
 
 faults-in : (taken held : ℕ) (line : List ℕ) (x u y v b : ℕ) → Faults (faultIn taken held line x u b) (faultIn taken held line y v b)
 unfolding lineFault
 faults-in taken held line x u y v b =
-    choose (eqb taken uploadLimit) (refuse overLimit held)
-    (choose-first (eqb b LF) (pick (eqb held lineLimit) (refuse tooLong lineLimit) none) (line-faults x u y v (readLine (take held line))))
+    choose (eqb taken uploadMax) (refuse overLimit held)
+    (choose-first (eqb b LF) (pick (eqb held lineMax) (refuse tooLong lineMax) none) (line-faults x u y v (readLine (take held line))))
 
 kept-as : {h : List ℕ} {d e m n : Whole} → d ≡ e → m ≡ n → Kept h e n → Kept h d m
 kept-as {h} {d} {e} {m} {n} p q k = subst (λ (z : Whole). Kept h z m) (sym p) (subst (λ (z : Whole). Kept h e z) (sym q) k)
@@ -212,7 +214,7 @@ bytes-kept h d m (b ∷ bs) (same r) = bytes-kept h (feedByte d b) (feedByte m b
 -- what stops a call, where the records lie inside the output
 abbrev stopped : Upload → ℕ → Answer
 stopped s line =
-    pick (leb lineLimit line && (leb (s .held) lineLimit && (leb (s .taken) uploadLimit && (leb (s .lfs) (s .taken) && true))))
+    pick (leb lineMax line && (leb (s .held) lineMax && (leb (s .taken) uploadMax && (leb (s .lfs) (s .taken) && true))))
     (pick (eqb (s .refusal) 0) (pick (s .ended) (plain ended) zeros) (keptAnswer s))
     (plain unfit)
 

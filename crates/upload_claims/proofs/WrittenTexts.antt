@@ -12,15 +12,16 @@ use lib.Seq.{append-snoc, length-take-le}
 use Rattle.prelude.specs.Pick.{pick}
 use Rattle.units.proofs.WrittenUnits.{Plain}
 use Rattle.strings_write.specs.Write.{writeString}
-use Rattle.prelude.specs.Bytes.{IsBytes}
+use Rattle.prelude.specs.Bytes.{IsBytes, LF}
 use Rattle.string_claims.proofs.RoundTrip.{bytes-drop}
 use Rattle.string_claims.proofs.Plain.{write-plain}
 use Rattle.lines.specs.Records.{headSize, lineRecord, none, lineFault}
 use Rattle.lines_write.specs.Write.{sizeAt, payloadAt, sound, soundFrom, linesFrom, writeQuoted}
-use Rattle.lines_write.specs.Passes.{lineAt}
+use Rattle.lines_write.specs.inner.Passes.{lineAt}
 use Rattle.lines_write.proofs.LineTexts.{lines-step, sound-size}
 use Rattle.upload_claims.proofs.WrittenLines.{line-record, line-fault, by-records}
-use Rattle.upload.specs.Lines.{LF, uploadLimit, lineLimit, Cut, headed, cut, records, faultBehind, firstFrom, firstFault, Whole}
+use Rattle.upload.specs.Lines.{Cut, headed, cut, records, faultBehind, firstFrom, firstFault, Whole}
+use Rattle.prelude.specs.Limits.{uploadMax, lineMax}
 use Rattle.upload_claims.specs.Claims.{firstRefusal, EndedWith, Finished, Within}
 use Rattle.upload.proofs.Snoc.{longer, cut-lf, cut-byte, records-snoc}
 use Rattle.upload.proofs.Step.{stop-snoc}
@@ -43,20 +44,20 @@ Unrefused room t = firstFault room t .why ≡ none
 byte-more : (room : ℕ) (t : List ℕ) (b : ℕ) → Unrefused room t → faultBehind room t b ≡ none → Unrefused room (t ++ (b ∷ []))
 byte-more room t b e f = rw (stop-snoc room t b e, f)
 
-module _ (room : ℕ) (t : List ℕ) (u : length t < uploadLimit) where
-  under : eqb (length t) uploadLimit ≡ false
-  under = ne-eqb (length t) uploadLimit (λ e. omega arith)
+module _ (room : ℕ) (t : List ℕ) (u : length t < uploadMax) where
+  under : eqb (length t) uploadMax ≡ false
+  under = ne-eqb (length t) uploadMax (λ e. omega arith)
 
-  byte-fault : (b : ℕ) → 32 ≤ b → length (cut t .openLine) < lineLimit → faultBehind room t b ≡ none
+  byte-fault : (b : ℕ) → 32 ≤ b → length (cut t .openLine) < lineMax → faultBehind room t b ≡ none
   unfolding faultBehind pick
-  byte-fault b h l = rw (under, no-lf b h, ne-eqb (length (cut t .openLine)) lineLimit (λ e. omega arith))
+  byte-fault b h l = rw (under, no-lf b h, ne-eqb (length (cut t .openLine)) lineMax (λ e. omega arith))
 
   lf-fault : lineFault room (length (records (cut t .closed))) (cut t .openLine) ≡ none → faultBehind room t LF ≡ none
   unfolding faultBehind pick
   lf-fault e = rw under e
 
 -- bytes behind a text, all in its open line
-bytes-more : (room : ℕ) (l t : List ℕ) → Plain l → Unrefused room t → length t + length l ≤ uploadLimit → length (cut t .openLine) + length l ≤ lineLimit
+bytes-more : (room : ℕ) (l t : List ℕ) → Plain l → Unrefused room t → length t + length l ≤ uploadMax → length (cut t .openLine) + length l ≤ lineMax
     → Unrefused room (t ++ l) × (cut (t ++ l) ≡ record { closed = cut t .closed; openLine = cut t .openLine ++ l })
 bytes-more room [] t p e u h = (rw append-nil e, rw (append-nil t, append-nil (cut t .openLine)))
 bytes-more room (b ∷ l) t p e u h =
@@ -78,7 +79,7 @@ clean-none : (room : ℕ) → Clean room [] []
 unfolding firstFrom cut records
 clean-none room = record { unrefused = refl; shut = refl; same = refl }
 
-line-more : (room : ℕ) (t rs l : List ℕ) → Clean room t rs → Plain l → length l ≤ lineLimit → length t + length l < uploadLimit → lineFault room (length rs) l ≡ none
+line-more : (room : ℕ) (t rs l : List ℕ) → Clean room t rs → Plain l → length l ≤ lineMax → length t + length l < uploadMax → lineFault room (length rs) l ≡ none
     → Clean room (t ++ (l ++ (LF ∷ []))) (rs ++ lineRecord l)
 line-more room t rs l k p h u e =
     let m = bytes-more room l t p (k .unrefused) (omega arith) (omega (arith, ap length (k .shut))) in
@@ -95,7 +96,7 @@ line-more room t rs l k p h u e =
 -- the lines of records, behind those of the records before
 abbrev Behind : ℕ → List ℕ → Type 0
 Behind room s =
-    (t rs : List ℕ) → Clean room t rs → IsBytes s → Within lineLimit (cut (linesFrom 0 s) .closed) → length (t ++ linesFrom 0 s) ≤ uploadLimit
+    (t rs : List ℕ) → Clean room t rs → IsBytes s → Within lineMax (cut (linesFrom 0 s) .closed) → length (t ++ linesFrom 0 s) ≤ uploadMax
     → length (rs ++ s) ≤ room → Clean room (t ++ linesFrom 0 s) (rs ++ s)
 
 behind-none : (room : ℕ) → Behind room []
@@ -111,7 +112,7 @@ behind-one room s h e ih t rs k b w u r =
     let p : linesFrom 0 s ≡ (l ++ (LF ∷ [])) ++ rest = lines-step s h in
     let c : cut (linesFrom 0 s) ≡ record { closed = l ∷ cut rest .closed; openLine = cut rest .openLine } =
     ap cut (p ∙ append-snoc l LF rest) ∙ cut-line l rest (write-plain (payloadAt s)) in
-    let w₁ : Within lineLimit (l ∷ cut rest .closed) = rw c at w in
+    let w₁ : Within lineMax (l ∷ cut rest .closed) = rw c at w in
     let q : t ++ linesFrom 0 s ≡ (t ++ (l ++ (LF ∷ []))) ++ rest =
     ap (λ (x : List ℕ). t ++ x) p ∙ sym (append-assoc t (l ++ (LF ∷ [])) rest) in
     let v : rs ++ s ≡ (rs ++ take n s) ++ drop n s =
@@ -125,8 +126,8 @@ behind-one room s h e ih t rs k b w u r =
     rw (line-record s b e) at (line-more room t rs l k (write-plain (payloadAt s)) (omega (arith, w₁ .0)) (omega arith) f) in
     rw (q, v) (ih (t ++ (l ++ (LF ∷ []))) (rs ++ take n s) k₁ (bytes-drop n s b) (w₁ .1) (rw q at u) (rw v at r))
 
-pub text-read : (room : ℕ) (rs : List ℕ) → IsBytes rs → soundFrom 0 rs ≡ true → Within lineLimit (cut (writeQuoted rs) .closed)
-    → length (writeQuoted rs) ≤ uploadLimit → length rs ≤ room → Clean room (writeQuoted rs) rs
+pub text-read : (room : ℕ) (rs : List ℕ) → IsBytes rs → soundFrom 0 rs ≡ true → Within lineMax (cut (writeQuoted rs) .closed)
+    → length (writeQuoted rs) ≤ uploadMax → length rs ≤ room → Clean room (writeQuoted rs) rs
 text-read room rs b e = by-records (Behind room) (behind-none room) (behind-one room) rs e [] [] (clean-none room) b
 
 -- such a text, finished

@@ -6,13 +6,14 @@ use mathlib.Core.Bool.{true, false}
 use mathlib.Core.List.{List, [], _∷_, _++_}
 use mathlib.Core.Path.{_≡_}
 use lib.ListN.{length, take}
-use Rattle.prelude.specs.Bytes.{IsBytes, ascii}
+use Rattle.prelude.specs.Bytes.{IsBytes, ascii, LF}
 use Rattle.prelude.specs.Refusals.{noRoom}
 use Rattle.lines.specs.Records.{lineRecord, Fault, none, refuse}
 use Rattle.lines_write.specs.Write.{soundFrom, writeQuoted}
 use Rattle.upload.specs.declared.uploads.Upload.{Upload}
 use Rattle.upload.specs.declared.uploads.Answer.{Answer}
-use Rattle.upload.specs.Lines.{LF, uploadLimit, lineLimit, cut, records, front, firstFault, openFault, Whole, j8Lines}
+use Rattle.upload.specs.Lines.{cut, records, front, firstFault, openFault, Whole, j8Lines}
+use Rattle.prelude.specs.Limits.{uploadMax, lineMax}
 use Rattle.upload.specs.Calls.{Called, Call, feeds, finishes, call, run, began, joined, finished, defined, decode}
 
 -- the answers of a list of calls, in order, from a state and two buffers
@@ -34,13 +35,13 @@ pub record AsDefined (cs : List Call) (line out : List ℕ) : Type 0 where
 -- every such list, the state and both buffers are exactly what the J8 Lines definition gives for the joined text, finished or not, and each
 -- call's answer is what it gives for the calls up to and with that one."
 abbrev pub Every-List-Of-Calls : Type 0
-Every-List-Of-Calls = (cs : List Call) (line out : List ℕ) → lineLimit ≤ length line → AsDefined cs line out
+Every-List-Of-Calls = (cs : List Call) (line out : List ℕ) → lineMax ≤ length line → AsDefined cs line out
 
 -- "lists of one or more feeds and no finish, alike in the joined text and in the buffers first lent, end in the same state, buffers and last
 -- answer, whatever the pieces"; with no feed at all, zeros stand for the answer
 abbrev pub Pieces-Do-Not-Matter : Type 0
 Pieces-Do-Not-Matter =
-    (cs ds : List Call) (line out : List ℕ) → lineLimit ≤ length line → finished cs ≡ false → finished ds ≡ false
+    (cs ds : List Call) (line out : List ℕ) → lineMax ≤ length line → finished cs ≡ false → finished ds ≡ false
     → joined cs ≡ joined ds → run (began line out) cs ≡ run (began line out) ds
 
 -- all records of a text: of the lines that an LF ends, and of the open line
@@ -71,7 +72,7 @@ Finished (refuse number at) text out m =
 -- "After a finish the output holds all the text's records, or those before the first refusal, which the state then holds."
 abbrev pub Records-After-Finish : Type 0
 Records-After-Finish =
-    (cs : List Call) (line out : List ℕ) → lineLimit ≤ length line → finished cs ≡ true
+    (cs : List Call) (line out : List ℕ) → lineMax ≤ length line → finished cs ≡ true
     → Finished (firstRefusal (length out) (joined cs)) (joined cs) out (run (began line out) cs .whole)
 
 -- every line is at most so many bytes long
@@ -83,9 +84,9 @@ Within n (l ∷ ls) = (length l ≤ n) × Within n ls
 -- finished, are all the records of the upload, where each line, the text and the records stay within their limits
 abbrev pub Written-Lines-Read-Back : Type 0
 Written-Lines-Read-Back =
-    (rs : List ℕ) (cs : List Call) (line out : List ℕ) → lineLimit ≤ length line
+    (rs : List ℕ) (cs : List Call) (line out : List ℕ) → lineMax ≤ length line
     → IsBytes rs → soundFrom 0 rs ≡ true → joined cs ≡ writeQuoted rs → finished cs ≡ true
-    → Within lineLimit (cut (writeQuoted rs) .closed) → length (writeQuoted rs) ≤ uploadLimit → length rs ≤ length out
+    → Within lineMax (cut (writeQuoted rs) .closed) → length (writeQuoted rs) ≤ uploadMax → length rs ≤ length out
     → EndedWith rs out (run (began line out) cs .whole)
 
 -- every list of calls is the decoding of a text and a list of numbers, so `replay` runs every list
@@ -119,7 +120,7 @@ caseOut =
 -- one feed and a finish, with a line buffer and an output of just the size that is needed, whatever they hold
 abbrev pub Whole-Case : Type 0
 Whole-Case =
-    (line out : List ℕ) → length line ≡ lineLimit → length out ≡ 23
+    (line out : List ℕ) → length line ≡ lineMax → length out ≡ 23
     → (length caseText ≡ 22) × (run (began line out) (feeds caseText ∷ finishes ∷ []) .whole .state ≡ caseState)
     × (run (began line out) (feeds caseText ∷ finishes ∷ []) .whole .out ≡ caseOut)
 

@@ -13,7 +13,7 @@ use lib.Seq.{drop-drop, drop-cons}
 use Rattle.prelude.proofs.Cases.{split}
 use Rattle.utf8.specs.Class.{classOf}
 use Rattle.utf8.specs.Utf8.{longLen, charLen, validFrom}
-use Rattle.utf8.specs.Checks.{AllAscii, Checked, CheckedUntil}
+use Rattle.utf8.specs.inner.Checks.{AllAscii, Checked, CheckedUntil}
 use Rattle.utf8.proofs.CharSteps.{one-byte, lone-tail, long-char}
 use Rattle.utf8.proofs.Characters.{char-le, valid-step, valid-stuck, ascii-len}
 

@@ -1,4 +1,4 @@
 pub mod Class
 pub mod Utf8
-pub mod Checks
 pub mod Claims
+pub mod inner

@@ -5,7 +5,7 @@ ghost use Prim.Native.Nat.{_+_, _<_, _≤_};
 ghost use lib.ListN.{length, getD, drop};
 ghost use Rattle.utf8.specs.Class.{IsTable};
 ghost use Rattle.utf8.specs.Utf8.{between, lowOf, highOf, twoBytes, threeBytes, fourBytes, longLen, charAt, validUtf8};
-ghost use Rattle.utf8.specs.Checks.{AllAscii, Checked, CheckedUntil};
+ghost use Rattle.utf8.specs.inner.Checks.{AllAscii, Checked, CheckedUntil};
 use crate::classes;
 use prelude::refusals;
 use prelude::slices;

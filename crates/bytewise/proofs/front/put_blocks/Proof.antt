@@ -6,7 +6,7 @@ use native.Mathlib.Omega.{arith}
 use Prim.Native.Nat.{_-_, _≤_}
 use mathlib.Core.Path.{_≡_, refl, _∙_}
 use lib.ListN.{length}
-use Rattle.bytewise.specs.Bytewise.{Onward}
+use Rattle.bytewise.specs.inner.Bytewise.{Onward}
 use Rattle.bytewise.proofs.Fronts.{front-block, onward-then}
 
 abbrev Inv-loop : tie.InvT-loop

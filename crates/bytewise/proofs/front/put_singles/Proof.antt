@@ -6,7 +6,7 @@ use native.Mathlib.Omega.{arith}
 use Prim.Native.Nat.{_-_, _≤_}
 use mathlib.Core.Path.{_≡_, refl}
 use lib.ListN.{length, length-set}
-use Rattle.bytewise.specs.Bytewise.{Onward}
+use Rattle.bytewise.specs.inner.Bytewise.{Onward}
 use Rattle.bytewise.proofs.Fronts.{front-one, onward-then}
 
 abbrev Inv-loop : tie.InvT-loop

@@ -8,7 +8,7 @@ use Prim.Native.Nat.{_-_, _≤_}
 use mathlib.Core.Path.{_≡_, refl, _∙_}
 use borrow.Author.Tests.{not-true, not-false}
 use lib.ListN.{length}
-use Rattle.bytewise.specs.Bytewise.{Onward}
+use Rattle.bytewise.specs.inner.Bytewise.{Onward}
 use Rattle.bytewise.proofs.Fronts.{front-block, front-threes, threes-inside, onward-then}
 
 abbrev Inv-loop : tie.InvT-loop

@@ -9,7 +9,7 @@ use native.Mathlib.Omega.{arith}
 use lib.ListN.{getD}
 use denote.Ref.{now}
 use borrow.Author.Tests.{ltb-false}
-use Rattle.bytewise.specs.Bytewise.{NoControl}
+use Rattle.bytewise.specs.inner.Bytewise.{NoControl}
 use Rattle.bytewise.proofs.ByteTexts.{one-more}
 
 abbrev Inv-loop : tie.InvT-loop

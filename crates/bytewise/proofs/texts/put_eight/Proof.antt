@@ -4,7 +4,7 @@ use Rattle.bytewise.proofs.texts.put_eight.Statement.{statement}
 use Rattle.bytewise.proofs.texts.put_eight.Tie as tie
 use native.Mathlib.Omega.{arith}
 use Prim.Native.Nat.{_+_, _-_, _≤_}
-use Rattle.bytewise.specs.Bytewise.{Texted}
+use Rattle.bytewise.specs.inner.Bytewise.{Texted}
 use Rattle.bytewise.proofs.ByteTexts.{texted-start, texted-next, texted-length, texted-bound, texted-end}
 
 abbrev Inv-loop : tie.InvT-loop

@@ -6,7 +6,7 @@ use native.Mathlib.Omega.{arith}
 use Prim.Native.Nat.{_-_, _≤_}
 use lib.ListN.{length}
 use mathlib.Core.Path.{_∙_}
-use Rattle.bytewise.specs.Bytewise.{Texted}
+use Rattle.bytewise.specs.inner.Bytewise.{Texted}
 use Rattle.bytewise.proofs.ByteTexts.{texted-none, texted-same, texted-then, texted-length, texted-bound}
 
 abbrev Inv-loop : tie.InvT-loop

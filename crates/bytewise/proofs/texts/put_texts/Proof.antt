@@ -5,7 +5,7 @@ use Rattle.bytewise.proofs.texts.put_texts.Tie as tie
 use native.Mathlib.Omega.{arith}
 use Prim.Native.Nat.{_-_, _≤_}
 use lib.ListN.{length}
-use Rattle.bytewise.specs.Bytewise.{Texted}
+use Rattle.bytewise.specs.inner.Bytewise.{Texted}
 use Rattle.bytewise.proofs.ByteTexts.{texted-none, texted-one, texted-then, texted-length, texted-bound, texted-end}
 
 abbrev Inv-loop : tie.InvT-loop

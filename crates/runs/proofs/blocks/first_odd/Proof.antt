@@ -7,7 +7,7 @@ use mathlib.Core.Path.{_≡_, _∙_}
 use native.Mathlib.Omega.{arith}
 use lib.ListN.{getD}
 use denote.Ref.{now}
-use Rattle.runs.specs.Blocks.{Alone}
+use Rattle.runs.specs.inner.Blocks.{Alone}
 use Rattle.runs.proofs.BlockLaws.{first-more}
 
 abbrev Inv-loop : tie.InvT-loop

@@ -5,7 +5,7 @@ use Rattle.runs.proofs.blocks.pair_blocks.Tie as tie
 use Prim.Native.Nat.{_-_}
 use native.Mathlib.Omega.{arith}
 use lib.ListN.{length}
-use Rattle.runs.specs.Blocks.{Running}
+use Rattle.runs.specs.inner.Blocks.{Running}
 use Rattle.runs.proofs.LiteralRuns.{here}
 use Rattle.runs.proofs.BlockLaws.{over-pairs}
 

@@ -8,7 +8,7 @@ use lib.ListN.{length}
 use denote.Ref.{now}
 use Rattle.units.specs.declared.styles.Style.{Style}
 use Rattle.units.specs.declared.styles.Style.the-variants.{Json}
-use Rattle.runs.specs.Blocks.{Running}
+use Rattle.runs.specs.inner.Blocks.{Running}
 use Rattle.units.proofs.LiteralClasses.{plain-char, two-bytes, three-bytes}
 use Rattle.runs.proofs.LiteralRuns.{here, moved}
 

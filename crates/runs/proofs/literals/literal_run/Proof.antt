@@ -5,7 +5,7 @@ use Rattle.runs.proofs.literals.literal_run.Tie as tie
 use Prim.Native.Nat.{_-_}
 use native.Mathlib.Omega.{arith}
 use lib.ListN.{length}
-use Rattle.runs.specs.Blocks.{Running}
+use Rattle.runs.specs.inner.Blocks.{Running}
 use Rattle.runs.proofs.LiteralRuns.{here, further, stopped, at-end, advances}
 
 abbrev Inv-loop : tie.InvT-loop

@@ -6,7 +6,7 @@ use Rattle.runs.proofs.shorts.short.Tie as tie
 use mathlib.Core.Path.{sym, subst}
 use denote.Ref.{now}
 use Rattle.units.specs.declared.styles.Style.{Style}
-use Rattle.runs.specs.Blocks.{Running}
+use Rattle.runs.specs.inner.Blocks.{Running}
 
 enum-told : tie.Need-enum-told
 enum-told c = search needs

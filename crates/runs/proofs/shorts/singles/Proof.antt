@@ -10,7 +10,7 @@ use denote.Ref.{now}
 use borrow.Author.Tests.{not-false}
 use Rattle.units.specs.declared.styles.Style.{Style}
 use Rattle.units.specs.Styles.{quote}
-use Rattle.runs.specs.Blocks.{Running}
+use Rattle.runs.specs.inner.Blocks.{Running}
 use Rattle.runs.proofs.LiteralRuns.{here}
 use Rattle.runs.proofs.BlockLaws.{over-one, over-lead, lead-fits}
 

@@ -8,7 +8,7 @@ use mathlib.Core.Path.{_≡_}
 use native.Mathlib.Omega.{arith}
 use lib.ListN.{getD}
 use denote.Ref.{now}
-use Rattle.runs.specs.Blocks.{AllTripled, Tripled}
+use Rattle.runs.specs.inner.Blocks.{AllTripled, Tripled}
 use Rattle.runs.proofs.BlockLaws.{one-more}
 
 abbrev Inv-loop : tie.InvT-loop

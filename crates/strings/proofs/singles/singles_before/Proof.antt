@@ -9,7 +9,7 @@ use mathlib.Core.Path.{_≡_, refl, _∙_}
 use Prim.Native.Nat.{_-_}
 use lib.ListN.{length}
 use Rattle.units.proofs.SingleLaws.{plain-unit, slash-unit}
-use Rattle.strings.specs.Turns.{Advanced}
+use Rattle.strings.specs.inner.Turns.{Advanced}
 use Rattle.strings.proofs.Advancing.{nothing-yet, one-inside, and-one}
 
 abbrev Inv-loop : tie.InvT-loop

@@ -7,7 +7,7 @@ use native.Mathlib.Omega.{arith}
 use mathlib.Core.Path.{_≡_, refl, _∙_}
 use Prim.Native.Nat.{_-_}
 use lib.ListN.{length}
-use Rattle.strings.specs.Turns.{Advanced}
+use Rattle.strings.specs.inner.Turns.{Advanced}
 use Rattle.strings.proofs.Advancing.{nothing-yet, and-part}
 
 abbrev Inv-loop : tie.InvT-loop

@@ -7,7 +7,7 @@ use mathlib.Core.Bool.{false}
 use mathlib.Core.Path.{_≡_}
 use native.Mathlib.Omega.{arith}
 use denote.Ref.{now}
-use Rattle.utf8.specs.Checks.{AllAscii}
+use Rattle.utf8.specs.inner.Checks.{AllAscii}
 use Rattle.utf8.proofs.Validity.{ascii-more}
 
 abbrev Inv-loop : tie.InvT-loop

@@ -5,7 +5,7 @@ use Rattle.utf8.proofs.chars.ascii_blocks.Tie as tie
 use Prim.Native.Nat.{_-_}
 use native.Mathlib.Omega.{arith}
 use lib.ListN.{length}
-use Rattle.utf8.specs.Checks.{Checked}
+use Rattle.utf8.specs.inner.Checks.{Checked}
 use Rattle.utf8.proofs.Validity.{here, block-on}
 
 abbrev Inv-loop : tie.InvT-loop

@@ -5,7 +5,7 @@ use Rattle.utf8.proofs.chars.chars_until.Tie as tie
 use native.Mathlib.Omega.{arith}
 use Prim.Native.Nat.{_-_}
 use lib.ListN.{length}
-use Rattle.utf8.specs.Checks.{Checked}
+use Rattle.utf8.specs.inner.Checks.{Checked}
 use Rattle.utf8.proofs.Validity.{here, one-on, lone-stop, cut-stop, long-on, all-on}
 
 abbrev Inv-loop : tie.InvT-loop

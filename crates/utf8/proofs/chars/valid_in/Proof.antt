@@ -5,7 +5,7 @@ use Rattle.utf8.proofs.chars.valid_in.Tie as tie
 use native.Mathlib.Omega.{arith}
 use Prim.Native.Nat.{_-_}
 use lib.ListN.{length}
-use Rattle.utf8.specs.Checks.{Checked}
+use Rattle.utf8.specs.inner.Checks.{Checked}
 use Rattle.utf8.proofs.Validity.{here, further, stuck, ended, advances}
 
 abbrev Inv-loop : tie.InvT-loop

@@ -1,0 +1,3 @@
+// JSON8: a text read to a node table.
+pub mod read;
+mod values;

@@ -1,0 +1,63 @@
+-- The reader's own steps, which no caller sees: a run of literal characters and one unit, at a place of the text.
+-- Assumes nothing.
+use Prim.Native.Nat.{ℕ, _+_, _≤_}
+use mathlib.Core.List.{List, [], _++_}
+use mathlib.Core.Path.{_≡_}
+use lib.ListN.{length, getD, take, drop}
+use lib.Seq.{sets}
+use Rattle.units.specs.declared.styles.Style.{Style}
+use Rattle.units.specs.Styles.{quote, StringUnit, close, took, fault}
+use Rattle.units.specs.Units.{unitAt, literalRun}
+use Rattle.strings.specs.declared.read.Mark.{Mark}
+use Rattle.strings.specs.declared.read.Mark.the-variants.{Opens, Unopened}
+use Rattle.strings.specs.declared.read.Step.{Step}
+use Rattle.strings.specs.declared.read.Step.the-variants.{On, Ended, Failed}
+use Rattle.strings.specs.Read.{StringRead, accepted, refused, more, readUnits, whole, fitted, Opening, opens, unopened}
+
+-- the code's opening mark as the definition's
+abbrev pub openingOf : Mark → Opening
+openingOf (Opens st n) = opens st n
+openingOf Unopened = unopened
+
+-- a whole text whose opening mark is n bytes long, read into a room of so many bytes
+abbrev pub readBehind : Style → ℕ → ℕ → List ℕ → StringRead
+readBehind st n room s = fitted room (whole (length s) (readUnits st n 0 (drop n s)))
+
+-- behind a unit at the place `at`, with o bytes before it
+abbrev pub stepOf : StringUnit → ℕ → ℕ → Step
+stepOf close at o = Ended (at + 1) o
+stepOf (took n bs) at o = On (at + n) (o + length bs)
+stepOf (fault number) at o = Failed number at
+
+abbrev pub bytesOf : StringUnit → List ℕ
+bytesOf close = []
+bytesOf (took n bs) = bs
+bytesOf (fault number) = []
+
+-- behind the run and the unit at the head of r, and the bytes that they denote
+unfoldable pub turnOf : Style → List ℕ → ℕ → ℕ → Step
+turnOf st r at o = stepOf (unitAt st (drop (literalRun st 0 r) r)) (at + literalRun st 0 r) (o + literalRun st 0 r)
+
+unfoldable pub turnBytes : Style → List ℕ → List ℕ
+turnBytes st r = take (literalRun st 0 r) r ++ bytesOf (unitAt st (drop (literalRun st 0 r) r))
+
+-- the closing quote stands at a place and is the text's last byte
+pub record Closed (st : Style) (s : List ℕ) (e : ℕ) : Type 0 where
+  pub last : e + 1 ≡ length s
+  pub ends : getD s e 0 ≡ quote st
+
+-- whole units were read from a place on up to another: their bytes are stored behind the first o, and the rest is still to be read
+pub record Advanced (st : Style) (s : List ℕ) (from o : ℕ) (out : List ℕ) (at p : ℕ) (new : List ℕ) : Type 0 where
+  pub bytes : List ℕ
+  pub onward : from ≤ at
+  pub inside : at ≤ length s
+  pub less : p + from ≤ at + o
+  pub count : p ≡ o + length bytes
+  pub stored : new ≡ sets out o bytes
+  pub same : readUnits st from 0 (drop from s) ≡ more bytes (readUnits st at 0 (drop at s))
+
+-- what a token reader stores: the bytes denoted, each if there is room for it. It is lent a part without room until the text is
+-- known to be right, so nothing is promised of a refused text
+abbrev pub Stored : StringRead → List ℕ → List ℕ → Type 0
+Stored (accepted bs e) out new = new ≡ sets out 0 bs
+Stored (refused number at) out new = Unit
