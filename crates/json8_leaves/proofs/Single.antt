@@ -48,6 +48,7 @@ use Rattle.json8_leaves.specs.inner.Told.{Told, Stepped, StoredAt}
 use Rattle.json8.specs.inner.Slashes.{Slashed}
 use Rattle.json8_leaves.proofs.Joined.{told-got, told-stop, stepped-at, stepped-stop}
 use Rattle.json8.proofs.Backslashes.{whole-run, run-unslashed}
+use Rattle.json8.proofs.Limited.{limited-full, limited-free}
 
 -- blanks
 module _ (text : List ℕ) (at i : ℕ) (r : Blank) (e : r ≡ blanks (drop at text)) where
