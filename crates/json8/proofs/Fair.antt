@@ -26,19 +26,19 @@ use Rattle.tokens.specs.declared.starts.Mark.{Mark}
 use Rattle.tokens.specs.declared.starts.Mark.the-variants.{Close, Separator, Fault}
 use Rattle.tokens.specs.Blanks.{blanks}
 use Rattle.tokens.specs.Words.{isWord, wordOf, wordValue}
-use Rattle.tokens.specs.Numbers.{numberOf, numberAt}
+use Rattle.tokens.specs.Numbers.{numberToken, numberAt}
 use Rattle.tokens.specs.Starts.{startOf, colonAt, commaAt}
 use Rattle.tokens.proofs.Runs.{run-le}
 use Rattle.tokens.proofs.Progress.{Passed, blanks-passed, Begun, start-begun, Sized, number-sized}
 use Rattle.json8.specs.declared.nodes.Sort.{Sort}
 use Rattle.json8.specs.declared.nodes.Sort.the-variants.{Items, Pairs}
-use Rattle.json8.specs.Nodes.{Node, Read, got, refused, Reader, more, chain, seq, limited}
+use Rattle.json8.specs.Nodes.{Node, Read, got, refused, Reader, preceded, chain, seq, limited}
 use Rattle.prelude.specs.Limits.{nodeMax, depthMax}
 use Rattle.json8.specs.Leaves.{passed, spaces, marked, colon, comma, markLen, slashed, stringNode, stringRead, string, plain, wordRead, word, numberRead, number, keyBy, key}
-use Rattle.json8.specs.Values.{valueBy, valueOf, kindOf, closeOf, memberOf, closeOr, round, again, follow, members, branch, bracketed, opened, value}
-use Rattle.json8.specs.Read.{finish, readAll}
+use Rattle.json8.specs.Values.{valueBy, valueOf, groupKind, closeOf, memberOf, closeOr, round, again, follow, members, groupNode, groupOf, group, value}
+use Rattle.json8.specs.Read.{textEnd, readAll}
 
--- at least a bytes taken, and no more than there are; 1,024 nodes at most; no more bytes for the store than taken; a refusal's place in the
+-- at least a bytes taken, and no preceded than there are; 1,024 nodes at most; no preceded bytes for the store than taken; a refusal's place in the
 -- text or at its end
 abbrev pub Fair : ℕ → ℕ → ℕ → List ℕ → Read → Type 0
 Fair a p n s (got l tag ns bs) = (a ≤ l) × (l ≤ length s) × (n + length ns ≤ nodeMax) × (length bs ≤ l)
@@ -48,7 +48,7 @@ abbrev pub FairBy : ℕ → Reader → Type 0
 FairBy a rd = (p n m : ℕ) (s : List ℕ) → n ≤ nodeMax → Fair a p n s (rd p n m s)
 
 more-fair : (a b p n : ℕ) (s : List ℕ) (l : ℕ) (ns : List Node) (bs : List ℕ) (r : Read) → a ≤ l → l ≤ length s → length bs ≤ l
-    → Fair b (p + l) (n + length ns) (drop l s) r → Fair (a + b) p n s (more l ns bs r)
+    → Fair b (p + l) (n + length ns) (drop l s) r → Fair (a + b) p n s (preceded l ns bs r)
 more-fair a b p n s l ns bs (got k tag ms cs) h g i f = omega (arith, length-drop l s, length-append ns ms, length-append bs cs)
 more-fair a b p n s l ns bs (refused number at) h g i f = omega (arith, length-drop l s)
 
@@ -118,7 +118,7 @@ word-fair : (w : Word) (len p n m : ℕ) (s : List ℕ) → 0 < len → len ≤ 
 word-fair (Value kind) len p n m s h g = plain-fair kind len p n m s h g
 word-fair Other len p n m s h g = (omega arith, omega arith)
 
-number-fair : (v : Number) (p n m : ℕ) (s : List ℕ) → 0 < length (numberOf s) → Sized s v → Fair 1 p n s (numberRead v p n m s)
+number-fair : (v : Number) (p n m : ℕ) (s : List ℕ) → 0 < length (numberToken s) → Sized s v → Fair 1 p n s (numberRead v p n m s)
 number-fair (Legal kind len) p n m s h g = plain-fair kind len p n m s (omega (arith, g .0)) (g .1)
 number-fair Malformed p n m s h g = (omega arith, omega arith)
 
@@ -206,34 +206,34 @@ module _ (close : ℕ) (rd : Reader) (f : FairBy 1 rd) where
   unfolding members
   members-fair = by-suffix LoopFair (λ p n m h. (omega arith, omega arith)) loop-one
 
-branch-fair : (kind p n x : ℕ) (s : List ℕ) (r : Read) → Fair 1 (p + 1) (n + 1) s r → Fair 1 p n (x ∷ s) (branch kind p r)
+branch-fair : (kind p n x : ℕ) (s : List ℕ) (r : Read) → Fair 1 (p + 1) (n + 1) s r → Fair 1 p n (x ∷ s) (groupNode kind p r)
 branch-fair kind p n x s (got l c ns bs) f = (omega arith, omega arith, omega arith, omega arith)
 branch-fair kind p n x s (refused number at) f = (omega arith, omega arith)
 
-bracketed-fair : (b : Sort) (v : Reader) → FairBy 1 v → (p n m : ℕ) (s : List ℕ) → 0 < length s → n < nodeMax → Fair 1 p n s (bracketed b v p n m s)
-unfolding bracketed
+bracketed-fair : (b : Sort) (v : Reader) → FairBy 1 v → (p n m : ℕ) (s : List ℕ) → 0 < length s → n < nodeMax → Fair 1 p n s (groupOf b v p n m s)
+unfolding groupOf
 bracketed-fair b v f p n m [] g h = absurd (omega arith)
 bracketed-fair b v f p n m (x ∷ s) g h =
-    branch-fair (kindOf b) p n x s (members (closeOf b) (memberOf b v) (p + 1) (n + 1) m 0 s)
+    branch-fair (groupKind b) p n x s (members (closeOf b) (memberOf b v) (p + 1) (n + 1) m 0 s)
     (members-fair (closeOf b) (memberOf b v) (member-fair b v f) s (p + 1) (n + 1) m (omega arith))
 
-pub opened-fair : (left : ℕ) (b : Sort) → FairOn (opened left b)
-unfolding opened
+pub opened-fair : (left : ℕ) (b : Sort) → FairOn (group left b)
+unfolding group
 opened-fair zero b p n m s h g = (omega arith, omega arith)
 opened-fair (suc d) b p n m s h g =
-    limited-fair (bracketed b (value d)) p n m s
-    (bracketed-fair b (value d) (value-of-fair (opened d Items) (opened d Pairs) (opened-fair d Items) (opened-fair d Pairs)) p n m s g)
+    limited-fair (groupOf b (value d)) p n m s
+    (bracketed-fair b (value d) (value-of-fair (group d Items) (group d Pairs) (opened-fair d Items) (opened-fair d Pairs)) p n m s g)
 
 pub value-fair : (left : ℕ) → FairBy 1 (value left)
-value-fair d = value-of-fair (opened d Items) (opened d Pairs) (opened-fair d Items) (opened-fair d Pairs)
+value-fair d = value-of-fair (group d Items) (group d Pairs) (opened-fair d Items) (opened-fair d Pairs)
 
-finish-fair : FairBy 0 finish
-unfolding finish
+finish-fair : FairBy 0 textEnd
+unfolding textEnd
 finish-fair p n m [] h = (omega arith, omega arith, omega arith, omega arith)
 finish-fair p n m (x ∷ r) h = (omega arith, omega arith)
 
 pub read-fair : (s : List ℕ) → Fair 1 0 0 s (readAll s)
 unfolding readAll
 read-fair s =
-    seq-fair 0 1 spaces (seq (value depthMax) (seq spaces finish)) spaces-fair
-    (seq-fair 1 0 (value depthMax) (seq spaces finish) (value-fair depthMax) (seq-fair 0 0 spaces finish spaces-fair finish-fair)) 0 0 0 s zero-le
+    seq-fair 0 1 spaces (seq (value depthMax) (seq spaces textEnd)) spaces-fair
+    (seq-fair 1 0 (value depthMax) (seq spaces textEnd) (value-fair depthMax) (seq-fair 0 0 spaces textEnd spaces-fair finish-fair)) 0 0 0 s zero-le

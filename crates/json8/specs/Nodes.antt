@@ -33,12 +33,12 @@ abbrev pub Reader : Type 0
 Reader = ℕ → ℕ → ℕ → List ℕ → Read
 
 -- one behind another; the tag is the last one's
-abbrev pub more : ℕ → List Node → List ℕ → Read → Read
-more l ns bs (got k tag ms cs) = got (l + k) tag (ns ++ ms) (bs ++ cs)
-more l ns bs (refused number at) = refused number at
+abbrev pub preceded : ℕ → List Node → List ℕ → Read → Read
+preceded l ns bs (got k tag ms cs) = got (l + k) tag (ns ++ ms) (bs ++ cs)
+preceded l ns bs (refused number at) = refused number at
 
 abbrev pub chain : Read → Reader → Reader
-chain (got l tag ns bs) b p n m s = more l ns bs (b (p + l) (n + length ns) (m + length bs) (drop l s))
+chain (got l tag ns bs) b p n m s = preceded l ns bs (b (p + l) (n + length ns) (m + length bs) (drop l s))
 chain (refused number at) b p n m s = refused number at
 
 unfoldable pub seq : Reader → Reader → Reader

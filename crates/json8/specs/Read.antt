@@ -14,13 +14,13 @@ use Rattle.json8.specs.declared.answers.Parsed.{Parsed}
 use Rattle.json8.specs.declared.answers.Parsed.the-variants.{Done, Refused}
 
 -- "bytes .. after the JSON8 value other than whitespace and comments"
-unfoldable pub finish : Reader
-finish p n m [] = got 0 0 [] []
-finish p n m (x ∷ r) = refused trailing p
+unfoldable pub textEnd : Reader
+textEnd p n m [] = got 0 0 [] []
+textEnd p n m (x ∷ r) = refused trailing p
 
 -- the leftmost fault, or what the text holds; brackets may stand "32 deep"
 unfoldable pub readAll : List ℕ → Read
-readAll s = seq spaces (seq (value depthMax) (seq spaces finish)) 0 0 0 s
+readAll s = seq spaces (seq (value depthMax) (seq spaces textEnd)) 0 0 0 s
 
 -- "all else is right, and the result is longer than the room": nodes in the table, bytes in the store
 abbrev pub fitted : ℕ → ℕ → Read → Read

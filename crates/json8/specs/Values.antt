@@ -8,7 +8,7 @@ use Rattle.prelude.specs.Pick.{pick}
 use Rattle.prelude.specs.Refusals.{cutOff, misplaced, tooDeep}
 use Rattle.tokens.specs.declared.starts.Start.{Start}
 use Rattle.tokens.specs.declared.starts.Start.the-variants.{Ended, String as StringStart, Word as WordStart, Number as NumberStart, List as ListStart, Dict, Nothing}
-use Rattle.tokens.specs.Starts.{startOf}
+use Rattle.tokens.specs.Starts.{endArray, endObject, startOf}
 use Rattle.json8.specs.declared.nodes.Sort.{Sort}
 use Rattle.json8.specs.declared.nodes.Sort.the-variants.{Items, Pairs}
 use Rattle.json8.specs.Nodes.{Node, node, Read, got, refused, Reader, seq, limited}
@@ -28,13 +28,13 @@ unfoldable pub valueOf : Reader → Reader → Reader
 valueOf ls ds p n m s = valueBy ls ds (startOf s) p n m s
 
 -- lists and dicts differ in their kind, "7 list, 8 dict", in their bracket and in their members
-abbrev pub kindOf : Sort → ℕ
-kindOf Items = 7
-kindOf Pairs = 8
+abbrev pub groupKind : Sort → ℕ
+groupKind Items = 7
+groupKind Pairs = 8
 
 abbrev pub closeOf : Sort → ℕ
-closeOf Items = 0x5d
-closeOf Pairs = 0x7d
+closeOf Items = endArray
+closeOf Pairs = endObject
 
 -- RFC 8259, section 4: "member = string name-separator value"; "(key, value, key, value)"
 abbrev pub memberOf : Sort → Reader → Reader
@@ -70,17 +70,17 @@ members close member p n m zero (x ∷ r) =
 members close member p n m (suc k) (x ∷ r) = members close member p n m k r
 
 -- "nodes in its subtree with itself"; "For 7 and 8 place is the bracket and length the members or pairs"
-abbrev pub branch : ℕ → ℕ → Read → Read
-branch kind p (got l c ns bs) = got (suc l) 0 (node kind (suc (length ns)) p c ∷ ns) bs
-branch kind p (refused number at) = refused number at
+abbrev pub groupNode : ℕ → ℕ → Read → Read
+groupNode kind p (got l c ns bs) = got (suc l) 0 (node kind (suc (length ns)) p c ∷ ns) bs
+groupNode kind p (refused number at) = refused number at
 
-unfoldable pub bracketed : Sort → Reader → Reader
-bracketed b value p n m s = branch (kindOf b) p (members (closeOf b) (memberOf b value) (p + 1) (n + 1) m 0 (drop 1 s))
+unfoldable pub groupOf : Sort → Reader → Reader
+groupOf b value p n m s = groupNode (groupKind b) p (members (closeOf b) (memberOf b value) (p + 1) (n + 1) m 0 (drop 1 s))
 
 -- a list or a dict where so many brackets more may be open: "a 33rd open bracket" is 15
-unfoldable pub opened : ℕ → Sort → Reader
-opened zero b = λ p n m s. refused tooDeep p
-opened (suc left) b = limited (bracketed b (valueOf (opened left Items) (opened left Pairs)))
+unfoldable pub group : ℕ → Sort → Reader
+group zero b = λ p n m s. refused tooDeep p
+group (suc left) b = limited (groupOf b (valueOf (group left Items) (group left Pairs)))
 
 abbrev pub value : ℕ → Reader
-value left = valueOf (opened left Items) (opened left Pairs)
+value left = valueOf (group left Items) (group left Pairs)

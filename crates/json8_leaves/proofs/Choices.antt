@@ -22,7 +22,7 @@ use Rattle.json8_leaves.specs.declared.nodes.Out.the-variants.{Refused}
 use Rattle.json8.specs.Nodes.{Read, refused, limited}
 use Rattle.prelude.specs.Limits.{nodeMax}
 use Rattle.json8.specs.Leaves.{stringRead, string, plain, word, number, keyBy, key}
-use Rattle.json8.specs.Values.{valueBy, valueOf, opened, value}
+use Rattle.json8.specs.Values.{valueBy, valueOf, group, value}
 use Rattle.json8_leaves.specs.inner.Told.{Told}
 use Rattle.json8_leaves.proofs.Joined.{told-stop}
 use Rattle.json8.proofs.Limited.{limited-full, limited-free}
@@ -78,9 +78,9 @@ module _ (at n m : ℕ) (r : List ℕ) (q : Start) (e : q ≡ startOf r) where
 
 -- a value
 module _ (d at n m : ℕ) (r : List ℕ) (q : Start) (e : q ≡ startOf r) where
-  value-is : (k : Start) → q ≡ k → value d at n m r ≡ valueBy (opened d Items) (opened d Pairs) k at n m r
+  value-is : (k : Start) → q ≡ k → value d at n m r ≡ valueBy (group d Items) (group d Pairs) k at n m r
   unfolding valueOf
-  value-is k f = ap (λ (x : Start). valueBy (opened d Items) (opened d Pairs) x at n m r) (sym e ∙ f)
+  value-is k f = ap (λ (x : Start). valueBy (group d Items) (group d Pairs) x at n m r) (sym e ∙ f)
 
   pub value-ended : (t s : List ℕ) → q ≡ Ended → Told (value d at n m r) at n m (Refused 4 at) t t s s
   value-ended t s f = told-stop (value-is Ended f)
@@ -89,10 +89,10 @@ module _ (d at n m : ℕ) (r : List ℕ) (q : Start) (e : q ≡ startOf r) where
     pub value-string : q ≡ StringStart → Told (limited string at n m r) at n m o t t' s s' → Told (value d at n m r) at n m o t t' s s'
     value-string f x = rw (value-is StringStart f) x
 
-    pub value-list : q ≡ ListStart → Told (opened d Items at n m r) at n m o t t' s s' → Told (value d at n m r) at n m o t t' s s'
+    pub value-list : q ≡ ListStart → Told (group d Items at n m r) at n m o t t' s s' → Told (value d at n m r) at n m o t t' s s'
     value-list f x = rw (value-is ListStart f) x
 
-    pub value-dict : q ≡ Dict → Told (opened d Pairs at n m r) at n m o t t' s s' → Told (value d at n m r) at n m o t t' s s'
+    pub value-dict : q ≡ Dict → Told (group d Pairs at n m r) at n m o t t' s s' → Told (value d at n m r) at n m o t t' s s'
     value-dict f x = rw (value-is Dict f) x
 
   pub value-word : (o : Out) (t t' s : List ℕ) → q ≡ WordStart → ((s : List ℕ) → Told (word at n m r) at n m o t t' s s) → Told (value d at n m r) at n m o t t' s s

@@ -12,7 +12,7 @@ use Rattle.json8_leaves.specs.declared.nodes.Out.{Out}
 use Rattle.json8_leaves.specs.declared.nodes.Out.the-variants.{Got, Refused}
 use Rattle.json8_leaves.specs.declared.nodes.Step.{Step}
 use Rattle.json8_leaves.specs.declared.nodes.Step.the-variants.{At, Stop}
-use Rattle.json8.specs.Nodes.{Node, Read, got, refused, Reader, more, chain, seq, flat}
+use Rattle.json8.specs.Nodes.{Node, Read, got, refused, Reader, preceded, chain, seq, flat}
 use Rattle.json8.specs.Leaves.{spaces, colon, comma}
 use Rattle.json8_leaves.specs.inner.Told.{Place, Took, Told, ToldBy, Went, Stepped, SteppedBy}
 use Rattle.json8.proofs.Fair.{Fair, FairBy}
@@ -68,13 +68,13 @@ sets-before (v ∷ vs) xs t j i e =
 
 -- readers joined either way
 more-more : (l : ℕ) (ns : List Node) (bs : List ℕ) (k : ℕ) (ms : List Node) (cs : List ℕ) (z : Read)
-    → more (l + k) (ns ++ ms) (bs ++ cs) z ≡ more l ns bs (more k ms cs z)
+    → preceded (l + k) (ns ++ ms) (bs ++ cs) z ≡ preceded l ns bs (preceded k ms cs z)
 more-more l ns bs k ms cs (got i u os ds) =
     let a : l + k + i ≡ l + (k + i) = omega arith in rw (a, sym (append-assoc ns ms os), sym (append-assoc bs cs ds))
 more-more l ns bs k ms cs (refused number at) = refl
 
 more-chain : (l : ℕ) (ns : List Node) (bs : List ℕ) (y : Read) (c : Reader) (p n m : ℕ) (s : List ℕ)
-    → chain (more l ns bs y) c p n m s ≡ more l ns bs (chain y c (p + l) (n + length ns) (m + length bs) (drop l s))
+    → chain (preceded l ns bs y) c p n m s ≡ preceded l ns bs (chain y c (p + l) (n + length ns) (m + length bs) (drop l s))
 more-chain l ns bs (refused number at) c p n m s = refl
 more-chain l ns bs (got k u ms cs) c p n m s =
     let a : p + (l + k) ≡ p + l + k = omega arith in
@@ -96,7 +96,7 @@ pub seq-assoc : (a b c : Reader) → seq (seq a b) c ≡ seq a (seq b c)
 seq-assoc a b c = λ i. λ p n m s. seq-assoc-at a b c p n m s i
 
 seq-got : (a b : Reader) (p n m : ℕ) (s : List ℕ) (l tag : ℕ) (ns : List Node) (bs : List ℕ) → a p n m s ≡ got l tag ns bs
-    → seq a b p n m s ≡ more l ns bs (b (p + l) (n + length ns) (m + length bs) (drop l s))
+    → seq a b p n m s ≡ preceded l ns bs (b (p + l) (n + length ns) (m + length bs) (drop l s))
 unfolding seq
 seq-got a b p n m s l tag ns bs e = rw e
 
@@ -108,20 +108,20 @@ seq-stop a b p n m s number q e = rw e
 -- a reader that has been run, and then another
 module _ (a b : Reader) (text : List ℕ) (at n m p i j tag : ℕ) (t t1 s s1 : List ℕ)
     (w : Took (a at n m (drop at text)) at n m p i j tag t t1 s s1) where
-  seq-is : seq a b at n m (drop at text) ≡ more (w .len) (w .ns) (w .bs) (b p i j (drop p text))
+  seq-is : seq a b at n m (drop at text) ≡ preceded (w .len) (w .ns) (w .bs) (b p i j (drop p text))
   seq-is =
       seq-got a b at n m (drop at text) (w .len) tag (w .ns) (w .bs) (w .same)
       ∙ rw (drop-drop (w .len) at text, sym (w .place), sym (w .nodes), sym (w .bytes))
 
   seq-by : (r : Out) (t2 s2 : List ℕ) → ToldBy (b p i j (drop p text)) p i j r t1 t2 s1 s2
       → ToldBy (seq a b at n m (drop at text)) at n m r t t2 s s2
-  seq-by (Refused number q) t2 s2 e = seq-is ∙ ap (more (w .len) (w .ns) (w .bs)) e
+  seq-by (Refused number q) t2 s2 e = seq-is ∙ ap (preceded (w .len) (w .ns) (w .bs)) e
   seq-by (Got q k l u) t2 s2 v =
       record {
         len = w .len + v .len;
         ns = w .ns ++ v .ns;
         bs = w .bs ++ v .bs;
-        same = seq-is ∙ ap (more (w .len) (w .ns) (w .bs)) (v .same);
+        same = seq-is ∙ ap (preceded (w .len) (w .ns) (w .bs)) (v .same);
         place = omega (arith, w .place, v .place);
         nodes = omega (arith, w .nodes, v .nodes, length-append (w .ns) (v .ns));
         bytes = omega (arith, w .bytes, v .bytes, length-append (w .bs) (v .bs));
@@ -156,7 +156,7 @@ comma-blind close p n m s = refl
 chain-blind : (b : Reader) → Blind b → (p n m : ℕ) (s : List ℕ) (r : Read) → chain r b p n m s ≡ chain r b p 0 0 s
 chain-blind b h p n m s (refused number at) = refl
 chain-blind b h p n m s (got l tag ns bs) =
-    ap (more l ns bs) (h (p + l) (n + length ns) (m + length bs) (drop l s) ∙ sym (h (p + l) (0 + length ns) (0 + length bs) (drop l s)))
+    ap (preceded l ns bs) (h (p + l) (n + length ns) (m + length bs) (drop l s) ∙ sym (h (p + l) (0 + length ns) (0 + length bs) (drop l s)))
 
 pub seq-blind : (a b : Reader) → Blind a → Blind b → Blind (seq a b)
 unfolding seq

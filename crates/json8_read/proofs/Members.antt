@@ -19,7 +19,7 @@ use Rattle.json8_leaves.specs.declared.nodes.Out.the-variants.{Got, Refused}
 use Rattle.json8.specs.Nodes.{Node, node, Read, got, refused, Reader, seq, flat, limited}
 use Rattle.prelude.specs.Limits.{nodeMax}
 use Rattle.json8.specs.Leaves.{spaces, colon, comma, key}
-use Rattle.json8.specs.Values.{kindOf, closeOf, memberOf, closeOr, round, again, members, branch, bracketed, opened, value}
+use Rattle.json8.specs.Values.{groupKind, closeOf, memberOf, closeOr, round, again, members, groupNode, groupOf, group, value}
 use Rattle.json8_leaves.specs.inner.Told.{Place, Took, Told, Went, labelled}
 use Rattle.json8.proofs.Fair.{Fair, FairBy, seq-fair, spaces-fair, colon-fair, key-fair, round-fair, member-fair, value-fair, members-skip}
 use Rattle.json8_leaves.proofs.Joined.{took, stopped, told-got, told-stop, flat-append, flat-length, sets-before, seq-assoc, seq-stop, seq-told, step-told, spaces-blind}
@@ -131,12 +131,12 @@ module _ (b : Sort) (v : Reader) (text : List ℕ) (at n m : ℕ) (t₀ s₀ : L
         record { short = h .short; inside = w .inside; few = w .few; less = omega (arith, h .less, w .bytes, w .small, w .onward) }
 
     -- a refusal inside
-    cut : {number q : ℕ} → turn p i j ≡ refused number q → bracketed b v at n m (drop at text) ≡ refused number q
-    unfolding bracketed
+    cut : {number q : ℕ} → turn p i j ≡ refused number q → groupOf b v at n m (drop at text) ≡ refused number q
+    unfolding groupOf
     cut {number} {q} e =
         let f : inner (at + 1) (n + 1) m (drop (at + 1) text) ≡ refused number q =
         w .same ∙ rw (step-stop (closeOf b) (memberOf b v) p i j (drop p text) number q e) in
-        ap (λ (x : List ℕ). branch (kindOf b) at (inner (at + 1) (n + 1) m x)) (drop-drop 1 at text) ∙ ap (branch (kindOf b) at) f
+        ap (λ (x : List ℕ). groupNode (groupKind b) at (inner (at + 1) (n + 1) m x)) (drop-drop 1 at text) ∙ ap (groupNode (groupKind b) at) f
 
     -- a round more
     module _ (f : FairBy 1 (memberOf b v)) where
@@ -186,60 +186,60 @@ module _ (b : Sort) (v : Reader) (text : List ℕ) (at n m : ℕ) (t₀ s₀ : L
   -- the bracket's node
   shut : {t1 t2 s1 : List ℕ} {q k l : ℕ} (len cnt : ℕ) (ms : List Node) (cs : List ℕ) → inner (at + 1) (n + 1) m (drop (at + 1) text) ≡ got len cnt ms cs
       → q ≡ at + 1 + len → k ≡ n + 1 + length ms → l ≡ m + length cs → t1 ≡ sets t₀ (4 * (n + 1)) (flat ms) → s1 ≡ sets s₀ m cs
-      → t2 ≡ sets t1 (4 * n) (kindOf b ∷ (k - n) ∷ at ∷ cnt ∷ []) → Took (bracketed b v at n m (drop at text)) at n m q k l 0 t₀ t2 s₀ s1
-  unfolding bracketed flat
+      → t2 ≡ sets t1 (4 * n) (groupKind b ∷ (k - n) ∷ at ∷ cnt ∷ []) → Took (groupOf b v at n m (drop at text)) at n m q k l 0 t₀ t2 s₀ s1
+  unfolding groupOf flat
   shut {t1} {t2} {s1} {q} {k} {l} len cnt ms cs e pq pk pl y y8 x =
       let z : k - n ≡ suc (length ms) = omega arith in
       record {
         len = suc len;
-        ns = node (kindOf b) (suc (length ms)) at cnt ∷ ms;
+        ns = node (groupKind b) (suc (length ms)) at cnt ∷ ms;
         bs = cs;
         same =
-            ap (λ (r : List ℕ). branch (kindOf b) at (inner (at + 1) (n + 1) m r)) (drop-drop 1 at text) ∙ ap (branch (kindOf b) at) e;
+            ap (λ (r : List ℕ). groupNode (groupKind b) at (inner (at + 1) (n + 1) m r)) (drop-drop 1 at text) ∙ ap (groupNode (groupKind b) at) e;
         place = omega arith;
         nodes = omega arith;
         bytes = pl;
         table =
-            x ∙ ap (λ (r : ℕ). sets t1 (4 * n) (kindOf b ∷ r ∷ at ∷ cnt ∷ [])) z
-            ∙ ap (λ (r : List ℕ). sets r (4 * n) (kindOf b ∷ suc (length ms) ∷ at ∷ cnt ∷ [])) y
-            ∙ sets-before (kindOf b ∷ suc (length ms) ∷ at ∷ cnt ∷ []) (flat ms) t₀ (4 * n) (4 * (n + 1)) (omega arith);
+            x ∙ ap (λ (r : ℕ). sets t1 (4 * n) (groupKind b ∷ r ∷ at ∷ cnt ∷ [])) z
+            ∙ ap (λ (r : List ℕ). sets r (4 * n) (groupKind b ∷ suc (length ms) ∷ at ∷ cnt ∷ [])) y
+            ∙ sets-before (groupKind b ∷ suc (length ms) ∷ at ∷ cnt ∷ []) (flat ms) t₀ (4 * n) (4 * (n + 1)) (omega arith);
         stored = y8;
       }
 
   module _ {t s t1 s1 : List ℕ} {p i j count q k l : ℕ} (w : Loop t s p i j count) (t2 : List ℕ) where
     behind : {u : ℕ} (cnt : ℕ) (x : Took (turn p i j) p i j q k l u t t1 s s1)
         → inner (at + 1) (n + 1) m (drop (at + 1) text) ≡ got (p - (at + 1) + x .len) cnt (w .ns ++ x .ns) (w .bs ++ x .bs)
-        → t2 ≡ sets t1 (4 * n) (kindOf b ∷ (k - n) ∷ at ∷ cnt ∷ []) → Took (bracketed b v at n m (drop at text)) at n m q k l 0 t₀ t2 s₀ s1
+        → t2 ≡ sets t1 (4 * n) (groupKind b ∷ (k - n) ∷ at ∷ cnt ∷ []) → Took (groupOf b v at n m (drop at text)) at n m q k l 0 t₀ t2 s₀ s1
     behind cnt x e y =
         shut (p - (at + 1) + x .len) cnt (w .ns ++ x .ns) (w .bs ++ x .bs) e (omega (arith, x .place, w .onward))
         (omega (arith, x .nodes, w .nodes, length-append (w .ns) (x .ns))) (omega (arith, x .bytes, w .bytes, length-append (w .bs) (x .bs)))
         (both-tables t₀ (w .ns) (x .ns) (4 * (n + 1)) (4 * i) (w .table) (x .table) (omega (arith, w .nodes)))
         (both-stores s₀ (w .bs) (x .bs) m j (w .stored) (x .stored) (omega (arith, w .bytes))) y
 
-    closed : Took (turn p i j) p i j q k l 0 t t1 s s1 → t2 ≡ sets t1 (4 * n) (kindOf b ∷ (k - n) ∷ at ∷ count ∷ [])
-        → Took (bracketed b v at n m (drop at text)) at n m q k l 0 t₀ t2 s₀ s1
+    closed : Took (turn p i j) p i j q k l 0 t t1 s s1 → t2 ≡ sets t1 (4 * n) (groupKind b ∷ (k - n) ∷ at ∷ count ∷ [])
+        → Took (groupOf b v at n m (drop at text)) at n m q k l 0 t₀ t2 s₀ s1
     closed x y =
         behind count x
         (w .same ∙ rw (step-none (closeOf b) (memberOf b v) p i j (drop p text) (x .len) (x .ns) (x .bs) (x .same), add-zero count)) y
 
-    closed-behind : Took (turn p i j) p i j q k l 1 t t1 s s1 → t2 ≡ sets t1 (4 * n) (kindOf b ∷ (k - n) ∷ at ∷ (count + 1) ∷ [])
-        → Took (bracketed b v at n m (drop at text)) at n m q k l 0 t₀ t2 s₀ s1
+    closed-behind : Took (turn p i j) p i j q k l 1 t t1 s s1 → t2 ≡ sets t1 (4 * n) (groupKind b ∷ (k - n) ∷ at ∷ (count + 1) ∷ [])
+        → Took (groupOf b v at n m (drop at text)) at n m q k l 0 t₀ t2 s₀ s1
     closed-behind x y =
         behind (count + 1) x
         (w .same ∙ rw (step-one (closeOf b) (memberOf b v) p i j (drop p text) (x .len) (x .ns) (x .bs) (x .same))) y
 
 -- how deep, how many
-pub too-deep : (d : ℕ) (b : Sort) (p n m : ℕ) (s : List ℕ) → d ≡ 0 → opened d b p n m s ≡ refused 15 p
-unfolding opened
+pub too-deep : (d : ℕ) (b : Sort) (p n m : ℕ) (s : List ℕ) → d ≡ 0 → group d b p n m s ≡ refused 15 p
+unfolding group
 too-deep d b p n m s e = rw e
 
-pub too-many : (d : ℕ) (b : Sort) (p n m : ℕ) (s : List ℕ) → (d ≡ 0 → ⊥) → nodeMax ≤ n → opened d b p n m s ≡ refused 16 p
-unfolding opened limited pick
+pub too-many : (d : ℕ) (b : Sort) (p n m : ℕ) (s : List ℕ) → (d ≡ 0 → ⊥) → nodeMax ≤ n → group d b p n m s ≡ refused 16 p
+unfolding group limited pick
 too-many zero b p n m s e h = absurd (e refl)
 too-many (suc d) b p n m s e h = rw (le-ltb n nodeMax h)
 
-opened-is : (d : ℕ) (b : Sort) (p n m : ℕ) (s : List ℕ) → (d ≡ 0 → ⊥) → n < nodeMax → opened d b p n m s ≡ bracketed b (value (d - 1)) p n m s
-unfolding opened limited pick
+opened-is : (d : ℕ) (b : Sort) (p n m : ℕ) (s : List ℕ) → (d ≡ 0 → ⊥) → n < nodeMax → group d b p n m s ≡ groupOf b (value (d - 1)) p n m s
+unfolding group limited pick
 opened-is zero b p n m s e h = absurd (e refl)
 opened-is (suc d) b p n m s e h = let z : suc d - 1 ≡ d = omega arith in rw (lt-ltb n nodeMax h, z)
 
@@ -247,20 +247,20 @@ opened-is (suc d) b p n m s e h = let z : suc d - 1 ≡ d = omega arith in rw (l
 module _ (d : ℕ) (b : Sort) (text : List ℕ) (at n m : ℕ) (t₀ s₀ : List ℕ) (deep : d ≡ 0 → ⊥) (room : n < nodeMax) (t s : List ℕ) (p i j count : ℕ)
     (w : Loop b (value (d - 1)) text at n m t₀ s₀ t s p i j count) (t1 s1 : List ℕ) (r : Out)
     (x : Told (round (closeOf b) (memberOf b (value (d - 1))) p i j (drop p text)) p i j r t t1 s s1) where
-  pub loop-cut : (number q : ℕ) → r ≡ Refused number q → Told (opened d b at n m (drop at text)) at n m (Refused number q) t₀ t1 s₀ s1
+  pub loop-cut : (number q : ℕ) → r ≡ Refused number q → Told (group d b at n m (drop at text)) at n m (Refused number q) t₀ t1 s₀ s1
   loop-cut number q e =
       told-stop (opened-is d b at n m (drop at text) deep room ∙ cut b (value (d - 1)) text at n m t₀ s₀ w (stopped x e))
 
-  module _ (q k l u : ℕ) (e : r ≡ Got q k l u) (kd : ℕ) (ke : kd ≡ kindOf b) (t2 : List ℕ) where
+  module _ (q k l u : ℕ) (e : r ≡ Got q k l u) (kd : ℕ) (ke : kd ≡ groupKind b) (t2 : List ℕ) where
     pub loop-closed : u ≡ 0 → t2 ≡ sets t1 (4 * n) (kd ∷ (k - n) ∷ at ∷ count ∷ [])
-        → Told (opened d b at n m (drop at text)) at n m (Got q k l 0) t₀ t2 s₀ s1
+        → Told (group d b at n m (drop at text)) at n m (Got q k l 0) t₀ t2 s₀ s1
     loop-closed z y =
         rw (opened-is d b at n m (drop at text) deep room)
         (told-got (closed b (value (d - 1)) text at n m t₀ s₀ w t2 (took x (e ∙ ap (Got q k l) z))
         (y ∙ ap (λ (o : ℕ). sets t1 (4 * n) (o ∷ (k - n) ∷ at ∷ count ∷ [])) ke)))
 
     pub loop-last : u ≡ 1 → t2 ≡ sets t1 (4 * n) (kd ∷ (k - n) ∷ at ∷ (count + 1) ∷ [])
-        → Told (opened d b at n m (drop at text)) at n m (Got q k l 0) t₀ t2 s₀ s1
+        → Told (group d b at n m (drop at text)) at n m (Got q k l 0) t₀ t2 s₀ s1
     loop-last z y =
         rw (opened-is d b at n m (drop at text) deep room)
         (told-got (closed-behind b (value (d - 1)) text at n m t₀ s₀ w t2 (took x (e ∙ ap (Got q k l) z))

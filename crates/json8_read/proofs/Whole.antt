@@ -19,7 +19,7 @@ use Rattle.json8_leaves.specs.declared.nodes.Out.the-variants.{Got, Refused}
 use Rattle.json8.specs.Nodes.{Node, Read, got, refused, Reader, seq, flat}
 use Rattle.json8.specs.Leaves.{spaces}
 use Rattle.json8.specs.Values.{value}
-use Rattle.json8.specs.Read.{finish, readAll, readOf, parsedOf, tableAfter, storeAfter}
+use Rattle.json8.specs.Read.{textEnd, readAll, readOf, parsedOf, tableAfter, storeAfter}
 use Rattle.json8_leaves.specs.inner.Told.{Place, Took, Told, ToldBy, Answered}
 use Rattle.json8_leaves.proofs.Joined.{took, stopped, flat-length}
 
@@ -27,19 +27,19 @@ pub from-start : (text : List ℕ) → length text ≤ textMax → Place text 0 
 from-start text h = record { short = h; inside = omega arith; few = omega arith; less = omega arith }
 
 abbrev pub behind-value : Reader
-behind-value = seq spaces finish
+behind-value = seq spaces textEnd
 
 pub all-told : (text : List ℕ) (r : Out) (t t' s s' : List ℕ) → Told (seq spaces (seq (value depthMax) behind-value) 0 0 0 (drop 0 text)) 0 0 0 r t t' s s'
     → Told (readAll text) 0 0 0 r t t' s s'
 unfolding readAll
 all-told text r t t' s s' x = x
 
-pub finish-more : (text : List ℕ) (x n m : ℕ) → x < length text → finish x n m (drop x text) ≡ refused 11 x
-unfolding finish
+pub finish-more : (text : List ℕ) (x n m : ℕ) → x < length text → textEnd x n m (drop x text) ≡ refused 11 x
+unfolding textEnd
 finish-more text x n m h = rw (drop-cons text x 0 h)
 
-pub finish-done : (text : List ℕ) (x n m : ℕ) (t s : List ℕ) → length text ≤ x → Took (finish x n m (drop x text)) x n m x n m 0 t t s s
-unfolding finish flat
+pub finish-done : (text : List ℕ) (x n m : ℕ) (t s : List ℕ) → length text ≤ x → Took (textEnd x n m (drop x text)) x n m x n m 0 t t s s
+unfolding textEnd flat
 finish-done text x n m t s h =
     record { len = 0; ns = []; bs = []; same = rw (drop-of-length-le text h); place = omega arith; nodes = omega arith; bytes = omega arith; table = refl; stored = refl }
 

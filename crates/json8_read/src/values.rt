@@ -6,7 +6,7 @@ ghost use Rattle.utf8.specs.Class.{IsTable};
 ghost use Rattle.prelude.specs.Limits.{textMax};
 ghost use Rattle.json8.specs.Nodes.{seq};
 ghost use Rattle.json8.specs.Leaves.{spaces, colon, comma};
-ghost use Rattle.json8.specs.Values.{kindOf, closeOf, memberOf, round, opened, value};
+ghost use Rattle.json8.specs.Values.{groupKind, closeOf, memberOf, round, group, value};
 ghost use Rattle.json8_leaves.specs.inner.Told.{Place, Told, Stepped, labelled};
 use json8::nodes::Sort;
 use json8_leaves::leaves;
@@ -23,13 +23,13 @@ fn close_of(sort: Sort) -> u8
     ensures { λ r. ⌜ r ≡ closeOf sort ⌝ }
 {
     match sort {
-        Sort::Items => 0x5d,
-        Sort::Pairs => 0x7d,
+        Sort::Items => b']',
+        Sort::Pairs => b'}',
     }
 }
 
 fn kind_of(sort: Sort) -> u32
-    ensures { λ r. ⌜ r ≡ kindOf sort ⌝ }
+    ensures { λ r. ⌜ r ≡ groupKind sort ⌝ }
 {
     match sort {
         Sort::Items => 7,
@@ -218,7 +218,7 @@ fn bracket(
     store: &mut [u8],
 ) -> Out
     requires { ⌜ IsTable (now t) × Place (now text) at n m × (at < length (now text)) ⌝ }
-    ensures { λ r. ⌜ Told (opened left sort at n m (drop at (now (text .entry)))) at n m r (now (table .entry)) (now (table .exit)) (now (store .entry)) (now (store .exit)) ⌝ }
+    ensures { λ r. ⌜ Told (group left sort at n m (drop at (now (text .entry)))) at n m r (now (table .entry)) (now (table .exit)) (now (store .entry)) (now (store .exit)) ⌝ }
 {
     if left == 0 {
         return Out::Refused(refusals::TOO_DEEP, at);

@@ -73,7 +73,7 @@ pub fn show<'a>(table: &[u32], text: &'a [u8], store: &'a [u8], node: usize) -> 
 }
 
 // Whether a node shows the text's empty beginning because it is outside the table, no string, or has a range outside its buffer: 1, and 0 else.
-pub fn shows(table: &[u32], text: &[u8], store: &[u8], node: usize) -> u32
+pub fn unshown(table: &[u32], text: &[u8], store: &[u8], node: usize) -> u32
     ensures { λ r. ⌜ r ≡ unshown (shownAt (now (table .entry)) (length (now (text .entry))) (length (now (store .entry))) node) ⌝ }
 {
     let shown = shown_at(table, text.len(), store.len(), node);

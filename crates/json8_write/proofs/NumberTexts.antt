@@ -15,43 +15,43 @@ use Rattle.prelude.proofs.Cases.{never}
 use Rattle.tokens.specs.declared.numbers.Number.{Number}
 use Rattle.tokens.specs.declared.numbers.Number.the-variants.{Legal, Malformed}
 use Rattle.tokens.specs.Words.{runOf}
-use Rattle.tokens.specs.Numbers.{isNumber, numberOf, numberKind, numberFrom, numberAt}
+use Rattle.tokens.specs.Numbers.{isNumber, numberToken, numberKind, numberFrom, numberAt}
 use Rattle.tokens.proofs.Runs.{run-take}
 use Rattle.trees.proofs.NumberTexts.{run-back, number-legal}
 
 -- all of a text is one run
 abbrev Whole : List ℕ → Type 0
-Whole s = numberOf s ≡ s
+Whole s = numberToken s ≡ s
 
 number-whole : (s : List ℕ) → (numberKind s ≡ 0 → ⊥) → Whole s
 unfolding runOf
 number-whole s h = rw (append-nil s) at (run-back isNumber s [] (number-legal s h .0) refl)
 
 -- a run as long as the text is the text
-run-all : (s : List ℕ) → length (numberOf s) ≡ length s → Whole s
+run-all : (s : List ℕ) → length (numberToken s) ≡ length s → Whole s
 run-all s e = run-take isNumber s ∙ rw e (take-length s)
 
 -- what the token reader answers of a text
 module _ (s : List ℕ) (kind : ℕ) (v : Number) (told : v ≡ numberAt s) where
-  kind-length : (k n : ℕ) → v ≡ Legal k n → (numberKind (numberOf s) ≡ k) × (length (numberOf s) ≡ n)
+  kind-length : (k n : ℕ) → v ≡ Legal k n → (numberKind (numberToken s) ≡ k) × (length (numberToken s) ≡ n)
   unfolding numberAt numberFrom
-  kind-length k n e = go (numberKind (numberOf s)) refl
+  kind-length k n e = go (numberKind (numberToken s)) refl
     where
-      go : (j : ℕ) → numberKind (numberOf s) ≡ j → (numberKind (numberOf s) ≡ k) × (length (numberOf s) ≡ n)
+      go : (j : ℕ) → numberKind (numberToken s) ≡ j → (numberKind (numberToken s) ≡ k) × (length (numberToken s) ≡ n)
       go zero q = never (let z : Malformed ≡ Legal k n = sym (told ∙ rw q) ∙ e in cc)
       go (suc j) q =
-          let z : Legal (suc j) (0 + length (numberOf s)) ≡ Legal k n = sym (told ∙ rw q) ∙ e in
+          let z : Legal (suc j) (0 + length (numberToken s)) ≡ Legal k n = sym (told ∙ rw q) ∙ e in
           let a : suc j ≡ k = cc in
-          let b : 0 + length (numberOf s) ≡ n = cc in
+          let b : 0 + length (numberToken s) ≡ n = cc in
           (q ∙ a, sym (zero-add _) ∙ b)
 
-  malformed-kind : v ≡ Malformed → numberKind (numberOf s) ≡ 0
+  malformed-kind : v ≡ Malformed → numberKind (numberToken s) ≡ 0
   unfolding numberAt numberFrom
-  malformed-kind e = go (numberKind (numberOf s)) refl
+  malformed-kind e = go (numberKind (numberToken s)) refl
     where
-      go : (j : ℕ) → numberKind (numberOf s) ≡ j → numberKind (numberOf s) ≡ 0
+      go : (j : ℕ) → numberKind (numberToken s) ≡ j → numberKind (numberToken s) ≡ 0
       go zero q = q
-      go (suc j) q = never (let z : Legal (suc j) (0 + length (numberOf s)) ≡ Malformed = sym (told ∙ rw q) ∙ e in cc)
+      go (suc j) q = never (let z : Legal (suc j) (0 + length (numberToken s)) ≡ Malformed = sym (told ∙ rw q) ∙ e in cc)
 
   pub none-legal : 0 < kind → v ≡ Malformed → false ≡ eqb (numberKind s) kind
   none-legal h e = sym (ne-eqb (numberKind s) kind (λ z.

@@ -11,7 +11,7 @@ fn print_head(table: &[u32], node: usize) {
 fn print_shown<'a>(table: &[u32], text: &'a [u8], store: &'a [u8], node: usize) {
     show::print_named(
         b": ",
-        json8_show::show::shows(table, text, store, node) as usize,
+        json8_show::show::unshown(table, text, store, node) as usize,
     );
     show::print_runs(json8_show::show::show(table, text, store, node));
     show::end_line();

@@ -17,16 +17,16 @@ use Rattle.units.specs.declared.styles.Style.{Style}
 use Rattle.tokens.specs.declared.starts.Start.the-variants.{Ended, String, Word, Number, List as ListStart, Dict, Nothing}
 use Rattle.tokens.specs.declared.starts.Mark.the-variants.{Close, Separator, Fault}
 use Rattle.tokens.specs.Words.{isLetter, isDigit}
-use Rattle.tokens.specs.Starts.{opened, startOf, colonAt, commaAt}
+use Rattle.tokens.specs.Starts.{isOpening, startOf, colonAt, commaAt}
 
 pub rest : (s : List ℕ) (at : ℕ) → take (length s - at) (drop at s) ≡ drop at s
 rest s at = take-all (length s - at) (drop at s) (omega (arith, length-drop at s))
 
 module _ (s : List ℕ) (at : ℕ) (m : Opener) (e : openingOf m ≡ opening (take (length s - at) (drop at s))) where
-  pub opens-here : (st : Style) (n : ℕ) → m ≡ Opens st n → true ≡ opened (opening (drop at s))
+  pub opens-here : (st : Style) (n : ℕ) → m ≡ Opens st n → true ≡ isOpening (opening (drop at s))
   opens-here st n q = let o : opening (drop at s) ≡ opens st n = ap opening (sym (rest s at)) ∙ sym e ∙ ap openingOf q in rw o
 
-  pub opens-not : m ≡ Unopened → false ≡ opened (opening (drop at s))
+  pub opens-not : m ≡ Unopened → false ≡ isOpening (opening (drop at s))
   opens-not q = let o : opening (drop at s) ≡ unopened = ap opening (sym (rest s at)) ∙ sym e ∙ ap openingOf q in rw o
 
 pub start-end : (s : List ℕ) (at : ℕ) → length s ≤ at → Ended ≡ startOf (drop at s)
@@ -37,11 +37,11 @@ module _ (s : List ℕ) (at : ℕ) (h : at < length s) where
   cons : drop at s ≡ getD s at 0 ∷ drop (suc at) s
   cons = drop-cons s at 0 h
 
-  pub start-string : opened (opening (drop at s)) ≡ true → String ≡ startOf (drop at s)
+  pub start-string : isOpening (opening (drop at s)) ≡ true → String ≡ startOf (drop at s)
   unfolding startOf pick
   start-string o = let q = rw cons at o in rw (cons, q)
 
-  module _ (o : opened (opening (drop at s)) ≡ false) where
+  module _ (o : isOpening (opening (drop at s)) ≡ false) where
     pub start-word : isLetter (getD s at 0) ≡ true → Word ≡ startOf (drop at s)
     unfolding startOf pick
     start-word l = let q = rw cons at o in rw (cons, q, l)

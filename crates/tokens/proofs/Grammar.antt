@@ -17,7 +17,8 @@ use Rattle.prelude.proofs.Rest.{getD-inside}
 use Rattle.tokens.specs.declared.numbers.Number.{Number}
 use Rattle.tokens.specs.declared.numbers.Number.the-variants.{Legal, Malformed}
 use Rattle.tokens.specs.Words.{isDigit, runOf}
-use Rattle.tokens.specs.Numbers.{isE, isSign, isNumber, numberOf, legal, ends, inExp, expDigits, behindE, behindFrac, inFrac, behindPoint, behindInt, inInt, int, numberKind, numberFrom, Leads, numberAt}
+use Rattle.tokens.specs.Numbers.{isE, isSign, isNumber, numberToken, legal, ends, inExp, expDigits, behindE, behindFrac, inFrac, behindPoint, behindInt, inInt, int, numberKind, numberFrom, numberAt}
+use Rattle.tokens.specs.inner.Parts.{Leads}
 use Rattle.tokens.proofs.Runs.{run-more, run-none, run-le}
 
 pub digit-number : (x : ℕ) → isDigit x ≡ true → isNumber x ≡ true
@@ -40,18 +41,18 @@ zero-not = refl
 
 -- the run at a place begins with the byte there, or is empty
 module _ (r : List ℕ) (x : ℕ) (ex : x ≡ getD r 0 0) where
-  pub head-more : isNumber x ≡ true → numberOf r ≡ x ∷ numberOf (drop 1 r)
+  pub head-more : isNumber x ≡ true → numberToken r ≡ x ∷ numberToken (drop 1 r)
   head-more e = go r ex
     where
-      go : (t : List ℕ) → x ≡ getD t 0 0 → numberOf t ≡ x ∷ numberOf (drop 1 t)
+      go : (t : List ℕ) → x ≡ getD t 0 0 → numberToken t ≡ x ∷ numberToken (drop 1 t)
       go [] q = never (let z : false ≡ true = sym zero-not ∙ ap isNumber (sym q) ∙ e in cc)
       go (y ∷ t) q = rw (sym q) (run-more isNumber x t e)
 
-  pub head-none : isNumber x ≡ false → numberOf r ≡ []
+  pub head-none : isNumber x ≡ false → numberToken r ≡ []
   unfolding runOf
   head-none e = go r ex
     where
-      go : (t : List ℕ) → x ≡ getD t 0 0 → numberOf t ≡ []
+      go : (t : List ℕ) → x ≡ getD t 0 0 → numberToken t ≡ []
       go [] q = refl
       go (y ∷ t) q = run-none isNumber y t (ap isNumber (sym q) ∙ e)
 
@@ -68,22 +69,22 @@ module _ (s : List ℕ) (at x : ℕ) (ex : x ≡ getD (drop at s) 0 0) where
       → ((w : List ℕ) → part (x ∷ w) ≡ next w) → v ≡ numberFrom part at (drop at s)
   unfolding numberFrom
   goes-on part next v e h f =
-      let l : at + 1 + length (numberOf (drop (at + 1) s)) ≡ at + suc (length (numberOf (drop (at + 1) s))) = omega arith in
-      e ∙ rw (head-more (drop at s) x ex h, drop-drop 1 at s, f (numberOf (drop (at + 1) s)), l)
+      let l : at + 1 + length (numberToken (drop (at + 1) s)) ≡ at + suc (length (numberToken (drop (at + 1) s))) = omega arith in
+      e ∙ rw (head-more (drop at s) x ex h, drop-drop 1 at s, f (numberToken (drop (at + 1) s)), l)
 
   pub stays : (part same : List ℕ → ℕ) (v : Number) → v ≡ numberFrom same at (drop at s) → part [] ≡ same []
       → ((w : List ℕ) → part (x ∷ w) ≡ same (x ∷ w)) → v ≡ numberFrom part at (drop at s)
   unfolding numberFrom
   stays part same v e z f =
       e ∙ split (isNumber x)
-      (λ h. rw (head-more (drop at s) x ex h, f (numberOf (drop 1 (drop at s)))))
+      (λ h. rw (head-more (drop at s) x ex h, f (numberToken (drop 1 (drop at s)))))
       (λ h. rw (head-none (drop at s) x ex h, z))
 
   pub fails : (part : List ℕ → ℕ) → part [] ≡ 0 → ((w : List ℕ) → part (x ∷ w) ≡ 0) → Malformed ≡ numberFrom part at (drop at s)
   unfolding numberFrom
   fails part z f =
       split (isNumber x)
-      (λ h. rw (head-more (drop at s) x ex h, f (numberOf (drop 1 (drop at s)))))
+      (λ h. rw (head-more (drop at s) x ex h, f (numberToken (drop 1 (drop at s)))))
       (λ h. rw (head-none (drop at s) x ex h, z))
 
   pub too-long : (kind : ℕ) → isNumber x ≡ true → Malformed ≡ numberFrom (ends kind) at (drop at s)
@@ -104,10 +105,10 @@ module _ (part next : List ℕ → ℕ) (digit : (x : ℕ) (w : List ℕ) → is
   over (x ∷ r) n =
       split (isDigit x)
       (λ d. let m : n + suc (length (runOf isDigit r)) ≡ suc n + length (runOf isDigit r) = omega arith in
-      let l : n + suc (length (numberOf r)) ≡ suc n + length (numberOf r) = omega arith in
-      rw (run-more isDigit x r d, run-more isNumber x r (digit-number x d), m, l, digit x (numberOf r) d) (over r (suc n)))
+      let l : n + suc (length (numberToken r)) ≡ suc n + length (numberToken r) = omega arith in
+      rw (run-more isDigit x r d, run-more isNumber x r (digit-number x d), m, l, digit x (numberToken r) d) (over r (suc n)))
       (λ d. split (isNumber x)
-      (λ h. rw (run-none isDigit x r d, run-more isNumber x r h, add-zero n, other x (numberOf r) d))
+      (λ h. rw (run-none isDigit x r d, run-more isNumber x r h, add-zero n, other x (numberToken r) d))
       (λ h. rw (run-none isDigit x r d, run-none isNumber x r h, none) (simp add-zero)))
 
   pub over-digits : (s : List ℕ) (at e : ℕ) (v : Number) → e ≡ at + length (runOf isDigit (drop at s)) → v ≡ numberFrom next e (drop e s) → v ≡ numberFrom part at (drop at s)
@@ -240,7 +241,7 @@ module _ (s : List ℕ) (at x : ℕ) (ex : x ≡ getD (drop at s) 0 0) where
 pub legal-at : (s : List ℕ) (from kind end : ℕ) (v : Number) → v ≡ numberFrom numberKind from (drop from s) → v ≡ Legal kind end
     → Legal kind (end - from) ≡ numberAt (drop from s)
 unfolding numberAt numberFrom
-legal-at s from kind end v e f = go (numberKind (numberOf (drop from s))) (length (numberOf (drop from s))) (sym e ∙ f)
+legal-at s from kind end v e f = go (numberKind (numberToken (drop from s))) (length (numberToken (drop from s))) (sym e ∙ f)
   where
     go : (k n : ℕ) → legal k (from + n) ≡ Legal kind end → Legal kind (end - from) ≡ legal k (0 + n)
     go zero n q = never cc
@@ -252,7 +253,7 @@ legal-at s from kind end v e f = go (numberKind (numberOf (drop from s))) (lengt
 
 pub legal-inside : (s : List ℕ) (from kind end : ℕ) (v : Number) → v ≡ numberFrom numberKind from (drop from s) → v ≡ Legal kind end → from ≤ end
 unfolding numberFrom
-legal-inside s from kind end v e f = go (numberKind (numberOf (drop from s))) (length (numberOf (drop from s))) (sym e ∙ f)
+legal-inside s from kind end v e f = go (numberKind (numberToken (drop from s))) (length (numberToken (drop from s))) (sym e ∙ f)
   where
     go : (k n : ℕ) → legal k (from + n) ≡ Legal kind end → from ≤ end
     go zero n q = never cc
@@ -260,7 +261,7 @@ legal-inside s from kind end v e f = go (numberKind (numberOf (drop from s))) (l
 
 pub malformed-at : (s : List ℕ) (from : ℕ) (v : Number) → v ≡ numberFrom numberKind from (drop from s) → v ≡ Malformed → Malformed ≡ numberAt (drop from s)
 unfolding numberAt numberFrom
-malformed-at s from v e f = go (numberKind (numberOf (drop from s))) (length (numberOf (drop from s))) (sym e ∙ f)
+malformed-at s from v e f = go (numberKind (numberToken (drop from s))) (length (numberToken (drop from s))) (sym e ∙ f)
   where
     go : (k n : ℕ) → legal k (from + n) ≡ Malformed → Malformed ≡ legal k (0 + n)
     go zero n q = refl

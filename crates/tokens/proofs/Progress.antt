@@ -21,10 +21,10 @@ use Rattle.tokens.specs.declared.numbers.Number.{Number}
 use Rattle.tokens.specs.declared.numbers.Number.the-variants.{Legal, Malformed}
 use Rattle.tokens.specs.declared.starts.Start.{Start}
 use Rattle.tokens.specs.declared.starts.Start.the-variants.{Ended, String, Word, Number as NumberStart, List as ListStart, Dict, Nothing}
-use Rattle.tokens.specs.Blanks.{isSpace, Passing, pass, token, fault, inComment, passing, onward, blanksFrom, blanks}
+use Rattle.tokens.specs.Blanks.{isSpace, Passing, pass, token, fault, inComment, passing, passOn, blanksFrom, blanks}
 use Rattle.tokens.specs.Words.{isLetter, isDigit, isWord, wordOf}
-use Rattle.tokens.specs.Numbers.{isNumber, isSign, numberOf, numberKind, legal, numberFrom, numberAt}
-use Rattle.tokens.specs.Starts.{opened, startOf}
+use Rattle.tokens.specs.Numbers.{isNumber, isSign, numberToken, numberKind, legal, numberFrom, numberAt}
+use Rattle.tokens.specs.Starts.{isOpening, startOf}
 use Rattle.tokens.proofs.Runs.{run-more, run-le}
 use Rattle.tokens.proofs.Skipping.{blanks-skip, good-len}
 use Rattle.tokens.proofs.Grammar.{digit-number}
@@ -61,7 +61,7 @@ passed-one : (x : ℕ) (r : List ℕ) → ((k : ℕ) → AllPassed (drop k r)) �
 unfolding blanksFrom
 passed-one x r ih o i = go (passing o x (charAt (x ∷ r))) (passing-within o x r)
   where
-    go : (q : Passing) → Within (x ∷ r) q → Passed i (x ∷ r) (onward i q (λ c j k. blanksFrom c j k r))
+    go : (q : Passing) → Within (x ∷ r) q → Passed i (x ∷ r) (passOn i q (λ c j k. blanksFrom c j k r))
     go (pass c n) h =
         rw (blanks-skip c (i + n) (pred n) r)
         (passed-more i n (x ∷ r) (drop (pred n) r) (blanksFrom c (i + n) 0 (drop (pred n) r)) (omega (arith, length-drop (pred n) r)) (ih (pred n) c (i + n)))
@@ -77,7 +77,7 @@ abbrev pub Begun : List ℕ → Start → Type 0
 Begun s Ended = Unit
 Begun s String = Unit
 Begun s Word = 0 < length (wordOf s)
-Begun s NumberStart = 0 < length (numberOf s)
+Begun s NumberStart = 0 < length (numberToken s)
 Begun s ListStart = 0 < length s
 Begun s Dict = 0 < length s
 Begun s Nothing = Unit
@@ -90,14 +90,14 @@ minus-number : (x : ℕ) → eqb x 0x2d ≡ true → isNumber x ≡ true
 unfolding isNumber isSign pick
 minus-number x e = rw (eqb-true x 0x2d e)
 
-number-begun : (x : ℕ) (r : List ℕ) → isNumber x ≡ true → 0 < length (numberOf (x ∷ r))
+number-begun : (x : ℕ) (r : List ℕ) → isNumber x ≡ true → 0 < length (numberToken (x ∷ r))
 number-begun x r e = rw (run-more isNumber x r e) (omega arith)
 
 pub start-begun : (s : List ℕ) → Begun s (startOf s)
 unfolding startOf pick
 start-begun [] = tt
 start-begun (x ∷ r) =
-    split (opened (opening (x ∷ r))) (λ a. rw a tt)
+    split (isOpening (opening (x ∷ r))) (λ a. rw a tt)
     (λ a. split (isLetter x) (λ b. rw (a, b, run-more isWord x r (letter-word x b)) (omega arith))
     (λ b. split (isDigit x) (λ d. rw (a, b, d) (number-begun x r (digit-number x d)))
     (λ d. split (eqb x 0x2d) (λ e. rw (a, b, d, e) (number-begun x r (minus-number x e)))
@@ -106,13 +106,13 @@ start-begun (x ∷ r) =
 
 -- a legal number is its token
 abbrev pub Sized : List ℕ → Number → Type 0
-Sized s (Legal kind len) = (len ≡ length (numberOf s)) × (len ≤ length s)
+Sized s (Legal kind len) = (len ≡ length (numberToken s)) × (len ≤ length s)
 Sized s Malformed = Unit
 
 pub number-sized : (s : List ℕ) → Sized s (numberAt s)
 unfolding numberAt numberFrom
-number-sized s = go (numberKind (numberOf s))
+number-sized s = go (numberKind (numberToken s))
   where
-    go : (k : ℕ) → Sized s (legal k (0 + length (numberOf s)))
+    go : (k : ℕ) → Sized s (legal k (0 + length (numberToken s)))
     go zero = tt
     go (suc k) = (omega arith, omega (arith, run-le isNumber s))

@@ -31,15 +31,15 @@ unfoldable pub passing : Bool → ℕ → Char → Passing
 passing true x c = pick (eqb x 0x0a) (pass false 1) (inComment c)
 passing false x c = pick (isSpace x) (pass false 1) (pick (eqb x 0x23) (pass true 1) token)
 
-abbrev pub onward : ℕ → Passing → (Bool → ℕ → ℕ → Blank) → Blank
-onward i (pass within n) go = go within (i + n) (pred n)
-onward i token go = Clear i
-onward i (fault number) go = Ill number i
+abbrev pub passOn : ℕ → Passing → (Bool → ℕ → ℕ → Blank) → Blank
+passOn i (pass within n) go = go within (i + n) (pred n)
+passOn i token go = Clear i
+passOn i (fault number) go = Ill number i
 
 -- whether a comment is open, the bytes passed, and those still to be skipped
 unfoldable pub blanksFrom : Bool → ℕ → ℕ → List ℕ → Blank
 blanksFrom within i k [] = Clear i
-blanksFrom within i zero (x ∷ r) = onward i (passing within x (charAt (x ∷ r))) (λ o j m. blanksFrom o j m r)
+blanksFrom within i zero (x ∷ r) = passOn i (passing within x (charAt (x ∷ r))) (λ o j m. blanksFrom o j m r)
 blanksFrom within i (suc k) (x ∷ r) = blanksFrom within i k r
 
 -- how many bytes of whitespace and comments stand first, or the refusal behind so many

@@ -12,29 +12,50 @@ use Rattle.tokens.specs.declared.starts.Start.the-variants.{Ended, Strin
 use Rattle.tokens.specs.declared.starts.Mark.{Mark}
 use Rattle.tokens.specs.declared.starts.Mark.the-variants.{Close, Separator, Fault}
 use Rattle.tokens.specs.Words.{isLetter, isDigit}
+use Rattle.tokens.specs.Numbers.{minus}
 
-abbrev pub opened : Opening → Bool
-opened (opens st n) = true
-opened unopened = false
+-- RFC 8259, section 2: "begin-array = ws %x5B ws", "begin-object = ws %x7B ws", "end-array = ws %x5D ws", "end-object = ws %x7D ws",
+-- "name-separator = ws %x3A ws", "value-separator = ws %x2C ws"
+abbrev pub beginArray : ℕ
+beginArray = 0x5b
+
+abbrev pub beginObject : ℕ
+beginObject = 0x7b
+
+abbrev pub endArray : ℕ
+endArray = 0x5d
+
+abbrev pub endObject : ℕ
+endObject = 0x7d
+
+abbrev pub nameSeparator : ℕ
+nameSeparator = 0x3a
+
+abbrev pub valueSeparator : ℕ
+valueSeparator = 0x2c
+
+abbrev pub isOpening : Opening → Bool
+isOpening (opens st n) = true
+isOpening unopened = false
 
 -- "exactly `u` or `b` directly before `'` opens a string"; "A number token starts with `-` or a digit"; "elsewhere a byte that starts
 -- no token is 13"
 unfoldable pub startOf : List ℕ → Start
 startOf [] = Ended
 startOf (x ∷ r) =
-    pick (opened (opening (x ∷ r))) String
+    pick (isOpening (opening (x ∷ r))) String
     (pick (isLetter x) Word
     (pick (isDigit x) Number
-    (pick (eqb x 0x2d) Number
-    (pick (eqb x 0x5b) ListStart
-    (pick (eqb x 0x7b) Dict Nothing)))))
+    (pick (eqb x minus) Number
+    (pick (eqb x beginArray) ListStart
+    (pick (eqb x beginObject) Dict Nothing)))))
 
--- RFC 8259, section 2: "name-separator = ws %x3A ws"
+-- the colon behind a key
 unfoldable pub colonAt : List ℕ → Mark
 colonAt [] = Fault cutOff
-colonAt (x ∷ r) = pick (eqb x 0x3a) Separator (Fault misplaced)
+colonAt (x ∷ r) = pick (eqb x nameSeparator) Separator (Fault misplaced)
 
--- behind a member, in a bracket that a given byte closes: "value-separator = ws %x2C ws", or the end
+-- behind a member, in a bracket that a given byte closes: a comma, or the end
 unfoldable pub commaAt : ℕ → List ℕ → Mark
 commaAt close [] = Fault cutOff
-commaAt close (x ∷ r) = pick (eqb x close) Close (pick (eqb x 0x2c) Separator (Fault misplaced))
+commaAt close (x ∷ r) = pick (eqb x close) Close (pick (eqb x valueSeparator) Separator (Fault misplaced))

@@ -4,6 +4,7 @@ use Prim.Native.Nat.{ℕ}
 use mathlib.Core.Bool.{Bool, true, false, _&&_}
 use mathlib.Core.List.{List, [], _∷_}
 use lib.Dec.{eqb}
+use Rattle.prelude.specs.Bytes.{ascii}
 use Rattle.prelude.specs.Pick.{pick}
 use Rattle.utf8.specs.Utf8.{between}
 use Rattle.tokens.specs.declared.words.Word.{Word}
@@ -37,13 +38,13 @@ sameBytes (x ∷ s) [] = false
 sameBytes (x ∷ s) (y ∷ t) = eqb x y && sameBytes s t
 
 abbrev pub nullWord : List ℕ
-nullWord = 0x6e ∷ 0x75 ∷ 0x6c ∷ 0x6c ∷ []
+nullWord = ascii "null"
 
 abbrev pub falseWord : List ℕ
-falseWord = 0x66 ∷ 0x61 ∷ 0x6c ∷ 0x73 ∷ 0x65 ∷ []
+falseWord = ascii "false"
 
 abbrev pub trueWord : List ℕ
-trueWord = 0x74 ∷ 0x72 ∷ 0x75 ∷ 0x65 ∷ []
+trueWord = ascii "true"
 
 -- "As a value it must be `null`, `false` or `true`", and its kind: "0 null, 1 false, 2 true"
 unfoldable pub wordValue : List ℕ → Word

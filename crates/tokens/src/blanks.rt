@@ -17,16 +17,16 @@ pub enum Blank {
 fn is_space(x: u8) -> bool
     ensures { λ r. ⌜ r ≡ isSpace x ⌝ }
 {
-    if x == 0x20 {
+    if x == b' ' {
         return true;
     }
-    if x == 0x0a {
+    if x == b'\n' {
         return true;
     }
-    if x == 0x0d {
+    if x == b'\r' {
         return true;
     }
-    x == 0x09
+    x == b'\t'
 }
 
 // The whitespace and the comments from a place on. Plain bytes of a comment never call.
@@ -39,7 +39,7 @@ pub fn skip(t: &[u8; 256], s: &[u8], from: usize) -> Blank
     while at < s.len() {
         let x = s[at];
         if inside {
-            if x == 0x0a {
+            if x == b'\n' {
                 inside = false;
                 at += 1;
                 continue;
@@ -63,7 +63,7 @@ pub fn skip(t: &[u8; 256], s: &[u8], from: usize) -> Blank
             at += 1;
             continue;
         }
-        if x != 0x23 {
+        if x != b'#' {
             return Blank::Clear(at - from);
         }
         inside = true;

@@ -6,7 +6,8 @@ ghost use mathlib.Core.Path.{_≡_};
 ghost use Prim.Native.Nat.{_+_, _≤_, _<_};
 ghost use lib.ListN.{length, getD, drop};
 ghost use Rattle.tokens.specs.Words.{isDigit, runOf};
-ghost use Rattle.tokens.specs.Numbers.{isE, isSign, isNumber, inExp, expDigits, behindE, behindFrac, inFrac, behindPoint, behindInt, int, numberKind, ends, numberFrom, Leads, numberAt};
+ghost use Rattle.tokens.specs.Numbers.{isE, isSign, isNumber, inExp, expDigits, behindE, behindFrac, inFrac, behindPoint, behindInt, int, numberKind, ends, numberFrom, numberAt};
+ghost use Rattle.tokens.specs.inner.Parts.{Leads};
 use crate::words;
 use prelude::slices;
 
@@ -19,19 +20,19 @@ pub enum Number {
 fn is_e(x: u8) -> bool
     ensures { λ r. ⌜ r ≡ isE x ⌝ }
 {
-    if x == 0x65 {
+    if x == b'e' {
         return true;
     }
-    x == 0x45
+    x == b'E'
 }
 
 fn is_sign(x: u8) -> bool
     ensures { λ r. ⌜ r ≡ isSign x ⌝ }
 {
-    if x == 0x2d {
+    if x == b'-' {
         return true;
     }
-    x == 0x2b
+    x == b'+'
 }
 
 fn is_number(x: u8) -> bool
@@ -43,7 +44,7 @@ fn is_number(x: u8) -> bool
     if is_sign(x) {
         return true;
     }
-    if x == 0x2e {
+    if x == b'.' {
         return true;
     }
     is_e(x)
@@ -142,7 +143,7 @@ fn behind_int(s: &[u8], at: usize) -> Number
     ensures { λ r. ⌜ r ≡ numberFrom behindInt at (drop at (now (s .entry))) ⌝ }
 {
     let x = slices::byte_at(s, at, 0);
-    if x == 0x2e {
+    if x == b'.' {
         return behind_point(s, at + 1);
     }
     if is_e(x) {
@@ -156,7 +157,7 @@ fn past_int(s: &[u8], at: usize, x: u8) -> usize
     requires { ⌜ (x ≡ getD (drop at (now s)) 0 0) × (isDigit x ≡ true) ⌝ }
     ensures { λ r. ⌜ Leads int behindInt (now (s .entry)) at r ⌝ }
 {
-    if x == 0x30 {
+    if x == b'0' {
         return at + 1;
     }
     digits(s, at + 1)
@@ -178,7 +179,7 @@ fn past_minus(s: &[u8], at: usize) -> usize
     requires { ⌜ at ≤ length (now s) ⌝ }
     ensures { λ r. ⌜ Leads numberKind int (now (s .entry)) at r ⌝ }
 {
-    if slices::byte_at(s, at, 0) == 0x2d {
+    if slices::byte_at(s, at, 0) == b'-' {
         return at + 1;
     }
     at

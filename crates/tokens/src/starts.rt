@@ -3,7 +3,7 @@ ghost use mathlib.Core.Path.{_≡_};
 ghost use Prim.Native.Nat.{_≤_};
 ghost use lib.ListN.{length, drop};
 ghost use Rattle.strings.specs.Read.{opening};
-ghost use Rattle.tokens.specs.Starts.{opened, startOf, colonAt, commaAt};
+ghost use Rattle.tokens.specs.Starts.{isOpening, startOf, colonAt, commaAt};
 use crate::words;
 use prelude::refusals;
 use strings::read;
@@ -29,7 +29,7 @@ pub enum Mark {
 // Whether a string begins at a place.
 fn opens(s: &[u8], at: usize) -> bool
     requires { ⌜ at ≤ length (now s) ⌝ }
-    ensures { λ r. ⌜ r ≡ opened (opening (drop at (now (s .entry)))) ⌝ }
+    ensures { λ r. ⌜ r ≡ isOpening (opening (drop at (now (s .entry)))) ⌝ }
 {
     let mark = read::mark_at(&s[at..]);
     match mark {
@@ -56,13 +56,13 @@ pub fn start_at(s: &[u8], at: usize) -> Start
     if words::is_digit(x) {
         return Start::Number;
     }
-    if x == 0x2d {
+    if x == b'-' {
         return Start::Number;
     }
-    if x == 0x5b {
+    if x == b'[' {
         return Start::List;
     }
-    if x == 0x7b {
+    if x == b'{' {
         return Start::Dict;
     }
     Start::Nothing
@@ -75,7 +75,7 @@ pub fn colon_at(s: &[u8], at: usize) -> Mark
     if s.len() <= at {
         return Mark::Fault(refusals::CUT_OFF);
     }
-    if s[at] == 0x3a {
+    if s[at] == b':' {
         return Mark::Separator;
     }
     Mark::Fault(refusals::MISPLACED)
@@ -92,7 +92,7 @@ pub fn comma_at(s: &[u8], at: usize, close: u8) -> Mark
     if x == close {
         return Mark::Close;
     }
-    if x == 0x2c {
+    if x == b',' {
         return Mark::Separator;
     }
     Mark::Fault(refusals::MISPLACED)

@@ -14,19 +14,19 @@ pub enum Word {
 pub fn is_letter(x: u8) -> bool
     ensures { λ r. ⌜ r ≡ isLetter x ⌝ }
 {
-    if chars::in_range(0x61, 0x7a, x) {
+    if chars::in_range(b'a', b'z', x) {
         return true;
     }
-    if chars::in_range(0x41, 0x5a, x) {
+    if chars::in_range(b'A', b'Z', x) {
         return true;
     }
-    x == 0x5f
+    x == b'_'
 }
 
 pub fn is_digit(x: u8) -> bool
     ensures { λ r. ⌜ r ≡ isDigit x ⌝ }
 {
-    chars::in_range(0x30, 0x39, x)
+    chars::in_range(b'0', b'9', x)
 }
 
 fn is_word(x: u8) -> bool
@@ -73,15 +73,15 @@ fn same(a: &[u8], b: &[u8]) -> bool
 pub fn value_of(word: &[u8]) -> Word
     ensures { λ r. ⌜ r ≡ wordValue (now (word .entry)) ⌝ }
 {
-    let null = [0x6eu8, 0x75, 0x6c, 0x6c];
+    let null = [b'n', b'u', b'l', b'l'];
     if same(word, &null) {
         return Word::Value(0);
     }
-    let no = [0x66u8, 0x61, 0x6c, 0x73, 0x65];
+    let no = [b'f', b'a', b'l', b's', b'e'];
     if same(word, &no) {
         return Word::Value(1);
     }
-    let yes = [0x74u8, 0x72, 0x75, 0x65];
+    let yes = [b't', b'r', b'u', b'e'];
     if same(word, &yes) {
         return Word::Value(2);
     }

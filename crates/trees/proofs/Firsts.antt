@@ -11,7 +11,7 @@ use Rattle.prelude.proofs.Cases.{never}
 use Rattle.tokens.specs.Blanks.{isSpace, passing, blanksFrom}
 use Rattle.json8.specs.declared.nodes.Sort.{Sort}
 use Rattle.json8.specs.declared.nodes.Sort.the-variants.{Items, Pairs}
-use Rattle.json8.specs.Nodes.{Read, got, refused, Reader, more, seq}
+use Rattle.json8.specs.Nodes.{Read, got, refused, Reader, preceded, seq}
 use Rattle.json8.specs.Leaves.{spaces}
 use Rattle.json8.specs.Values.{closeOf}
 
@@ -58,7 +58,7 @@ spaces-none p n m x r h =
     let c = unpicked (eqb x 0x23) _ b .0 in
     rw (a, c)
 
-more-none : (r : Read) → more 0 [] [] r ≡ r
+more-none : (r : Read) → preceded 0 [] [] r ≡ r
 more-none (got l tag ns bs) = ap (λ (k : ℕ). got k tag ns bs) (zero-add l)
 more-none (refused code at) = refl
 

@@ -19,14 +19,14 @@ use Rattle.units.specs.Units.{literalRun}
 use Rattle.prelude.specs.Bytes.{IsBytes}
 use Rattle.strings.specs.Read.{accepted, readToken, Opening, opens, unopened, opening}
 use Rattle.tokens.specs.Words.{isWord, wordOf}
-use Rattle.tokens.specs.Numbers.{isNumber, numberKind, numberOf, legal, numberFrom, numberAt}
+use Rattle.tokens.specs.Numbers.{isNumber, numberKind, numberToken, legal, numberFrom, numberAt}
 use Rattle.tokens.proofs.Runs.{run-le, run-take}
 use Rattle.json8.specs.Nodes.{Node, node, got, limited}
 use Rattle.json8.specs.Leaves.{slashed, stringNode, string, plain, numberRead, number}
 use Rattle.json8_show.specs.Show.{shownBy}
 use Rattle.json8.proofs.Backslashes.{quote-inside, whole-run, run-unslashed, slash-behind}
 use Rattle.trees.specs.Trees.{Tree, null, bool, number as numberTree}
-use Rattle.trees.specs.Tables.{just, stringOf, numberOf as numberIn, scalarOf}
+use Rattle.trees.specs.Tables.{just, stringOf, numberToken as numberIn, scalarOf}
 use Rattle.trees.specs.Sound.{sizeOf}
 use Rattle.trees.proofs.NumberTexts.{number-legal}
 use Rattle.trees.proofs.Meanings.{stands-in, Meant, Spelt, leaf-meant}
@@ -102,15 +102,15 @@ module _ (text : List ℕ) (m : ℕ) where
         (spelt-text p (length (wordOf (drop p text))) (omega (arith, run-le isWord (drop p text), length-drop p text)))
 
     -- numbers
-    pub number-is : (numberKind (numberOf (drop p text)) ≡ 0 → ⊥) → (n : ℕ)
-        → number p n m (drop p text) ≡ limited (plain (numberKind (numberOf (drop p text))) (length (numberOf (drop p text)))) p n m (drop p text)
+    pub number-is : (numberKind (numberToken (drop p text)) ≡ 0 → ⊥) → (n : ℕ)
+        → number p n m (drop p text) ≡ limited (plain (numberKind (numberToken (drop p text))) (length (numberToken (drop p text)))) p n m (drop p text)
     unfolding number numberAt numberFrom
-    number-is h n = go (numberKind (numberOf (drop p text))) h
+    number-is h n = go (numberKind (numberToken (drop p text))) h
       where
-        go : (k : ℕ) → (k ≡ 0 → ⊥) → numberRead (legal k (0 + length (numberOf (drop p text)))) p n m (drop p text)
-            ≡ limited (plain k (length (numberOf (drop p text)))) p n m (drop p text)
+        go : (k : ℕ) → (k ≡ 0 → ⊥) → numberRead (legal k (0 + length (numberToken (drop p text)))) p n m (drop p text)
+            ≡ limited (plain k (length (numberToken (drop p text)))) p n m (drop p text)
         go zero h = absurd (h refl)
-        go (suc k) h = rw (zero-add (length (numberOf (drop p text))))
+        go (suc k) h = rw (zero-add (length (numberToken (drop p text))))
 
     number-scalar : (k : ℕ) (w store : List ℕ) → 3 ≤ k → k ≤ 4 → p + length w ≤ length text → w ≡ take (length w) (drop p text) → numberKind w ≡ k
         → scalarOf text store (node k 1 p (length w)) ≡ just (numberTree w)
@@ -121,11 +121,11 @@ module _ (text : List ℕ) (m : ℕ) where
         rw (ne-eqb k 0 (i 0 (lit< tt)), ne-eqb k 1 (i 1 (lit< tt)), ne-eqb k 2 (i 2 (lit< tt)))
         (split (eqb k 3) (λ q. rw q g) (λ q. let z : k ≡ 4 = let y = eqb-false k 3 q in omega arith in rw (q, eq-eqb k 4 z) g))
 
-    pub number-meant : (numberKind (numberOf (drop p text)) ≡ 0 → ⊥) → (d : ℕ)
-        → Meant text d m (node (numberKind (numberOf (drop p text))) 1 p (length (numberOf (drop p text))) ∷ []) [] (numberTree (numberOf (drop p text)))
+    pub number-meant : (numberKind (numberToken (drop p text)) ≡ 0 → ⊥) → (d : ℕ)
+        → Meant text d m (node (numberKind (numberToken (drop p text))) 1 p (length (numberToken (drop p text))) ∷ []) [] (numberTree (numberToken (drop p text)))
     unfolding sizeOf
     number-meant h d =
-        let w : List ℕ = numberOf (drop p text) in
+        let w : List ℕ = numberToken (drop p text) in
         let (a, (l, u)) = number-legal w h in
         leaf-meant text d m (node (numberKind w) 1 p (length w)) [] (numberTree w) (omega arith) refl refl
         (λ store s. number-scalar (numberKind w) w store l u (omega (arith, number-some w h, run-le isNumber (drop p text), length-drop p text)) (run-take isNumber (drop p text)) refl)

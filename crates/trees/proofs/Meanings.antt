@@ -13,7 +13,7 @@ use Rattle.prelude.specs.Pick.{pick}
 use Rattle.json8.specs.declared.nodes.Sort.{Sort}
 use Rattle.json8.specs.declared.nodes.Sort.the-variants.{Items, Pairs}
 use Rattle.json8.specs.Nodes.{Node, node}
-use Rattle.json8.specs.Values.{kindOf}
+use Rattle.json8.specs.Values.{groupKind}
 use Rattle.trees.specs.Trees.{Label, Tree, string, branch, Members, none, one}
 use Rattle.trees.specs.Tables.{just, countAt, stringOf, scalarOf, labelSize, labelAt, memberSize, membersAt, treeFrom, grouped, treeAt}
 use Rattle.trees.specs.Sound.{sizeOf, sizesOf}
@@ -143,13 +143,13 @@ module _ (text : List ℕ) where
 
   grouped-at : (b : Sort) (d p c w : ℕ) (r : List Node) (store : List ℕ) (ms : Members b) → 0 < w
       → membersAt b (labelAt b text store) (treeAt d text store) c (w - 1) r ≡ just ms
-      → treeAt (suc d) text store (node (kindOf b) w p c ∷ r) ≡ just (branch b ms)
+      → treeAt (suc d) text store (node (groupKind b) w p c ∷ r) ≡ just (branch b ms)
   unfolding treeFrom grouped pick
   grouped-at Items d p c w r store ms h e = rw (lt-ltb 0 w h, e)
   grouped-at Pairs d p c w r store ms h e = rw (lt-ltb 0 w h, e)
 
   pub branch-meant : (b : Sort) (d m p c : ℕ) (ns : List Node) (bs : List ℕ) (ms : Members b) → RowMeant b d m c ns bs ms
-      → Meant (suc d) m (node (kindOf b) (suc (length ns)) p c ∷ ns) bs (branch b ms)
+      → Meant (suc d) m (node (groupKind b) (suc (length ns)) p c ∷ ns) bs (branch b ms)
   unfolding sizeOf
   branch-meant b d m p c ns bs ms x =
       record {

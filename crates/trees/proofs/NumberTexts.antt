@@ -17,7 +17,7 @@ use Rattle.tokens.specs.declared.starts.Start.the-variants.{Number}
 use Rattle.tokens.specs.Blanks.{isSpace}
 use Rattle.tokens.specs.Words.{isLetter, isDigit, runOf}
 use Rattle.tokens.specs.Numbers.{isE, isSign, isNumber, inExp, expDigits, behindE, behindFrac, inFrac, behindPoint, behindInt, inInt, int, numberKind}
-use Rattle.tokens.specs.Starts.{opened, startOf}
+use Rattle.tokens.specs.Starts.{isOpening, startOf}
 use Rattle.tokens.proofs.Runs.{run-more}
 use Rattle.tokens.proofs.Grammar.{digit-number, sign-number, e-number}
 use Rattle.trees.proofs.Firsts.{solid, begins, unpicked}
@@ -119,18 +119,18 @@ number-led x r =
 
 -- what leads a number, whatever follows it, begins nothing else
 only : List ℕ → ℕ → Bool
-only r x = pick (leads x) (pick (opened (opening (x ∷ r))) false (pick (isLetter x) false (begins x))) true
+only r x = pick (leads x) (pick (isOpening (opening (x ∷ r))) false (pick (isLetter x) false (begins x))) true
 
 led-below : (x : ℕ) → leads x ≡ true → x < 0x3a
 unfolding pick
 led-below x e =
     split (eqb x 0x2d) (λ d. omega (arith, eqb-true x 0x2d d)) (λ d. omega (arith, leb-true x 0x39 (and-right (leb 0x30 x) _ (rw d at e))))
 
-led-only : (r : List ℕ) (x : ℕ) → leads x ≡ true → pick (opened (opening (x ∷ r))) false (pick (isLetter x) false (begins x)) ≡ true
+led-only : (r : List ℕ) (x : ℕ) → leads x ≡ true → pick (isOpening (opening (x ∷ r))) false (pick (isLetter x) false (begins x)) ≡ true
 unfolding only begins solid isSpace isLetter opening pick
 led-only r x e = rw e at (at-below (only r) 0x3a refl x (led-below x e))
 
-led-start : (x : ℕ) (r : List ℕ) → leads x ≡ true → opened (opening (x ∷ r)) ≡ false → isLetter x ≡ false → startOf (x ∷ r) ≡ Number
+led-start : (x : ℕ) (r : List ℕ) → leads x ≡ true → isOpening (opening (x ∷ r)) ≡ false → isLetter x ≡ false → startOf (x ∷ r) ≡ Number
 unfolding startOf pick
 led-start x r e a b =
     rw (a, b) (split (isDigit x) (λ d. rw d) (λ d. rw d (split (eqb x 0x2d) (λ c. rw c) (λ c. never (let z = rw (c, d) at e in cc)))))
@@ -138,6 +138,6 @@ led-start x r e a b =
 pub number-begins : (x : ℕ) (w : List ℕ) → (numberKind (x ∷ w) ≡ 0 → ⊥) → (r : List ℕ) → (begins x ≡ true) × (startOf (x ∷ r) ≡ Number)
 number-begins x w h r =
     let e = number-led x w h in
-    let (a, o) = unpicked (opened (opening (x ∷ r))) _ (led-only r x e) in
+    let (a, o) = unpicked (isOpening (opening (x ∷ r))) _ (led-only r x e) in
     let (b, c) = unpicked (isLetter x) _ o in
     (c, led-start x r e a b)

@@ -25,16 +25,16 @@ use Rattle.tokens.specs.declared.starts.Mark.{Mark}
 use Rattle.tokens.specs.declared.starts.Mark.the-variants.{Close, Separator, Fault}
 use Rattle.tokens.specs.Blanks.{blanks}
 use Rattle.tokens.specs.Words.{wordOf, sameBytes, wordValue, nullWord, falseWord, trueWord}
-use Rattle.tokens.specs.Numbers.{numberKind, numberOf, numberFrom, numberAt}
+use Rattle.tokens.specs.Numbers.{numberKind, numberToken, numberFrom, numberAt}
 use Rattle.tokens.specs.Starts.{startOf, colonAt, commaAt}
 use Rattle.tokens.proofs.Progress.{Begun, start-begun}
 use Rattle.json8.specs.declared.nodes.Sort.{Sort}
 use Rattle.json8.specs.declared.nodes.Sort.the-variants.{Items, Pairs}
-use Rattle.json8.specs.Nodes.{Node, node, Read, got, refused, Reader, more, chain, seq, limited}
+use Rattle.json8.specs.Nodes.{Node, node, Read, got, refused, Reader, preceded, chain, seq, limited}
 use Rattle.prelude.specs.Limits.{nodeMax, depthMax}
 use Rattle.json8.specs.Leaves.{passed, spaces, marked, colon, comma, string, plain, wordRead, word, number, keyBy, key}
-use Rattle.json8.specs.Values.{valueBy, valueOf, kindOf, closeOf, memberOf, closeOr, round, again, follow, members, branch as branched, bracketed, opened, value}
-use Rattle.json8.specs.Read.{finish, readAll}
+use Rattle.json8.specs.Values.{valueBy, valueOf, groupKind, closeOf, memberOf, closeOr, round, again, follow, members, groupNode as branched, groupOf, group, value}
+use Rattle.json8.specs.Read.{textEnd, readAll}
 use Rattle.json8.proofs.Fair.{members-skip}
 use Rattle.trees.specs.Trees.{Label, Tree, string as stringTree, number as numberTree, branch, Members, none, one}
 use Rattle.trees.proofs.DenotedBytes.{bytes-none, bytes-append, token-bytes}
@@ -59,7 +59,7 @@ module _ (text : List ℕ) where
   weaken P Q f m (refused code at) h = tt
 
   module _ (P Q R : Of) (join : (m t u : ℕ) (ns ms : List Node) (bs cs : List ℕ) → P m t ns bs → Q (m + length bs) u ms cs → R m u (ns ++ ms) (bs ++ cs)) where
-    more-holds : (m l t : ℕ) (ns : List Node) (bs : List ℕ) (r : Read) → Holds P m (got l t ns bs) → Holds Q (m + length bs) r → Holds R m (more l ns bs r)
+    more-holds : (m l t : ℕ) (ns : List Node) (bs : List ℕ) (r : Read) → Holds P m (got l t ns bs) → Holds Q (m + length bs) r → Holds R m (preceded l ns bs r)
     more-holds m l t ns bs (got k u ms cs) h g = (
       λ z. let y = g .0 z in omega arith,
       λ b. bytes-append bs cs (h .1 b) (g .1 b),
@@ -174,7 +174,7 @@ module _ (text : List ℕ) where
     number-holds : HoldsBy (Trees d) number
     unfolding number numberAt numberFrom
     number-holds p n m =
-        let w : List ℕ = numberOf (drop p text) in
+        let w : List ℕ = numberToken (drop p text) in
         split (eqb (numberKind w) 0) (λ e. rw (eqb-true (numberKind w) 0 e) tt)
         (λ e. let h = eqb-false (numberKind w) 0 e in
         rw (number-is text m p h n) (plain-holds (Trees d) (numberKind w) (length w) p n m (numberTree w, number-meant text m p h d)))
@@ -264,35 +264,35 @@ module _ (text : List ℕ) where
       unfolding members
       members-hold p n m = by-suffix Loop (λ p n m e. tt) loop-one (drop p text) p n m refl
 
-    bracketed-holds : (b : Sort) (v : Reader) → HoldsBy (Trees d) v → HoldsBy (Trees (suc d)) (bracketed b v)
-    unfolding bracketed
+    bracketed-holds : (b : Sort) (v : Reader) → HoldsBy (Trees d) v → HoldsBy (Trees (suc d)) (groupOf b v)
+    unfolding groupOf
     bracketed-holds b v h p n m =
         rw (drop-drop 1 p text)
         (go (members (closeOf b) (memberOf b v) (p + 1) (n + 1) m 0 (drop (p + 1) text)) (members-hold b (closeOf b) (memberOf b v) (member-holds b v h) (p + 1) (n + 1) m))
       where
-        go : (r : Read) → Holds (λ m c ns bs. (ms : Members b) × RowMeant text b d m c ns bs ms) m r → Holds (Trees (suc d)) m (branched (kindOf b) p r)
+        go : (r : Read) → Holds (λ m c ns bs. (ms : Members b) × RowMeant text b d m c ns bs ms) m r → Holds (Trees (suc d)) m (branched (groupKind b) p r)
         go (got l c ns bs) (z, y, (ms, x)) = (λ q. omega arith, y, (branch b ms, branch-meant text b d m p c ns bs ms x))
         go (refused code at) f = tt
 
-  opened-holds : (d : ℕ) (b : Sort) → HoldsBy (Trees d) (opened d b)
-  unfolding opened
+  opened-holds : (d : ℕ) (b : Sort) → HoldsBy (Trees d) (group d b)
+  unfolding group
   opened-holds zero b p n m = tt
   opened-holds (suc d) b p n m =
-      limited-holds (Trees (suc d)) (bracketed b (value d)) p n m
-      (bracketed-holds d b (value d) (value-holds d (opened d Items) (opened d Pairs) (opened-holds d Items) (opened-holds d Pairs)) p n m)
+      limited-holds (Trees (suc d)) (groupOf b (value d)) p n m
+      (bracketed-holds d b (value d) (value-holds d (group d Items) (group d Pairs) (opened-holds d Items) (opened-holds d Pairs)) p n m)
 
-  finish-holds : HoldsBy Empty finish
-  unfolding finish
+  finish-holds : HoldsBy Empty textEnd
+  unfolding textEnd
   finish-holds p n m = go (drop p text)
     where
-      go : (s : List ℕ) → Holds Empty m (finish p n m s)
+      go : (s : List ℕ) → Holds Empty m (textEnd p n m s)
       go [] = (λ z. absurd (omega arith), λ b. bytes-none, (refl, refl))
       go (x ∷ r) = tt
 
   pub all-meant : Holds (Trees depthMax) 0 (readAll text)
   unfolding readAll
   all-meant =
-      before (Trees depthMax) spaces (seq (value depthMax) (seq spaces finish)) spaces-holds
-      (seq-holds (Trees depthMax) Empty (Trees depthMax) (λ m t u ns ms bs cs f g. rw (g .0, g .1, append-nil ns, append-nil bs) f) (value depthMax) (seq spaces finish)
-      (value-holds depthMax (opened depthMax Items) (opened depthMax Pairs) (opened-holds depthMax Items) (opened-holds depthMax Pairs))
-      (before Empty spaces finish spaces-holds finish-holds)) 0 0 0
+      before (Trees depthMax) spaces (seq (value depthMax) (seq spaces textEnd)) spaces-holds
+      (seq-holds (Trees depthMax) Empty (Trees depthMax) (λ m t u ns ms bs cs f g. rw (g .0, g .1, append-nil ns, append-nil bs) f) (value depthMax) (seq spaces textEnd)
+      (value-holds depthMax (group depthMax Items) (group depthMax Pairs) (opened-holds depthMax Items) (opened-holds depthMax Pairs))
+      (before Empty spaces textEnd spaces-holds finish-holds)) 0 0 0

@@ -17,7 +17,7 @@ use Rattle.json8.specs.declared.answers.Parsed.the-variants.{Done}
 use Rattle.json8.specs.Nodes.{Node, Read, got, refused, seq, flat}
 use Rattle.json8.specs.Leaves.{spaces}
 use Rattle.json8.specs.Values.{value}
-use Rattle.json8.specs.Read.{finish, readAll, fitted, readOf, parsedOf}
+use Rattle.json8.specs.Read.{textEnd, readAll, fitted, readOf, parsedOf}
 use Rattle.json8.proofs.Claims.{tables-fit}
 use Rattle.trees.specs.Trees.{Tree, render}
 use Rattle.trees.specs.Tables.{just, nodesIn, treeOf}
@@ -74,15 +74,15 @@ module _ (s : List ℕ) (t : Tree) (k : Known s t) where
       }
 
 -- a tree's own text
-end-read : (p n m : ℕ) (s : List ℕ) → s ≡ [] → seq spaces finish p n m s ≡ got 0 0 [] []
-unfolding seq spaces blanksFrom finish
+end-read : (p n m : ℕ) (s : List ℕ) → s ≡ [] → seq spaces textEnd p n m s ≡ got 0 0 [] []
+unfolding seq spaces blanksFrom textEnd
 end-read p n m s e = rw e
 
 pub written-known : (t : Tree) → Sound t → Known (render t) t
 unfolding readAll
 written-known t s =
     let v = tree-back (render t) t depthMax 0 0 0 [] (sym (append-nil (render t))) (s .legal) tt (omega (arith, s .few)) in
-    let e = seq-both (render t) (value depthMax) (seq spaces finish) 0 0 0 (length (render t)) 0 (v .nodes) (v .bytes) 0 0 [] [] (v .read)
+    let e = seq-both (render t) (value depthMax) (seq spaces textEnd) 0 0 0 (length (render t)) 0 (v .nodes) (v .bytes) 0 0 [] [] (v .read)
     (end-read _ _ _ (drop (0 + length (render t)) (render t)) (behind (render t) 0 (render t) [] (sym (append-nil (render t))))) in
     record {
       len = length (render t) + 0;
@@ -90,7 +90,7 @@ written-known t s =
       nodes = v .nodes;
       bytes = v .bytes;
       read =
-          seq-firm (seq (value depthMax) (seq spaces finish)) 0 0 0 (render t) (heads-firm (render t) (tree-heads depthMax t (s .legal)))
+          seq-firm (seq (value depthMax) (seq spaces textEnd)) 0 0 0 (render t) (heads-firm (render t) (tree-heads depthMax t (s .legal)))
           ∙ (rw (append-nil (v .nodes), append-nil (v .bytes)) at e);
       meant = v .meant;
     }

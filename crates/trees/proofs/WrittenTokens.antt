@@ -20,14 +20,14 @@ use Rattle.tokens.specs.declared.starts.Start.{Start}
 use Rattle.tokens.specs.declared.starts.Start.the-variants.{String as StringStart, Word as WordStart, Number as NumberStart}
 use Rattle.tokens.specs.Blanks.{isSpace}
 use Rattle.tokens.specs.Words.{isLetter, isWord, runOf, sameBytes, wordValue, nullWord, falseWord, trueWord}
-use Rattle.tokens.specs.Numbers.{isNumber, numberKind, numberOf}
+use Rattle.tokens.specs.Numbers.{isNumber, numberKind, numberToken}
 use Rattle.tokens.specs.Starts.{startOf}
 use Rattle.tokens.proofs.Runs.{run-none}
 use Rattle.json8.specs.declared.nodes.Sort.the-variants.{Items, Pairs}
 use Rattle.json8.specs.Nodes.{Node, node, got, Reader, seq}
 use Rattle.prelude.specs.Limits.{nodeMax}
 use Rattle.json8.specs.Leaves.{string, plain, word}
-use Rattle.json8.specs.Values.{valueBy, valueOf, opened, value}
+use Rattle.json8.specs.Values.{valueBy, valueOf, group, value}
 use Rattle.json8.proofs.Limited.{limited-free}
 use Rattle.trees.specs.Trees.{Tree, null, bool, number as numberTree, string as stringTree, render}
 use Rattle.trees.specs.Claims.{Stops}
@@ -77,9 +77,9 @@ module _ (text : List ℕ) where
     pub meant : Meant text d m nodes bytes t
 
   value-at : (d p n m : ℕ) (s : List ℕ) (q : Start) → drop p text ≡ s → startOf s ≡ q
-      → value d p n m (drop p text) ≡ valueBy (opened d Items) (opened d Pairs) q p n m (drop p text)
+      → value d p n m (drop p text) ≡ valueBy (group d Items) (group d Pairs) q p n m (drop p text)
   unfolding valueOf
-  value-at d p n m s q e f = ap (λ (q : Start). valueBy (opened d Items) (opened d Pairs) q p n m (drop p text)) (ap startOf e ∙ f)
+  value-at d p n m s q e f = ap (λ (q : Start). valueBy (group d Items) (group d Pairs) q p n m (drop p text)) (ap startOf e ∙ f)
 
   -- tokens
   word-back : (d p n m : ℕ) (w r : List ℕ) (kind : ℕ) (t : Tree) → drop p text ≡ w ++ r → n < nodeMax → Stops r → render t ≡ w
@@ -98,8 +98,8 @@ module _ (text : List ℕ) where
   pub number-back : (d p n m : ℕ) (w r : List ℕ) → drop p text ≡ w ++ r → n < nodeMax → Stops r → (numberKind w ≡ 0 → ⊥) → Back d (numberTree w) p n m
   unfolding render plain
   number-back d p n m w r e h s k =
-      let q : numberOf (drop p text) ≡ w = ap numberOf e ∙ run-back isNumber w r (number-legal w k .0) (stop isNumber r s (λ x i j. j)) in
-      let j : numberKind (numberOf (drop p text)) ≡ 0 → ⊥ = rw q k in
+      let q : numberToken (drop p text) ≡ w = ap numberToken e ∙ run-back isNumber w r (number-legal w k .0) (stop isNumber r s (λ x i j. j)) in
+      let j : numberKind (numberToken (drop p text)) ≡ 0 → ⊥ = rw q k in
       record {
         nodes = node (numberKind w) 1 p (length w) ∷ [];
         bytes = [];

@@ -16,7 +16,7 @@ use Rattle.json8.specs.declared.nodes.Sort.{Sort}
 use Rattle.json8.specs.declared.nodes.Sort.the-variants.{Items, Pairs}
 use Rattle.json8.specs.Nodes.{node}
 use Rattle.prelude.specs.Limits.{nodeMax}
-use Rattle.json8.specs.Values.{valueOf, kindOf, closeOf, memberOf, members, branch as branched, bracketed, opened, value}
+use Rattle.json8.specs.Values.{valueOf, groupKind, closeOf, memberOf, members, groupNode as branched, groupOf, group, value}
 use Rattle.json8.proofs.Limited.{limited-free}
 use Rattle.trees.specs.Trees.{Tree, null, bool, number as numberTree, string as stringTree, branch, Members, none, one, openOf, render, renderMembers}
 use Rattle.trees.specs.Sound.{SoundTo, SoundMembers, sizeOf, sizesOf}
@@ -37,10 +37,10 @@ tree-heads d (branch Items ms) s = refl
 tree-heads d (branch Pairs ms) s = refl
 
 opened-read : (b : Sort) (d p n m : ℕ) (s : List ℕ) → n < nodeMax
-    → value (suc d) p n m (openOf b ∷ s) ≡ branched (kindOf b) p (members (closeOf b) (memberOf b (value d)) (p + 1) (n + 1) m 0 s)
-unfolding valueOf startOf opening isLetter opened bracketed pick
-opened-read Items d p n m s h = limited-free (bracketed Items (value d)) p n m (0x5b ∷ s) h
-opened-read Pairs d p n m s h = limited-free (bracketed Pairs (value d)) p n m (0x7b ∷ s) h
+    → value (suc d) p n m (openOf b ∷ s) ≡ branched (groupKind b) p (members (closeOf b) (memberOf b (value d)) (p + 1) (n + 1) m 0 s)
+unfolding valueOf startOf opening isLetter group groupOf pick
+opened-read Items d p n m s h = limited-free (groupOf Items (value d)) p n m (0x5b ∷ s) h
+opened-read Pairs d p n m s h = limited-free (groupOf Pairs (value d)) p n m (0x7b ∷ s) h
 
 module _ (text : List ℕ) where
   branch-back : (b : Sort) (d p n m : ℕ) (ms : Members b) (s : List ℕ) → drop p text ≡ openOf b ∷ s → n < nodeMax → RowBack text b d ms (p + 1) (n + 1) m
@@ -48,7 +48,7 @@ module _ (text : List ℕ) where
   unfolding render
   branch-back b d p n m ms s e h v =
       record {
-        nodes = node (kindOf b) (suc (length (v .nodes))) p (v .count) ∷ v .nodes;
+        nodes = node (groupKind b) (suc (length (v .nodes))) p (v .count) ∷ v .nodes;
         bytes = v .bytes;
         read = rw e (opened-read b d p n m s h ∙ rw (← behind text p (openOf b ∷ []) s e, v .read));
         meant = branch-meant text b d m p (v .count) (v .nodes) (v .bytes) ms (v .meant);

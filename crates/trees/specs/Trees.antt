@@ -5,6 +5,7 @@ use Prim.Native.Nat.{ℕ}
 use mathlib.Core.Bool.{Bool, true, false}
 use mathlib.Core.List.{List, [], _∷_, _++_}
 use Rattle.strings_write.specs.Write.{writeString}
+use Rattle.tokens.specs.Starts.{beginArray, beginObject, nameSeparator, valueSeparator}
 use Rattle.tokens.specs.Words.{nullWord, falseWord, trueWord}
 use Rattle.json8.specs.declared.nodes.Sort.{Sort}
 use Rattle.json8.specs.declared.nodes.Sort.the-variants.{Items, Pairs}
@@ -29,18 +30,18 @@ mutual
     one : {b : Sort} → Label b → Tree → Members b → Members b
 
 abbrev pub openOf : Sort → ℕ
-openOf Items = 0x5b
-openOf Pairs = 0x7b
+openOf Items = beginArray
+openOf Pairs = beginObject
 
 -- a key and its colon
 abbrev pub renderLabel : (b : Sort) → Label b → List ℕ
 renderLabel Items k = []
-renderLabel Pairs k = writeString k ++ (0x3a ∷ [])
+renderLabel Pairs k = writeString k ++ (nameSeparator ∷ [])
 
 -- the comma before a member, unless it is the first
 abbrev pub comma : Bool → List ℕ
 comma true = []
-comma false = 0x2c ∷ []
+comma false = valueSeparator ∷ []
 
 unfoldable mutual
   pub render : Tree → List ℕ

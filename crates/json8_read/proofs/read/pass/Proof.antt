@@ -6,7 +6,7 @@ use Rattle.json8_read.proofs.read.pass.Tie as tie
 use native.Mathlib.Omega.{arith}
 use Rattle.json8.specs.Leaves.{spaces}
 use Rattle.json8.specs.Values.{value}
-use Rattle.json8.specs.Read.{finish}
+use Rattle.json8.specs.Read.{textEnd}
 use Rattle.json8.proofs.Fair.{spaces-fair, value-fair}
 use Rattle.json8_leaves.proofs.Joined.{told-stop, told-got, took, stopped, halted, went, seq-stop, seq-told, step-told, step-stop, step-on, on, spaces-blind}
 use Rattle.json8_read.proofs.Whole.{from-start, behind-value, all-told, finish-more, finish-done}
@@ -62,7 +62,7 @@ same-length-4 c = search needs
 
 returns-3 : tie.Need-returns-3
 returns-3 c =
-    all-told _ _ _ _ _ _ (step-told spaces _ spaces-blind _ _ _ _ _ _ (went (c .before .before .before .before .before .before .before .before .before .before .before .before .before .before .before .before .before .blank .ensures) (c .before .before .before .before .before .before .before .before .before .before .before .before .before .before .before .p .given .1)) _ _ _ _ _ (seq-told (value 32) behind-value _ _ _ _ _ _ _ _ _ _ _ _ (took (c .before .before .before .before .before .before .before .before .before .before .before .value-node .ensures) (c .before .before .before .before .before .q .given .1)) _ _ _ (told-stop (step-stop spaces finish spaces-blind _ _ _ _ _ _ (halted (c .before .before .before .blank2 .ensures) (c .before .number3 .given .1))))))
+    all-told _ _ _ _ _ _ (step-told spaces _ spaces-blind _ _ _ _ _ _ (went (c .before .before .before .before .before .before .before .before .before .before .before .before .before .before .before .before .before .blank .ensures) (c .before .before .before .before .before .before .before .before .before .before .before .before .before .before .before .p .given .1)) _ _ _ _ _ (seq-told (value 32) behind-value _ _ _ _ _ _ _ _ _ _ _ _ (took (c .before .before .before .before .before .before .before .before .before .before .before .value-node .ensures) (c .before .before .before .before .before .q .given .1)) _ _ _ (told-stop (step-stop spaces textEnd spaces-blind _ _ _ _ _ _ (halted (c .before .before .before .blank2 .ensures) (c .before .number3 .given .1))))))
 
 enum-known-x : tie.Need-enum-known-x
 enum-known-x c = search needs
@@ -75,7 +75,7 @@ same-length-6 c = search needs
 
 returns-4 : tie.Need-returns-4
 returns-4 c =
-    all-told _ _ _ _ _ _ (step-told spaces _ spaces-blind _ _ _ _ _ _ (went (c .before .before .before .before .before .before .before .before .before .before .before .before .before .before .before .before .before .before .blank .ensures) (c .before .before .before .before .before .before .before .before .before .before .before .before .before .before .before .before .p .given .1)) _ _ _ _ _ (seq-told (value 32) behind-value _ _ _ _ _ _ _ _ _ _ _ _ (took (c .before .before .before .before .before .before .before .before .before .before .before .before .value-node .ensures) (c .before .before .before .before .before .before .q .given .1)) _ _ _ (step-told spaces finish spaces-blind _ _ _ _ _ _ (went (c .before .before .before .before .blank2 .ensures) (c .before .before .x .given .1)) _ _ _ _ _ (told-stop (finish-more _ _ _ _ (c .if1 .taken))))))
+    all-told _ _ _ _ _ _ (step-told spaces _ spaces-blind _ _ _ _ _ _ (went (c .before .before .before .before .before .before .before .before .before .before .before .before .before .before .before .before .before .before .blank .ensures) (c .before .before .before .before .before .before .before .before .before .before .before .before .before .before .before .before .p .given .1)) _ _ _ _ _ (seq-told (value 32) behind-value _ _ _ _ _ _ _ _ _ _ _ _ (took (c .before .before .before .before .before .before .before .before .before .before .before .before .value-node .ensures) (c .before .before .before .before .before .before .q .given .1)) _ _ _ (step-told spaces textEnd spaces-blind _ _ _ _ _ _ (went (c .before .before .before .before .blank2 .ensures) (c .before .before .x .given .1)) _ _ _ _ _ (told-stop (finish-more _ _ _ _ (c .if1 .taken))))))
 
 same-length-7 : tie.Need-same-length-7
 same-length-7 c = search needs
@@ -85,7 +85,7 @@ same-length-8 c = search needs
 
 returns-5 : tie.Need-returns-5
 returns-5 c =
-    all-told _ _ _ _ _ _ (step-told spaces _ spaces-blind _ _ _ _ _ _ (went (c .before .before .before .before .before .before .before .before .before .before .before .before .before .before .before .before .before .before .blank .ensures) (c .before .before .before .before .before .before .before .before .before .before .before .before .before .before .before .before .p .given .1)) _ _ _ _ _ (seq-told (value 32) behind-value _ _ _ _ _ _ _ _ _ _ _ _ (took (c .before .before .before .before .before .before .before .before .before .before .before .before .value-node .ensures) (c .before .before .before .before .before .before .q .given .1)) _ _ _ (step-told spaces finish spaces-blind _ _ _ _ _ _ (went (c .before .before .before .before .blank2 .ensures) (c .before .before .x .given .1)) _ _ _ _ _ (told-got (finish-done _ _ _ _ _ _ (c .if1 .left))))))
+    all-told _ _ _ _ _ _ (step-told spaces _ spaces-blind _ _ _ _ _ _ (went (c .before .before .before .before .before .before .before .before .before .before .before .before .before .before .before .before .before .before .blank .ensures) (c .before .before .before .before .before .before .before .before .before .before .before .before .before .before .before .before .p .given .1)) _ _ _ _ _ (seq-told (value 32) behind-value _ _ _ _ _ _ _ _ _ _ _ _ (took (c .before .before .before .before .before .before .before .before .before .before .before .before .value-node .ensures) (c .before .before .before .before .before .before .q .given .1)) _ _ _ (step-told spaces textEnd spaces-blind _ _ _ _ _ _ (went (c .before .before .before .before .blank2 .ensures) (c .before .before .x .given .1)) _ _ _ _ _ (told-got (finish-done _ _ _ _ _ _ (c .if1 .left))))))
 
 pub pass-spec : {M : Type 1} → statement M
 pass-spec =

@@ -1,8 +1,8 @@
 -- Each case answers as `unshown` (Showing).
 -- Assumes nothing.
 use borrow.Author.Needs.{needs}
-use Rattle.json8_show.proofs.show.shows.Statement.{statement}
-use Rattle.json8_show.proofs.show.shows.Tie as tie
+use Rattle.json8_show.proofs.show.unshown.Statement.{statement}
+use Rattle.json8_show.proofs.show.unshown.Tie as tie
 use Rattle.json8_show.proofs.Showing.{text-told, store-told, none-told}
 
 shown-at-requires : tie.Need-shown-at-requires
@@ -29,7 +29,7 @@ returns-3 : tie.Need-returns-3
 returns-3 c =
     search none-told
 
-pub shows-spec : {M : Type 1} → statement M
-shows-spec =
+pub unshown-spec : {M : Type 1} → statement M
+unshown-spec =
     tie.close
     (tie.spec shown-at-requires enum-told enum-told-2 enum-told-3 returns returns-2 returns-3)
