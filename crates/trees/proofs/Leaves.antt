@@ -26,7 +26,7 @@ use Rattle.json8.specs.Leaves.{slashed, stringNode, string, plain, numberRead, 
 use Rattle.json8_show.specs.Show.{shownBy}
 use Rattle.json8.proofs.Backslashes.{quote-inside, whole-run, run-unslashed, slash-behind}
 use Rattle.trees.specs.Trees.{Tree, null, bool, number as numberTree}
-use Rattle.trees.specs.Tables.{just, stringOf, numberToken as numberIn, scalarOf}
+use Rattle.trees.specs.Tables.{just, stringOf, numberOf, scalarOf}
 use Rattle.trees.specs.Sound.{sizeOf}
 use Rattle.trees.proofs.NumberTexts.{number-legal}
 use Rattle.trees.proofs.Meanings.{stands-in, Meant, Spelt, leaf-meant}
@@ -114,10 +114,10 @@ module _ (text : List ℕ) (m : ℕ) where
 
     number-scalar : (k : ℕ) (w store : List ℕ) → 3 ≤ k → k ≤ 4 → p + length w ≤ length text → w ≡ take (length w) (drop p text) → numberKind w ≡ k
         → scalarOf text store (node k 1 p (length w)) ≡ just (numberTree w)
-    unfolding scalarOf numberIn pick
+    unfolding scalarOf numberOf pick
     number-scalar k w store l u h e f =
         let i : (j : ℕ) → j < 3 → k ≡ j → ⊥ = λ j q z. omega arith in
-        let g : numberIn text (node k 1 p (length w)) ≡ just (numberTree w) = rw (le-leb (p + length w) (length text) h, ← e, eq-eqb (numberKind w) k f) in
+        let g : numberOf text (node k 1 p (length w)) ≡ just (numberTree w) = rw (le-leb (p + length w) (length text) h, ← e, eq-eqb (numberKind w) k f) in
         rw (ne-eqb k 0 (i 0 (lit< tt)), ne-eqb k 1 (i 1 (lit< tt)), ne-eqb k 2 (i 2 (lit< tt)))
         (split (eqb k 3) (λ q. rw q g) (λ q. let z : k ≡ 4 = let y = eqb-false k 3 q in omega arith in rw (q, eq-eqb k 4 z) g))
 
