@@ -24,7 +24,7 @@ read-table-is-fit = read-fit
 
 pub restored-is-the-same : Restored-Is-The-Same
 restored-is-the-same s t b e h =
-    let z = text-sound s t b e in (known-tree (render t) t (written-known t z), written-read t z h)
+    let z = text-sound s t b e in (known-tree (render t) t (written-known t z .known), written-read t z h)
 
 pub render-is-injective : Render-Is-Injective
 render-is-injective t u a b e = render-one t u a b e

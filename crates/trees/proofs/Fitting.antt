@@ -23,7 +23,8 @@ use Rattle.prelude.specs.Limits.{nodeMax, depthMax}
 use Rattle.json8_show.specs.Show.{shownBy}
 use Rattle.trees.specs.Trees.{Label, Tree, null, bool, number, string, branch, Members, none, one}
 use Rattle.trees.specs.Tables.{Maybe, just, countAt, bytesOf, stringOf, numberOf, scalarOf, leafOf, labelSize, labelAt, memberSize, TreeReader, membersAt, treeFrom, grouped, treeAt, treeOf}
-use Rattle.trees.specs.Sound.{SoundLabel, SoundTo, SoundMembers, sizeOf, sizesOf, Sound}
+use Rattle.trees.specs.Sound.{SoundLabel, SoundTo, SoundMembers, Sound}
+use Rattle.trees.specs.Sizes.{sizeOf, sizesOf}
 use Rattle.trees.proofs.Choosing.{bind-just, need-just}
 
 -- what a reader finds is sound, and has so many nodes

@@ -27,9 +27,9 @@ use Rattle.json8_show.specs.Show.{shownBy}
 use Rattle.json8.proofs.Backslashes.{quote-inside, whole-run, run-unslashed, slash-behind}
 use Rattle.trees.specs.Trees.{Tree, null, bool, number as numberTree}
 use Rattle.trees.specs.Tables.{just, stringOf, numberOf, scalarOf}
-use Rattle.trees.specs.Sound.{sizeOf}
+use Rattle.trees.specs.Sizes.{sizeOf}
 use Rattle.trees.proofs.NumberTexts.{number-legal}
-use Rattle.trees.proofs.Meanings.{stands-in, Meant, Spelt, leaf-meant}
+use Rattle.trees.proofs.Meanings.{stands-in, unstored, Meant, Spelt, leaf-meant}
 
 number-some : (w : List ℕ) → (numberKind w ≡ 0 → ⊥) → 0 < length w
 unfolding numberKind
@@ -40,7 +40,7 @@ module _ (text : List ℕ) (m : ℕ) where
   -- strings
   spelt-text : (p c : ℕ) → p + c ≤ length text → Spelt text m (node 5 1 p c) [] (take c (drop p text))
   unfolding stringOf shownBy pick
-  spelt-text p c h = record { least = lit≤ tt; most = lit≤ tt; alone = refl; means = λ store a. rw (le-leb (p + c) (length text) h) }
+  spelt-text p c h = record { least = lit≤ tt; most = lit≤ tt; alone = refl; stored = refl; means = λ store a. rw (le-leb (p + c) (length text) h) }
 
   spelt-store : (bs : List ℕ) → Spelt text m (node 6 1 m (length bs)) bs bs
   unfolding stringOf shownBy pick
@@ -49,6 +49,7 @@ module _ (text : List ℕ) (m : ℕ) where
         least = lit≤ tt;
         most = lit≤ tt;
         alone = refl;
+        stored = refl;
         means = λ store a. rw (le-leb (m + length bs) (length store) (stands-in a), a .same, take-append-seam bs (a .rest));
       }
 
@@ -59,11 +60,12 @@ module _ (text : List ℕ) (m : ℕ) where
     pub read : (n : ℕ) → string p n m (drop p text) ≡ got e 0 (top ∷ []) kept
     pub spelt : Spelt text m top kept bs
     pub bytes : IsBytes bs → IsBytes kept
+    pub much : length kept ≡ pick (slashed (take e (drop p text))) (length bs) 0
 
   module _ (p : ℕ) where
     run-token : (st : Style) (k : ℕ) → opening (drop p text) ≡ opens st k → (e : ℕ) → e ≡ p + k + literalRun st 0 (drop (p + k) text)
         → getD (drop e text) 0 0 ≡ quote st → Token p (take (literalRun st 0 (drop (p + k) text)) (drop (p + k) text)) (k + literalRun st 0 (drop (p + k) text) + 1)
-    unfolding string stringNode
+    unfolding string stringNode pick
     run-token st k o e ee q =
         let c : ℕ = literalRun st 0 (drop (p + k) text) in
         let z : k + c + 1 - (k + 1) ≡ c = omega arith in
@@ -73,11 +75,12 @@ module _ (text : List ℕ) (m : ℕ) where
           read = λ n. rw (whole-run text p k st o e ee q, run-unslashed text p k st o e ee q, o, z);
           spelt = spelt-text (p + k) c (omega (arith, quote-inside text p k st o e ee q));
           bytes = λ b i. lit< tt;
+          much = rw (run-unslashed text p k st o e ee q);
         }
 
     slashed-token : (bs : List ℕ) (e : ℕ) → readToken (drop p text) ≡ accepted bs e → slashed (take e (drop p text)) ≡ true → Token p bs e
-    unfolding string stringNode
-    slashed-token bs e t s = record { top = node 6 1 m (length bs); kept = bs; read = λ n. rw (t, s); spelt = spelt-store bs; bytes = λ b. b }
+    unfolding string stringNode pick
+    slashed-token bs e t s = record { top = node 6 1 m (length bs); kept = bs; read = λ n. rw (t, s); spelt = spelt-store bs; bytes = λ b. b; much = rw s }
 
     pub string-token : (bs : List ℕ) (e : ℕ) → readToken (drop p text) ≡ accepted bs e → Token p bs e
     unfolding readToken
@@ -128,6 +131,7 @@ module _ (text : List ℕ) (m : ℕ) where
         let w : List ℕ = numberToken (drop p text) in
         let (a, (l, u)) = number-legal w h in
         leaf-meant text d m (node (numberKind w) 1 p (length w)) [] (numberTree w) (omega arith) refl refl
+        (unstored (node (numberKind w) 1 p (length w)) (λ e. omega arith))
         (λ store s. number-scalar (numberKind w) w store l u (omega (arith, number-some w h, run-le isNumber (drop p text), length-drop p text)) (run-take isNumber (drop p text)) refl)
 
   -- words
@@ -136,12 +140,12 @@ module _ (text : List ℕ) (m : ℕ) where
 
   pub null-meant : Word 0 null
   unfolding scalarOf sizeOf pick
-  null-meant d p c = leaf-meant text d m (node 0 1 p c) [] null (lit≤ tt) refl refl (λ store a. refl)
+  null-meant d p c = leaf-meant text d m (node 0 1 p c) [] null (lit≤ tt) refl refl refl (λ store a. refl)
 
   pub false-meant : Word 1 (bool false)
   unfolding scalarOf sizeOf pick
-  false-meant d p c = leaf-meant text d m (node 1 1 p c) [] (bool false) (lit≤ tt) refl refl (λ store a. refl)
+  false-meant d p c = leaf-meant text d m (node 1 1 p c) [] (bool false) (lit≤ tt) refl refl refl (λ store a. refl)
 
   pub true-meant : Word 2 (bool true)
   unfolding scalarOf sizeOf pick
-  true-meant d p c = leaf-meant text d m (node 2 1 p c) [] (bool true) (lit≤ tt) refl refl (λ store a. refl)
+  true-meant d p c = leaf-meant text d m (node 2 1 p c) [] (bool true) (lit≤ tt) refl refl refl (λ store a. refl)

@@ -6,6 +6,7 @@ use native.Mathlib.Nat.{zero-add}
 use mathlib.Core.List.{List, [], _∷_, _++_, append-assoc}
 use mathlib.Core.Path.{_≡_, refl, sym, ap, _∙_}
 use native.Mathlib.Omega.{arith}
+use lib.Dec.{eqb}
 use lib.ListN.{length, drop, length-append, length-drop}
 use lib.Seq.{drop-drop, drop-append-seam}
 use borrow.Author.Tests.{eq-eqb, ne-eqb, le-leb, lt-ltb}
@@ -16,7 +17,7 @@ use Rattle.json8.specs.Nodes.{Node, node}
 use Rattle.json8.specs.Values.{groupKind}
 use Rattle.trees.specs.Trees.{Label, Tree, string, branch, Members, none, one}
 use Rattle.trees.specs.Tables.{just, countAt, stringOf, scalarOf, labelSize, labelAt, memberSize, membersAt, treeFrom, grouped, treeAt}
-use Rattle.trees.specs.Sound.{sizeOf, sizesOf}
+use Rattle.trees.specs.Sizes.{sizeOf, sizesOf, storedBytes}
 
 -- bytes that stand in a buffer at a place
 pub record Stands (s : List ℕ) (p : ℕ) (x : List ℕ) : Type 0 where
@@ -39,10 +40,24 @@ stands-right {s} {p} x y a =
           sym (drop-drop (length x) p s) ∙ ap (drop (length x)) (a .same ∙ append-assoc x y (a .rest)) ∙ drop-append-seam x (y ++ a .rest);
     }
 
+-- the bytes that nodes have in the store, one behind another
+pub stored-append : (ns os : List Node) → storedBytes (ns ++ os) ≡ storedBytes ns + storedBytes os
+unfolding storedBytes
+stored-append [] os = sym (zero-add (storedBytes os))
+stored-append (v ∷ ns) os = let h = stored-append ns os in omega arith
+
+abbrev pub leafBytes : Node → ℕ
+leafBytes v = pick (eqb (v .kind) 6) (v .size) 0
+
+pub unstored : (v : Node) → (v .kind ≡ 6 → ⊥) → 0 ≡ leafBytes v
+unfolding pick
+unstored v h = rw (ne-eqb (v .kind) 6 h)
+
 module _ (text : List ℕ) where
   -- the nodes ns, behind m bytes of the store and with the bytes bs in it, mean a tree that has as many nodes
   pub record Meant (d m : ℕ) (ns : List Node) (bs : List ℕ) (t : Tree) : Type 0 where
     pub size : length ns ≡ sizeOf t
+    pub stored : length bs ≡ storedBytes ns
     pub count : (after : List Node) → countAt (ns ++ after) ≡ length ns
     pub means : (store : List ℕ) → Stands store m bs → (after : List Node) → treeAt d text store (ns ++ after) ≡ just t
 
@@ -51,26 +66,30 @@ module _ (text : List ℕ) where
     pub least : 5 ≤ v .kind
     pub most : v .kind ≤ 6
     pub alone : v .count ≡ 1
+    pub stored : length bs ≡ leafBytes v
     pub means : (store : List ℕ) → Stands store m bs → stringOf text store v ≡ just w
 
   pub record MemberMeant (b : Sort) (d m : ℕ) (ns : List Node) (bs : List ℕ) (k : Label b) (t : Tree) : Type 0 where
     pub size : length ns ≡ labelSize b + sizeOf t
+    pub stored : length bs ≡ storedBytes ns
     pub count : (after : List Node) → memberSize b (ns ++ after) ≡ length ns
     pub label : (store : List ℕ) → Stands store m bs → (after : List Node) → labelAt b text store (ns ++ after) ≡ just k
     pub means : (store : List ℕ) → Stands store m bs → (after : List Node) → treeAt d text store (drop (labelSize b) (ns ++ after)) ≡ just t
 
   pub record RowMeant (b : Sort) (d m c : ℕ) (ns : List Node) (bs : List ℕ) (ms : Members b) : Type 0 where
     pub size : length ns ≡ sizesOf ms
+    pub stored : length bs ≡ storedBytes ns
     pub means : (store : List ℕ) → Stands store m bs → (after : List Node)
         → membersAt b (labelAt b text store) (treeAt d text store) c (length ns) (ns ++ after) ≡ just ms
 
   -- a node without children
-  pub leaf-meant : (d m : ℕ) (v : Node) (bs : List ℕ) (t : Tree) → v .kind ≤ 6 → v .count ≡ 1 → sizeOf t ≡ 1
+  pub leaf-meant : (d m : ℕ) (v : Node) (bs : List ℕ) (t : Tree) → v .kind ≤ 6 → v .count ≡ 1 → sizeOf t ≡ 1 → length bs ≡ leafBytes v
       → ((store : List ℕ) → Stands store m bs → scalarOf text store v ≡ just t) → Meant d m (v ∷ []) bs t
-  unfolding treeFrom pick
-  leaf-meant d m v bs t k c z f =
+  unfolding treeFrom storedBytes pick
+  leaf-meant d m v bs t k c z w f =
       record {
         size = sym z;
+        stored = omega (arith, w);
         count = λ after. c;
         means =
             λ store a after. let p : (v .kind ≡ 7 → ⊥) = λ e. omega arith in
@@ -82,7 +101,7 @@ module _ (text : List ℕ) where
   unfolding scalarOf sizeOf pick
   string-meant d m v bs w s =
       let i : (k : ℕ) → k < 5 → v .kind ≡ k → ⊥ = λ k h e. omega (arith, s .least) in
-      leaf-meant d m v bs (string w) (s .most) (s .alone) refl
+      leaf-meant d m v bs (string w) (s .most) (s .alone) refl (s .stored)
       (λ store a.
       rw (
         ne-eqb (v .kind) 0 (i 0 (omega arith)),
@@ -99,6 +118,7 @@ module _ (text : List ℕ) where
   item-meant d m ns bs t a =
       record {
         size = a .size ∙ sym (zero-add (sizeOf t));
+        stored = a .stored;
         count = λ after. zero-add _ ∙ a .count after;
         label = λ store s after. refl;
         means = a .means;
@@ -106,18 +126,19 @@ module _ (text : List ℕ) where
 
   pub pair-meant : (d m : ℕ) (v : Node) (bs w : List ℕ) (ns : List Node) (cs : List ℕ) (t : Tree) → Spelt m v bs w → Meant d (m + length bs) ns cs t
       → MemberMeant Pairs d m (v ∷ ns) (bs ++ cs) w t
-  unfolding labelAt pick
+  unfolding labelAt storedBytes pick
   pair-meant d m v bs w ns cs t s a =
       record {
         size = omega (arith, a .size);
+        stored = omega (arith, length-append bs cs, s .stored, a .stored);
         count = λ after. omega (arith, a .count after);
         label = λ store x after. rw (eq-eqb (v .count) 1 (s .alone)) (s .means store (stands-left bs cs x));
         means = λ store x after. a .means store (stands-right bs cs x) after;
       }
 
   pub row-none : (b : Sort) (d m : ℕ) → RowMeant b d m 0 [] [] none
-  unfolding membersAt sizesOf pick
-  row-none b d m = record { size = refl; means = λ store a after. refl }
+  unfolding membersAt sizesOf storedBytes pick
+  row-none b d m = record { size = refl; stored = refl; means = λ store a after. refl }
 
   pub row-next : (b : Sort) (d m c : ℕ) (ns : List Node) (bs : List ℕ) (k : Label b) (t : Tree) (os : List Node) (cs : List ℕ) (ms : Members b)
       → MemberMeant b d m ns bs k t → RowMeant b d (m + length bs) c os cs ms → RowMeant b d m (suc c) (ns ++ os) (bs ++ cs) (one k t ms)
@@ -126,6 +147,7 @@ module _ (text : List ℕ) where
       let l : length (ns ++ os) ≡ length ns + length os = length-append ns os in
       record {
         size = omega (arith, x .size, y .size);
+        stored = omega (arith, length-append bs cs, x .stored, y .stored, stored-append ns os);
         means =
             λ store a after. let z : length (ns ++ os) - length ns ≡ length os = omega arith in
             let s : Stands store m bs = stands-left bs cs a in
@@ -141,6 +163,10 @@ module _ (text : List ℕ) where
             );
       }
 
+  group-unstored : (b : Sort) → groupKind b ≡ 6 → ⊥
+  group-unstored Items e = omega arith
+  group-unstored Pairs e = omega arith
+
   grouped-at : (b : Sort) (d p c w : ℕ) (r : List Node) (store : List ℕ) (ms : Members b) → 0 < w
       → membersAt b (labelAt b text store) (treeAt d text store) c (w - 1) r ≡ just ms
       → treeAt (suc d) text store (node (groupKind b) w p c ∷ r) ≡ just (branch b ms)
@@ -150,10 +176,11 @@ module _ (text : List ℕ) where
 
   pub branch-meant : (b : Sort) (d m p c : ℕ) (ns : List Node) (bs : List ℕ) (ms : Members b) → RowMeant b d m c ns bs ms
       → Meant (suc d) m (node (groupKind b) (suc (length ns)) p c ∷ ns) bs (branch b ms)
-  unfolding sizeOf
+  unfolding sizeOf storedBytes
   branch-meant b d m p c ns bs ms x =
       record {
         size = ap suc (x .size);
+        stored = omega (arith, x .stored, unstored (node (groupKind b) (suc (length ns)) p c) (group-unstored b));
         count = λ after. refl;
         means =
             λ store a after. let z : suc (length ns) - 1 ≡ length ns = omega arith in

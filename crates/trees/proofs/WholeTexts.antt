@@ -5,7 +5,8 @@ use Prim.Native.Nat.{ℕ, _+_, _/_, _≤_}
 use mathlib.Core.List.{List, [], _∷_, _++_, append-nil}
 use mathlib.Core.Path.{_≡_, refl, sym, ap, _∙_}
 use native.Mathlib.Omega.{arith}
-use lib.ListN.{length, drop, length-append}
+use lib.ListN.{length, take, drop, length-append}
+use lib.Seq.{take-append-seam}
 use lib.Dec.{ltb}
 use borrow.Author.Tests.{le-ltb, ltb-false, le-leb}
 use Rattle.prelude.specs.Pick.{pick}
@@ -21,8 +22,9 @@ use Rattle.json8.specs.Read.{textEnd, readAll, fitted, readOf, parsedOf}
 use Rattle.json8.proofs.Claims.{tables-fit}
 use Rattle.trees.specs.Trees.{Tree, render}
 use Rattle.trees.specs.Tables.{just, nodesIn, treeOf}
-use Rattle.trees.specs.Sound.{Sound, sizeOf}
-use Rattle.trees.specs.Claims.{treeIn, textTree, ReadAs, Stops, FrontRead}
+use Rattle.trees.specs.Sound.{Sound}
+use Rattle.trees.specs.Sizes.{sizeOf, storeOf, storedBytes}
+use Rattle.trees.specs.Claims.{treeIn, textTree, ReadAs, WrittenAs, Stops, FrontRead}
 use Rattle.trees.proofs.Fitting.{tree-sound}
 use Rattle.trees.proofs.Meanings.{Meant}
 use Rattle.trees.proofs.Firsts.{heads-firm, seq-firm}
@@ -61,45 +63,66 @@ module _ (s : List ℕ) (t : Tree) (k : Known s t) where
   pub known-tree : textTree s ≡ just t
   known-tree = rw (k .read) (tree-is s (k .nodes) (k .bytes) t (k .meant) (fits .0))
 
-  known-read : (table store : List ℕ) → length s ≤ textMax → length (k .nodes) ≤ length table / 4 → length (k .bytes) ≤ length store → ReadAs t s table store
+  unfoldable known-read : (table store : List ℕ) → length s ≤ textMax → length (k .nodes) ≤ length table / 4 → length (k .bytes) ≤ length store → ReadAs t s table store
   unfolding readOf pick
   known-read table store h i j =
       let e : readOf (length table / 4) (length store) s ≡ got (k .len) (k .tag) (k .nodes) (k .bytes) =
       rw (le-ltb textMax (length s) h, k .read, le-ltb (length table / 4) (length (k .nodes)) i, le-ltb (length store) (length (k .bytes)) j) in
       record {
-        nodes = length (k .nodes);
         bytes = length (k .bytes);
-        accepted = rw e;
+        accepted = rw (← k .meant .size, e);
+        stored =
+            rw (← k .meant .size, e, flat-back (k .nodes), take-append-seam (k .nodes) (nodesIn (drop (length (flat (k .nodes))) table)))
+            (k .meant .stored);
         means = rw (e, flat-back (k .nodes)) (tree-in s (k .nodes) (k .bytes) t (k .meant) (fits .0) (nodesIn (drop (length (flat (k .nodes))) table)) (drop (length (k .bytes)) store));
       }
+
+  known-bytes : (table store : List ℕ) (h : length s ≤ textMax) (i : length (k .nodes) ≤ length table / 4) (j : length (k .bytes) ≤ length store)
+      → known-read table store h i j .bytes ≡ length (k .bytes)
+  unfolding known-read
+  known-bytes table store h i j = refl
 
 -- a tree's own text
 end-read : (p n m : ℕ) (s : List ℕ) → s ≡ [] → seq spaces textEnd p n m s ≡ got 0 0 [] []
 unfolding seq spaces blanksFrom textEnd
 end-read p n m s e = rw e
 
-pub written-known : (t : Tree) → Sound t → Known (render t) t
+-- with the bytes that its strings have in the store
+pub record KnownWritten (t : Tree) : Type 0 where
+  pub known : Known (render t) t
+  pub kept : length (known .bytes) ≡ storeOf t
+
+pub written-known : (t : Tree) → Sound t → KnownWritten t
 unfolding readAll
 written-known t s =
     let v = tree-back (render t) t depthMax 0 0 0 [] (sym (append-nil (render t))) (s .legal) tt (omega (arith, s .few)) in
     let e = seq-both (render t) (value depthMax) (seq spaces textEnd) 0 0 0 (length (render t)) 0 (v .nodes) (v .bytes) 0 0 [] [] (v .read)
     (end-read _ _ _ (drop (0 + length (render t)) (render t)) (behind (render t) 0 (render t) [] (sym (append-nil (render t))))) in
     record {
-      len = length (render t) + 0;
-      tag = 0;
-      nodes = v .nodes;
-      bytes = v .bytes;
-      read =
-          seq-firm (seq (value depthMax) (seq spaces textEnd)) 0 0 0 (render t) (heads-firm (render t) (tree-heads depthMax t (s .legal)))
-          ∙ (rw (append-nil (v .nodes), append-nil (v .bytes)) at e);
-      meant = v .meant;
+      known =
+          record {
+            len = length (render t) + 0;
+            tag = 0;
+            nodes = v .nodes;
+            bytes = v .bytes;
+            read =
+                seq-firm (seq (value depthMax) (seq spaces textEnd)) 0 0 0 (render t) (heads-firm (render t) (tree-heads depthMax t (s .legal)))
+                ∙ (rw (append-nil (v .nodes), append-nil (v .bytes)) at e);
+            meant = v .meant;
+          };
+      kept = v .kept;
     }
 
-pub written-read : (t : Tree) → Sound t → length (render t) ≤ textMax → (table store : List ℕ) → sizeOf t ≤ length table / 4 → length (render t) ≤ length store
-    → ReadAs t (render t) table store
+pub written-read : (t : Tree) → Sound t → length (render t) ≤ textMax → (table store : List ℕ) → sizeOf t ≤ length table / 4 → storeOf t ≤ length store
+    → WrittenAs t table store
 written-read t s h table store i j =
     let k = written-known t s in
-    known-read (render t) t k table store h (omega (arith, k .meant .size)) (omega (arith, fits (render t) t k .1))
+    let few : length (k .known .nodes) ≤ length table / 4 = omega (arith, k .known .meant .size) in
+    let less : length (k .known .bytes) ≤ length store = omega (arith, k .kept) in
+    record {
+      read = known-read (render t) t (k .known) table store h few less;
+      bytes = known-bytes (render t) t (k .known) table store h few less ∙ k .kept;
+    }
 
 pub front-read : (t : Tree) (r : List ℕ) → Sound t → Stops r → FrontRead t (render t ++ r)
 front-read t r s h =
@@ -126,10 +149,11 @@ render-one t u a b e = same-tree t u (render t ++ []) (render u ++ []) (ap (λ (
 
 -- an accepted text
 module _ (s : List ℕ) where
-  pub read-nests : (l tag : ℕ) (ns : List Node) (bs : List ℕ) → readAll s ≡ got l tag ns bs → (t : Tree) × (treeOf ns s bs ≡ just t)
+  pub read-nests : (l tag : ℕ) (ns : List Node) (bs : List ℕ) → readAll s ≡ got l tag ns bs
+      → (t : Tree) × (treeOf ns s bs ≡ just t) × (length ns ≡ sizeOf t) × (length bs ≡ storedBytes ns)
   read-nests l tag ns bs e =
       let f : Holds s (Trees s depthMax) 0 (got l tag ns bs) = rw e at (all-meant s) in
-      (f .2 .0, tree-is s ns bs (f .2 .0) (f .2 .1) (tables-fit s l tag ns bs e .0))
+      (f .2 .0, tree-is s ns bs (f .2 .0) (f .2 .1) (tables-fit s l tag ns bs e .0), f .2 .1 .size, f .2 .1 .stored)
 
   fit-read : (table store : List ℕ) (n m : ℕ) (r : Read) → length s ≤ textMax → readAll s ≡ r → Holds s (Trees s depthMax) 0 r
       → parsedOf (fitted (length table / 4) (length store) r) ≡ Done n m → (t : Tree) × (textTree s ≡ just t) × ReadAs t s table store

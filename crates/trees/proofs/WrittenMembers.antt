@@ -1,7 +1,7 @@
 -- Members as they are written: one is read with its key, the loop goes on behind its comma, and ends behind the closing bracket.
 -- Assumes nothing.
 use Prim.Native.Nat.{ℕ, zero, suc, _+_, _≤_, _<_}
-use native.Mathlib.Nat.{add-zero}
+use native.Mathlib.Nat.{zero-add, add-zero}
 use mathlib.Core.Bool.{true, false}
 use mathlib.Core.List.{List, [], _∷_, _++_, append-assoc, append-nil}
 use mathlib.Core.Path.{_≡_, refl, sym, ap, _∙_}
@@ -29,12 +29,13 @@ use Rattle.json8.proofs.Fair.{members-skip}
 use Rattle.json8.proofs.Limited.{limited-free}
 use Rattle.trees.specs.Trees.{Label, Tree, Members, none, one, renderLabel, render, renderMembers}
 use Rattle.trees.specs.Tables.{labelSize}
-use Rattle.trees.specs.Sound.{SoundLabel, sizeOf, sizesOf}
+use Rattle.trees.specs.Sound.{SoundLabel}
+use Rattle.trees.specs.Sizes.{sizeOf, sizesOf, labelKept, storeOf, storesOf}
 use Rattle.trees.specs.Claims.{Stops}
 use Rattle.trees.proofs.Firsts.{solid, Heads, heads-append, heads-firm, head-open, seq-firm}
 use Rattle.trees.proofs.Meanings.{MemberMeant, RowMeant, item-meant, pair-meant, row-none, row-next}
 use Rattle.trees.proofs.Leaves.{Token}
-use Rattle.trees.proofs.WrittenTokens.{written-begins, behind, seq-both, Back, string-at}
+use Rattle.trees.proofs.WrittenTokens.{written-begins, behind, seq-both, Back, string-at, string-kept}
 
 -- the marks behind a member
 close-firm : (b : Sort) → solid (closeOf b) ≡ true
@@ -88,6 +89,7 @@ module _ (text : List ℕ) where
     pub bytes : List ℕ
     pub read : memberOf b (value d) p n m (drop p text) ≡ got (length (renderLabel b k ++ render t)) 0 nodes bytes
     pub meant : MemberMeant text b d m nodes bytes k t
+    pub kept : length bytes ≡ labelKept b k + storeOf t
 
   key-read : (p n m : ℕ) (s r : List ℕ) → drop p text ≡ writeString s ++ r → n < nodeMax → (x : Token text m p s (length (writeString s)))
       → key p n m (drop p text) ≡ got (length (writeString s)) 0 (x .top ∷ []) (x .kept)
@@ -123,13 +125,14 @@ module _ (text : List ℕ) where
             (key-read p n m k (0x3a ∷ (render t ++ r)) a h x)
             (colon-read (value d) (p + length w) (n + 1) (m + length (x .kept)) (render t ++ r) (length (render t)) (v .nodes) (v .bytes) c (heads-append (render t) r g) (v .read)));
         meant = pair-meant text d m (x .top) (x .kept) k (v .nodes) (v .bytes) t (x .spelt) (v .meant);
+        kept = omega (arith, length-append (x .kept) (v .bytes), string-kept text p m k (0x3a ∷ (render t ++ r)) a b, v .kept);
       }
 
   member-back : (b : Sort) (d p n m : ℕ) (k : Label b) (t : Tree) (r : List ℕ) → drop p text ≡ renderLabel b k ++ (render t ++ r) → SoundLabel b k → Heads (render t)
       → n + (labelSize b + sizeOf t) ≤ nodeMax → ((p n m : ℕ) → drop p text ≡ render t ++ r → n + sizeOf t ≤ nodeMax → Back text d t p n m) → MemberBack b d k t p n m
   member-back Items d p n m k t r e s g h f =
       let v = f p n m e (omega arith) in
-      record { nodes = v .nodes; bytes = v .bytes; read = v .read; meant = item-meant text d m (v .nodes) (v .bytes) t (v .meant) }
+      record { nodes = v .nodes; bytes = v .bytes; read = v .read; meant = item-meant text d m (v .nodes) (v .bytes) t (v .meant); kept = v .kept ∙ sym (zero-add (storeOf t)) }
   member-back Pairs d p n m k t r e s g h f = pair-back d p n m k t r e s g (omega arith) (λ p m e. f p (n + 1) m e (omega arith))
 
   -- a member, and the mark behind it
@@ -150,9 +153,10 @@ module _ (text : List ℕ) where
     pub bytes : List ℕ
     pub read : members (closeOf b) (memberOf b (value d)) p n m 0 (drop p text) ≡ got (length (renderMembers true ms)) count nodes bytes
     pub meant : RowMeant text b d m count nodes bytes ms
+    pub kept : length bytes ≡ storesOf ms
 
   pub none-back : (b : Sort) (d p n m : ℕ) (r : List ℕ) → drop p text ≡ closeOf b ∷ r → RowBack b d none p n m
-  unfolding renderMembers closeOr pick
+  unfolding renderMembers storesOf closeOr pick
   none-back b d p n m r e =
       record {
         count = 0;
@@ -162,6 +166,7 @@ module _ (text : List ℕ) where
             loop-ends (closeOf b) (memberOf b (value d)) p n m (drop p text) 1 0 [] [] (omega arith)
             (rw e (seq-firm (closeOr (closeOf b) (memberOf b (value d))) p n m (closeOf b ∷ r) (close-firm b) ∙ rw (eq-eqb (closeOf b) (closeOf b) refl)));
         meant = row-none text b d m;
+        kept = refl;
       }
 
   -- a member in front of the others
@@ -176,7 +181,7 @@ module _ (text : List ℕ) where
         ∙ length-append (renderLabel b k ++ render t) (renderMembers false ms)
 
     last-back : (r : List ℕ) → drop (p + taken) text ≡ closeOf b ∷ r → RowBack b d (one k t none) p n m
-    unfolding renderMembers commaAt pick
+    unfolding renderMembers storesOf commaAt pick
     last-back r e =
         record {
           count = 1;
@@ -189,11 +194,12 @@ module _ (text : List ℕ) where
           meant =
               rw (append-nil (v .nodes), append-nil (v .bytes)) at
               (row-next text b d m 0 (v .nodes) (v .bytes) k t [] [] none (v .meant) (row-none text b d (m + length (v .bytes))));
+          kept = omega (arith, v .kept);
         }
 
     next-back : (ms : Members b) (r : List ℕ) → drop (p + taken) text ≡ 0x2c ∷ r → length (renderMembers false ms) ≡ suc (length (renderMembers true ms))
         → RowBack b d ms (p + suc taken) (n + length (v .nodes)) (m + length (v .bytes)) → RowBack b d (one k t ms) p n m
-    unfolding commaAt solid isSpace pick
+    unfolding storesOf commaAt solid isSpace pick
     next-back ms r e l w =
         let o = round-back b (memberOf b (value d)) p n m taken (v .nodes) (v .bytes) 0x2c 2 r g (v .read) e refl (λ q. rw (comma-open b)) in
         let i : taken + 1 ≡ suc taken = omega arith in
@@ -206,6 +212,7 @@ module _ (text : List ℕ) where
               ∙ rw (drop-drop (suc taken) p text, w .read)
               (ap (λ (z : ℕ). got z (suc (w .count)) (v .nodes ++ w .nodes) (v .bytes ++ w .bytes)) (omega (arith, length-one ms)));
           meant = row-next text b d m (w .count) (v .nodes) (v .bytes) k t (w .nodes) (w .bytes) ms (v .meant) (w .meant);
+          kept = omega (arith, length-append (v .bytes) (w .bytes), v .kept, w .kept);
         }
 
   -- a member with the text y behind it

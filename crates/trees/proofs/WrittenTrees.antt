@@ -19,7 +19,8 @@ use Rattle.prelude.specs.Limits.{nodeMax}
 use Rattle.json8.specs.Values.{valueOf, groupKind, closeOf, memberOf, members, groupNode as branched, groupOf, group, value}
 use Rattle.json8.proofs.Limited.{limited-free}
 use Rattle.trees.specs.Trees.{Tree, null, bool, number as numberTree, string as stringTree, branch, Members, none, one, openOf, render, renderMembers}
-use Rattle.trees.specs.Sound.{SoundTo, SoundMembers, sizeOf, sizesOf}
+use Rattle.trees.specs.Sound.{SoundTo, SoundMembers}
+use Rattle.trees.specs.Sizes.{sizeOf, sizesOf, storeOf}
 use Rattle.trees.specs.Claims.{Stops}
 use Rattle.trees.proofs.Firsts.{solid, begins, Heads}
 use Rattle.trees.proofs.Meanings.{branch-meant}
@@ -45,13 +46,14 @@ opened-read Pairs d p n m s h = limited-free (groupOf Pairs (value d)) p n m (0x
 module _ (text : List ℕ) where
   branch-back : (b : Sort) (d p n m : ℕ) (ms : Members b) (s : List ℕ) → drop p text ≡ openOf b ∷ s → n < nodeMax → RowBack text b d ms (p + 1) (n + 1) m
       → Back text (suc d) (branch b ms) p n m
-  unfolding render
+  unfolding render storeOf
   branch-back b d p n m ms s e h v =
       record {
         nodes = node (groupKind b) (suc (length (v .nodes))) p (v .count) ∷ v .nodes;
         bytes = v .bytes;
         read = rw e (opened-read b d p n m s h ∙ rw (← behind text p (openOf b ∷ []) s e, v .read));
         meant = branch-meant text b d m p (v .count) (v .nodes) (v .bytes) ms (v .meant);
+        kept = v .kept;
       }
 
   mutual

@@ -4,7 +4,7 @@ use Prim.Native.Nat.{ℕ, _/_, _≤_}
 use mathlib.Core.Bool.{false}
 use mathlib.Core.List.{List, [], _∷_, _++_}
 use mathlib.Core.Path.{_≡_}
-use lib.ListN.{length}
+use lib.ListN.{length, take}
 use Rattle.prelude.specs.Bytes.{IsBytes}
 use Rattle.prelude.specs.Limits.{textMax, depthMax}
 use Rattle.tokens.specs.Words.{isWord}
@@ -15,7 +15,8 @@ use Rattle.json8.specs.Values.{value}
 use Rattle.json8.specs.Read.{readAll, readOf, parsedOf, tableAfter, storeAfter}
 use Rattle.trees.specs.Trees.{Tree, render}
 use Rattle.trees.specs.Tables.{Maybe, just, unfit, nodesIn, countAt, treeOf}
-use Rattle.trees.specs.Sound.{Sound, sizeOf}
+use Rattle.trees.specs.Sound.{Sound}
+use Rattle.trees.specs.Sizes.{sizeOf, storeOf, storedBytes}
 use Rattle.trees.specs.Rooms.{roomOf}
 
 -- what a table means whose numbers stand in a buffer
@@ -30,27 +31,35 @@ treeIn s (refused number at) = unfit
 abbrev pub textTree : List ℕ → Maybe Tree
 textTree s = treeIn s (readAll s)
 
--- the nodes of an accepted text are one tree: subtrees nest exactly, the counts are true, and at most 32 brackets are open
+-- the nodes of an accepted text are one tree: subtrees nest exactly, the counts are true, and at most 32 brackets are open; the tree has
+-- all nodes, and its strings have all bytes of the store
 abbrev pub Tables-Nest : Type 0
 Tables-Nest =
-    (s : List ℕ) (l tag : ℕ) (ns : List Node) (bs : List ℕ) → readAll s ≡ got l tag ns bs → (t : Tree) × (treeOf ns s bs ≡ just t)
+    (s : List ℕ) (l tag : ℕ) (ns : List Node) (bs : List ℕ) → readAll s ≡ got l tag ns bs
+    → (t : Tree) × (treeOf ns s bs ≡ just t) × (length ns ≡ sizeOf t) × (length bs ≡ storedBytes ns)
 
--- a text read into a table and a store is accepted, and what they hold then means this tree
+-- a text read into a table and a store is accepted with the tree's nodes and their bytes, and what the table and the store hold then
+-- means this tree
 pub record ReadAs (t : Tree) (s table store : List ℕ) : Type 0 where
-  pub nodes : ℕ
   pub bytes : ℕ
-  pub accepted : parsedOf (readOf (length table / 4) (length store) s) ≡ Done nodes bytes
+  pub accepted : parsedOf (readOf (length table / 4) (length store) s) ≡ Done (sizeOf t) bytes
+  pub stored : bytes ≡ storedBytes (take (sizeOf t) (nodesIn (tableAfter (readOf (length table / 4) (length store) s) table)))
   pub means :
       tableTree (tableAfter (readOf (length table / 4) (length store) s) table) s (storeAfter (readOf (length table / 4) (length store) s) store)
       ≡ just t
 
+-- a tree's own text, read so
+pub record WrittenAs (t : Tree) (table store : List ℕ) : Type 0 where
+  pub read : ReadAs t (render t) table store
+  pub bytes : read .bytes ≡ storeOf t
+
 -- Demand 2, of tables: "If the written text is at most 32,768 bytes, reading it, given room, gives the same tree of kinds (5 and 6 counted
--- alike), bytes and number texts." Room for the tree's nodes, and for as many bytes as the text has, is enough
+-- alike), bytes and number texts." The room that is needed: the tree's nodes, and the bytes of the strings that are written with an escape
 abbrev pub Written-Table-Reads-Back : Type 0
 Written-Table-Reads-Back =
     (table text store : List ℕ) (t : Tree) → IsBytes text → IsBytes store → tableTree table text store ≡ just t
     → length (render t) ≤ textMax
-    → (into stored : List ℕ) → sizeOf t ≤ length into / 4 → length (render t) ≤ length stored → ReadAs t (render t) into stored
+    → (into stored : List ℕ) → sizeOf t ≤ length into / 4 → storeOf t ≤ length stored → WrittenAs t into stored
 
 -- what goes on neither a word nor a number
 abbrev pub Stops : List ℕ → Type 0
@@ -85,7 +94,7 @@ abbrev pub Restored-Is-The-Same : Type 0
 Restored-Is-The-Same =
     (s : List ℕ) (t : Tree) → IsBytes s → textTree s ≡ just t → length (render t) ≤ textMax
     → (textTree (render t) ≡ just t)
-    × ((into stored : List ℕ) → sizeOf t ≤ length into / 4 → length (render t) ≤ length stored → ReadAs t (render t) into stored)
+    × ((into stored : List ℕ) → sizeOf t ≤ length into / 4 → storeOf t ≤ length stored → WrittenAs t into stored)
 
 -- two trees with one text are one
 abbrev pub Render-Is-Injective : Type 0

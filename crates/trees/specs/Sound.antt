@@ -1,6 +1,6 @@
 -- The trees that have a text: bytes, legal numbers, and no deeper or larger than a table may be.
 -- Assumes nothing.
-use Prim.Native.Nat.{ℕ, zero, suc, _+_, _≤_}
+use Prim.Native.Nat.{ℕ, zero, suc, _≤_}
 use mathlib.Core.Bool.{Bool}
 use mathlib.Core.List.{List}
 use mathlib.Core.Path.{_≡_}
@@ -10,7 +10,7 @@ use Rattle.json8.specs.declared.nodes.Sort.{Sort}
 use Rattle.json8.specs.declared.nodes.Sort.the-variants.{Items, Pairs}
 use Rattle.prelude.specs.Limits.{nodeMax, depthMax}
 use Rattle.trees.specs.Trees.{Label, Tree, null, bool, number, string, branch, Members, none, one}
-use Rattle.trees.specs.Tables.{labelSize}
+use Rattle.trees.specs.Sizes.{sizeOf}
 
 abbrev pub SoundLabel : (b : Sort) → Label b → Type 0
 SoundLabel Items k = Unit
@@ -29,19 +29,6 @@ unfoldable mutual
   pub SoundMembers : {b : Sort} → ℕ → Members b → Type 0
   SoundMembers d none = Unit
   SoundMembers {b} d (one k t ms) = SoundLabel b k × SoundTo d t × SoundMembers d ms
-
-unfoldable mutual
-  -- the nodes of a tree, keys among them
-  pub sizeOf : Tree → ℕ
-  sizeOf null = 1
-  sizeOf (bool b) = 1
-  sizeOf (number w) = 1
-  sizeOf (string bs) = 1
-  sizeOf (branch b ms) = suc (sizesOf ms)
-
-  pub sizesOf : {b : Sort} → Members b → ℕ
-  sizesOf none = 0
-  sizesOf {b} (one k t ms) = labelSize b + sizeOf t + sizesOf ms
 
 pub record Sound (t : Tree) : Type 0 where
   pub legal : SoundTo depthMax t
