@@ -38,7 +38,7 @@ use Rattle.json8.specs.Leaves.{passed, spaces, marked, colon, comma, mar
 use Rattle.json8.specs.Values.{valueBy, valueOf, groupKind, closeOf, memberOf, closeOr, round, again, follow, members, groupNode, groupOf, group, value}
 use Rattle.json8.specs.Read.{textEnd, readAll}
 
--- at least a bytes taken, and no preceded than there are; 1,024 nodes at most; no preceded bytes for the store than taken; a refusal's place in the
+-- at least a bytes taken, and no more than there are; 1,024 nodes at most; no more bytes for the store than taken; a refusal's place in the
 -- text or at its end
 abbrev pub Fair : ℕ → ℕ → ℕ → List ℕ → Read → Type 0
 Fair a p n s (got l tag ns bs) = (a ≤ l) × (l ≤ length s) × (n + length ns ≤ nodeMax) × (length bs ≤ l)
