@@ -5,6 +5,7 @@ use mathlib.Core.List.{List}
 use mathlib.Core.Path.{_≡_}
 use lib.ListN.{length}
 use Rattle.json8.specs.Nodes.{Node, got, refused}
+use Rattle.prelude.specs.Refusals.{cutOff}
 use Rattle.prelude.specs.Limits.{nodeMax}
 use Rattle.json8.specs.Values.{value}
 use Rattle.json8.specs.Read.{readAll, readOf}
@@ -24,3 +25,7 @@ Values-Progress =
 -- a refusal's place is in the text or at its end
 abbrev pub Refusals-Inside : Type 0
 Refusals-Inside = (nodes room : ℕ) (s : List ℕ) (number at : ℕ) → readOf nodes room s ≡ refused number at → at ≤ length s
+
+-- "the text ends where more is needed": refusal 4 stands at the "text length"
+abbrev pub Texts-Cut-Off-At-End : Type 0
+Texts-Cut-Off-At-End = (nodes room : ℕ) (s : List ℕ) (at : ℕ) → readOf nodes room s ≡ refused cutOff at → at ≡ length s

@@ -9,11 +9,12 @@ use borrow.Author.Tests.{eqb-true}
 use lib.Dec.{eqb}
 use lib.ListN.{length, drop, length-drop}
 use Rattle.prelude.specs.Pick.{pick}
-use Rattle.prelude.proofs.Cases.{split}
+use Rattle.prelude.specs.Refusals.{cutOff, illFormed}
+use Rattle.prelude.proofs.Cases.{split, never}
 use Rattle.prelude.proofs.Suffix.{by-suffix}
 use Rattle.utf8.specs.declared.chars.Char.{Char}
 use Rattle.utf8.specs.declared.chars.Char.the-variants.{Good, Bad}
-use Rattle.utf8.specs.Utf8.{charAt}
+use Rattle.utf8.specs.Utf8.{charLen, charBy, charAt}
 use Rattle.strings.specs.Read.{opening}
 use Rattle.tokens.specs.declared.blanks.Blank.{Blank}
 use Rattle.tokens.specs.declared.blanks.Blank.the-variants.{Clear, Ill}
@@ -32,16 +33,23 @@ use Rattle.tokens.proofs.Grammar.{digit-number}
 -- behind i bytes, in a text of which s is left
 abbrev pub Passed : ℕ → List ℕ → Blank → Type 0
 Passed i s (Clear j) = (i ≤ j) × (j ≤ i + length s)
-Passed i s (Ill number j) = (i ≤ j) × (j ≤ i + length s)
+Passed i s (Ill number j) = ((i ≤ j) × (j ≤ i + length s)) × (number ≡ cutOff → ⊥)
 
 abbrev Within : List ℕ → Passing → Type 0
 Within s (pass o n) = (0 < n) × (n ≤ length s)
 Within s token = Unit
-Within s (fault number) = Unit
+Within s (fault number) = number ≡ cutOff → ⊥
+
+bad-number : (s : List ℕ) (number : ℕ) → charAt s ≡ Bad number → number ≡ cutOff → ⊥
+bad-number s number e c = go (charLen s) e
+  where
+    go : (n : ℕ) → charBy n s ≡ Bad number → ⊥
+    go zero e = let z : illFormed ≡ number = cc in omega arith
+    go (suc n) e = never cc
 
 comment-within : (s : List ℕ) (c : Char) → charAt s ≡ c → Within s (inComment c)
 comment-within s (Good n) e = good-len s n e
-comment-within s (Bad number) e = tt
+comment-within s (Bad number) e = bad-number s number e
 
 passing-within : (o : Bool) (x : ℕ) (r : List ℕ) → Within (x ∷ r) (passing o x (charAt (x ∷ r)))
 unfolding passing pick
@@ -52,7 +60,7 @@ passing-within false x r =
 
 passed-more : (i n : ℕ) (s u : List ℕ) (b : Blank) → n + length u ≤ length s → Passed (i + n) u b → Passed i s b
 passed-more i n s u (Clear j) h p = omega arith
-passed-more i n s u (Ill number j) h p = omega arith
+passed-more i n s u (Ill number j) h p = (omega (arith, p .0), p .1)
 
 abbrev AllPassed : List ℕ → Type 0
 AllPassed s = (o : Bool) (i : ℕ) → Passed i s (blanksFrom o i 0 s)
@@ -66,7 +74,7 @@ passed-one x r ih o i = go (passing o x (charAt (x ∷ r))) (passing-within o x 
         rw (blanks-skip c (i + n) (pred n) r)
         (passed-more i n (x ∷ r) (drop (pred n) r) (blanksFrom c (i + n) 0 (drop (pred n) r)) (omega (arith, length-drop (pred n) r)) (ih (pred n) c (i + n)))
     go token h = (omega arith, omega arith)
-    go (fault number) h = (omega arith, omega arith)
+    go (fault number) h = (omega arith, h)
 
 pub blanks-passed : (s : List ℕ) → Passed 0 s (blanks s)
 unfolding blanksFrom
@@ -74,7 +82,7 @@ blanks-passed s = by-suffix AllPassed (λ o i. (omega arith, omega arith)) passe
 
 -- where a token begins, a byte of it stands
 abbrev pub Begun : List ℕ → Start → Type 0
-Begun s Ended = Unit
+Begun s Ended = length s ≡ 0
 Begun s String = Unit
 Begun s Word = 0 < length (wordOf s)
 Begun s NumberStart = 0 < length (numberToken s)
@@ -95,7 +103,7 @@ number-begun x r e = rw (run-more isNumber x r e) (omega arith)
 
 pub start-begun : (s : List ℕ) → Begun s (startOf s)
 unfolding startOf pick
-start-begun [] = tt
+start-begun [] = refl
 start-begun (x ∷ r) =
     split (isOpening (opening (x ∷ r))) (λ a. rw a tt)
     (λ a. split (isLetter x) (λ b. rw (a, b, run-more isWord x r (letter-word x b)) (omega arith))
