@@ -16,7 +16,8 @@ use Rattle.prelude.proofs.Cases.{split, never}
 use Rattle.lines.specs.declared.read.Line.{Line}
 use Rattle.lines.specs.declared.read.Line.the-variants.{Ignored, Holds, Refused}
 use Rattle.lines.specs.Line.{LineRead, ignored, holds, faulty, readLine}
-use Rattle.lines.specs.Answers.{fittedLine, lineOf, lineInto, Told}
+use Rattle.lines.specs.Answers.{fittedLine, lineAnswer, lineInto}
+use Rattle.lines.specs.inner.Told.{Told}
 use Rattle.lines.specs.Records.{head, recordOf, recordBy, lineRecord, Fault, none, refuse, faultBy, lineFault, putAt, Appended, appendBy, appendLine}
 
 -- the head before a payload that stands already
@@ -148,12 +149,15 @@ module _ (out : List ℕ) (used from : ℕ) (le : used ≤ length out) (ef : fro
       (bs, (ap (λ (m : ℕ). holds m bs) a, (c, (ltb-false _ _ b, t .stored ∙ rw b)))))
   holds-is (faulty m q) r new k n t e = let z : Refused m q ≡ Holds k n = sym (t .answer) ∙ e in never (cc)
 
-  module _ (l new : List ℕ) (r : Line) (t : Told (readLine l) r part new) where
+  module _ (l new : List ℕ) (r : Line) (p : (r ≡ lineAnswer (fittedLine (length part) (readLine l))) × (new ≡ lineInto (fittedLine (length part) (readLine l)) part)) where
+    t : Told (readLine l) r part new
+    t = record { answer = p .0; stored = p .1 }
+
     pub nothing-added : r ≡ Ignored → record { number = 0; place = 0; count = 0; out = back new } ≡ appendLine l out used
     nothing-added e = add-nothing (readLine l) r new t e ∙ sym (append-is l out used)
 
-    pub fault-added : (n p : ℕ) → r ≡ Refused n p → record { number = n; place = p; count = 0; out = back new } ≡ appendLine l out used
-    fault-added n p e = add-fault (readLine l) r new n p t e ∙ sym (append-is l out used)
+    pub fault-added : (n q : ℕ) → r ≡ Refused n q → record { number = n; place = q; count = 0; out = back new } ≡ appendLine l out used
+    fault-added n q e = add-fault (readLine l) r new n q t e ∙ sym (append-is l out used)
 
     module _ (k n : ℕ) (e : r ≡ Holds k n) where
       pub no-head : length out - used < 4 → record { number = 12; place = 0; count = 0; out = back new } ≡ appendLine l out used
