@@ -9,7 +9,7 @@ use lib.ListN.{length, take}
 use Rattle.prelude.specs.Bytes.{IsBytes, ascii, LF}
 use Rattle.prelude.specs.Refusals.{noRoom}
 use Rattle.lines.specs.Records.{lineRecord, Fault, none, refuse}
-use Rattle.lines_write.specs.Write.{soundFrom, writeQuoted}
+use Rattle.lines_write.specs.Write.{rightRecords, writeQuoted}
 use Rattle.upload.specs.declared.uploads.Upload.{Upload}
 use Rattle.upload.specs.declared.uploads.Answer.{Answer}
 use Rattle.upload.specs.Lines.{cut, records, front, firstFault, openFault, Whole, j8Lines}
@@ -85,7 +85,7 @@ Within n (l ∷ ls) = (length l ≤ n) × Within n ls
 abbrev pub Written-Lines-Read-Back : Type 0
 Written-Lines-Read-Back =
     (rs : List ℕ) (cs : List Call) (line out : List ℕ) → lineMax ≤ length line
-    → IsBytes rs → soundFrom 0 rs ≡ true → joined cs ≡ writeQuoted rs → finished cs ≡ true
+    → IsBytes rs → rightRecords 0 rs ≡ true → joined cs ≡ writeQuoted rs → finished cs ≡ true
     → Within lineMax (cut (writeQuoted rs) .closed) → length (writeQuoted rs) ≤ uploadMax → length rs ≤ length out
     → EndedWith rs out (run (began line out) cs .whole)
 
