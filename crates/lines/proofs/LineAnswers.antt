@@ -1,12 +1,12 @@
 -- What the line reader answers, way by way of the code, against the definition.
 -- Assumes nothing.
-use Prim.Native.Nat.{ℕ, zero, suc, _+_, _-_, _≤_, _<_}
+use Prim.Native.Nat.{ℕ, _+_, _-_, _≤_, _<_}
 use mathlib.Core.Bool.{Bool, true, false}
 use mathlib.Core.List.{List, [], _∷_, _++_}
 use mathlib.Core.Path.{_≡_, refl, sym, ap, _∙_, subst}
 use native.Mathlib.Omega.{arith}
 use lib.Dec.{ltb}
-use borrow.Author.Tests.{lt-ltb, le-ltb, ltb-true, ltb-false}
+use borrow.Author.Tests.{lt-ltb, le-ltb}
 use lib.ListN.{length, take, drop, length-append, length-take}
 use lib.Seq.{sets, take-length, take-append-seam}
 use Rattle.prelude.specs.Pick.{pick}
@@ -19,7 +19,7 @@ use Rattle.strings.specs.declared.answers.Decoded.{Decoded}
 use Rattle.strings.specs.declared.answers.Decoded.the-variants.{Done, Refused as Undone}
 use Rattle.strings.specs.declared.read.Mark.{Mark}
 use Rattle.strings.specs.declared.read.Mark.the-variants.{Opens, Unopened}
-use Rattle.strings.specs.Read.{StringRead, accepted, refused, fitted, decodedOf, readInto, Opening, opens, unopened, opening, readString}
+use Rattle.strings.specs.Read.{StringRead, accepted, refused, fitted, decodedOf, readInto, opens, unopened, opening, readString}
 use Rattle.strings.specs.inner.Turns.{openingOf, readBehind, Closed}
 use Rattle.strings.proofs.Utf8Denoted.{Valid}
 use Rattle.strings.proofs.WholeTexts.{mark-inside, literal-valid, marked as read-marked}
@@ -27,7 +27,7 @@ use Rattle.lines.specs.declared.bare.Checked.{Checked}
 use Rattle.lines.specs.declared.bare.Checked.the-variants.{Fine, Faulty}
 use Rattle.lines.specs.declared.read.Line.{Line}
 use Rattle.lines.specs.declared.read.Line.the-variants.{Ignored, Holds, Refused}
-use Rattle.lines.specs.Line.{LineRead, ignored, holds, faulty, bare, kindOf, fromString, fromBare, byOpening, readStripped, shifted, leads, trimmed, strip, readLine}
+use Rattle.lines.specs.Line.{LineRead, ignored, holds, faulty, bare, kindOf, fromString, fromBare, byOpening, readStripped, shifted, leads, trimmed, readLine}
 use Rattle.lines.specs.Answers.{fittedLine, lineAnswer, lineInto}
 use Rattle.lines.specs.inner.Told.{Told}
 use Rattle.lines.proofs.LineEnds.{strip-part, strip-inside}

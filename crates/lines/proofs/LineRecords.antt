@@ -1,12 +1,11 @@
 -- A line's record in the output: the part behind the head holds the payload or is as it was, and the head goes before it.
 -- Assumes nothing.
-use Prim.Native.Nat.{ℕ, zero, suc, _+_, _-_, _≤_, _<_}
-use mathlib.Core.Bool.{Bool, true, false}
+use Prim.Native.Nat.{ℕ, _+_, _-_, _≤_, _<_}
 use mathlib.Core.List.{List, [], _∷_, _++_, append-assoc, append-nil}
 use mathlib.Core.Path.{_≡_, refl, sym, ap, _∙_}
 use native.Mathlib.Nat.{add-zero}
 use native.Mathlib.Omega.{arith}
-use lib.Dec.{ltb, leb}
+use lib.Dec.{ltb}
 use borrow.Author.Tests.{lt-ltb, le-ltb, ltb-true, ltb-false, le-leb, lt-leb}
 use borrow.Rule.Slice.PartMut.{putMid, put-same}
 use lib.ListN.{length, take, drop, length-append, length-drop, drop-of-length-le, take-append-drop}
@@ -37,7 +36,7 @@ head-over out bs hd used from e h =
     ∙ (λ i. a i ++ (hd ++ b i))
     ∙ ap (λ (x : List ℕ). take used out ++ x) (sym (append-assoc hd bs (drop (length bs) (drop from out))) ∙ ap (λ (x : List ℕ). (hd ++ bs) ++ x) d)
 
-put-none : (out : List ℕ) (used : ℕ) → putAt out used [] ≡ out
+pub put-none : (out : List ℕ) (used : ℕ) → putAt out used [] ≡ out
 put-none out used = rw (add-zero used) (take-append-drop used out)
 
 -- what a line that reads as v adds, whatever the line

@@ -1,23 +1,22 @@
 -- The Lines writer: records are judged one after another; the text is what is written already and then the lines of the records left, so the
 -- count passes the room exactly if the text does.
 -- Assumes nothing.
-use Prim.Native.Nat.{ℕ, zero, suc, pred, _+_, _-_, _*_, _≤_, _<_}
-use mathlib.Core.Bool.{Bool, true, false, _&&_}
+use Prim.Native.Nat.{ℕ, zero, suc, pred, _+_, _-_, _≤_, _<_}
+use mathlib.Core.Bool.{Bool, true, false}
 use mathlib.Core.List.{List, [], _∷_, _++_, append-assoc, append-nil}
-use mathlib.Core.Path.{_≡_, refl, sym, ap, _∙_, subst}
-use native.Mathlib.Nat.{zero-add, suc-add}
+use mathlib.Core.Path.{_≡_, refl, sym, ap, _∙_}
 use native.Mathlib.Omega.{arith}
-use lib.Dec.{leb, eqb, ltb}
-use borrow.Author.Tests.{le-leb, lt-leb, leb-true, leb-false, eqb-true, eqb-false, eq-eqb, ne-eqb, ltb-true, ltb-false}
+use lib.Dec.{leb, eqb}
+use borrow.Author.Tests.{le-leb, lt-leb, leb-true, leb-false, eqb-true}
 use borrow.Rule.Slice.PartMut.{putMid}
-use lib.ListN.{length, getD, take, drop, set, length-append, length-drop, length-take, drop-of-length-le, take-append-drop}
-use lib.Seq.{sets, sets-eq, length-sets, take-all, take-take, drop-drop, length-take-le, set-out}
+use lib.ListN.{length, take, drop, set, length-append, length-drop, drop-of-length-le}
+use lib.Seq.{sets, length-sets, drop-drop}
 use Rattle.prelude.specs.Bytes.{LF}
 use Rattle.prelude.specs.Pick.{pick}
 use Rattle.prelude.specs.Refusals.{noRoom}
 use Rattle.prelude.proofs.Cases.{split, never, and-left, and-right}
 use Rattle.prelude.proofs.Picks.{pick-case}
-use Rattle.prelude.proofs.Stores.{sets-append, sets-out, sets-over, empty-front, sets-part}
+use Rattle.prelude.proofs.Stores.{sets-append, sets-over, empty-front, sets-part}
 use Rattle.utf8.specs.Utf8.{validUtf8}
 use Rattle.units.specs.declared.styles.Style.the-variants.{Json, Bytes}
 use Rattle.strings_write.specs.Write.{writeString}

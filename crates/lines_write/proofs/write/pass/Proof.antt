@@ -5,7 +5,6 @@ use Rattle.lines_write.proofs.write.pass.Tie as tie
 use Prim.Native.Nat.{_-_}
 use native.Mathlib.Omega.{arith}
 use mathlib.Core.Path.{refl, _∙_}
-use denote.Ref.{now}
 use lib.ListN.{length}
 use Rattle.lines_write.proofs.LineTexts.{Filling, begun, kept, here-right, overfull, moved, filled}
 
