@@ -1,23 +1,26 @@
-// A whole list of calls, run from an encoded form.
+// A whole list of calls, run from an encoded form, a text and a plan: 0 is a finish, and n + 1 feeds the next n bytes of the text, or what is
+// left of it.
 ghost use mathlib.Core.Path.{_≡_};
 ghost use Prim.Native.Nat.{_≤_};
 ghost use lib.ListN.{length};
-ghost use Rattle.upload.specs.Calls.{whole, called, began, run, defined, decode, OneCall};
 ghost use Rattle.prelude.specs.Limits.{lineMax};
-use crate::uploads::Answer;
-use crate::uploads::Fed;
-use crate::uploads::Upload;
+ghost use Rattle.upload.specs.Calls.{lent, called};
+ghost use Rattle.replay.specs.Lists.{began, run, defined, decode};
+ghost use Rattle.replay.specs.inner.Plans.{OneCall};
+use upload::uploads::Answer;
+use upload::uploads::Fed;
+use upload::uploads::Upload;
 
-// What one entry of an encoded list of calls leaves: the call's result, and where the next piece begins.
+// What one call of a plan leaves: its result, and where the next piece begins.
 pub struct Played {
     pub fed: Fed,
     pub at: usize,
 }
 
-// One entry of an encoded list of calls: 0 is a finish, and n + 1 feeds the next n bytes of the text, or what is left.
+// One call of a plan, with the text fed up to `at`.
 fn play_one(s: Upload, text: &[u8], at: usize, c: usize, line: &mut [u8], out: &mut [u8]) -> Played
     requires { ⌜ at ≤ length (now text) ⌝ }
-    ensures { λ r. ⌜ OneCall (now (text .entry)) at c (whole s (now (line .entry)) (now (out .entry))) (called (r .fed) (now (line .exit)) (now (out .exit))) (r .at) ⌝ }
+    ensures { λ r. ⌜ OneCall (now (text .entry)) at c (lent s (now (line .entry)) (now (out .entry))) (called (r .fed) (now (line .exit)) (now (out .exit))) (r .at) ⌝ }
 {
     if c == 0 {
         let f = s.finish(line, out);
@@ -33,10 +36,10 @@ fn play_one(s: Upload, text: &[u8], at: usize, c: usize, line: &mut [u8], out: &
     Played { fed: f, at: end }
 }
 
-// A whole list of feeds and finishes, from a fresh state. With a fit line buffer it ends as the J8 Lines definition of the joined text says.
-pub fn replay(text: &[u8], cuts: &[usize], line: &mut [u8], out: &mut [u8]) -> Fed
-    ensures { λ r. ⌜ called r (now (line .exit)) (now (out .exit)) ≡ run (began (now (line .entry)) (now (out .entry))) (decode (now (text .entry)) (now (cuts .entry))) ⌝ }
-    ensures { λ r. ⌜ (lineMax ≤ length (now (line .entry)) → called r (now (line .exit)) (now (out .exit)) ≡ defined (decode (now (text .entry)) (now (cuts .entry))) (now (line .entry)) (now (out .entry))) ⌝ }
+// All calls of a plan, from a fresh state. With a fit line buffer it ends as the J8 Lines definition of the joined text says.
+pub fn replay(text: &[u8], plan: &[usize], line: &mut [u8], out: &mut [u8]) -> Fed
+    ensures { λ r. ⌜ called r (now (line .exit)) (now (out .exit)) ≡ run (began (now (line .entry)) (now (out .entry))) (decode (now (text .entry)) (now (plan .entry))) ⌝ }
+    ensures { λ r. ⌜ (lineMax ≤ length (now (line .entry)) → called r (now (line .exit)) (now (out .exit)) ≡ defined (decode (now (text .entry)) (now (plan .entry))) (now (line .entry)) (now (out .entry))) ⌝ }
 {
     let mut state = Upload::fresh();
     let mut answer = Answer {
@@ -46,8 +49,8 @@ pub fn replay(text: &[u8], cuts: &[usize], line: &mut [u8], out: &mut [u8]) -> F
     };
     let mut at = 0;
     let mut i = 0;
-    while i < cuts.len() {
-        let p = play_one(state, text, at, cuts[i], line, out);
+    while i < plan.len() {
+        let p = play_one(state, text, at, plan[i], line, out);
         let f = p.fed;
         state = f.state;
         answer = f.answer;

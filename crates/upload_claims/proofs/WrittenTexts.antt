@@ -9,22 +9,23 @@ use borrow.Author.Tests.{ne-eqb}
 use lib.Dec.{eqb}
 use lib.ListN.{length, take, drop, length-append, take-append-drop}
 use lib.Seq.{append-snoc, length-take-le}
+use Rattle.prelude.specs.Bytes.{IsBytes, LF}
+use Rattle.prelude.specs.Limits.{uploadMax, lineMax}
 use Rattle.prelude.specs.Pick.{pick}
 use Rattle.units.proofs.WrittenUnits.{Plain}
 use Rattle.strings_write.specs.Write.{writeString}
-use Rattle.prelude.specs.Bytes.{IsBytes, LF}
 use Rattle.string_claims.proofs.RoundTrip.{bytes-drop}
 use Rattle.string_claims.proofs.Plain.{write-plain}
 use Rattle.lines.specs.Records.{headSize, lineRecord, none, lineFault}
 use Rattle.lines_write.specs.Write.{sizeAt, payloadAt, rightRecord, rightRecords, lineAt, linesFrom, writeQuoted}
 use Rattle.lines_write.proofs.LineTexts.{lines-step, right-size}
 use Rattle.upload_claims.proofs.WrittenLines.{line-record, line-fault, by-records}
-use Rattle.upload.specs.Lines.{Cut, headed, cut, records, faultBehind, firstFrom, firstFault, Whole}
-use Rattle.prelude.specs.Limits.{uploadMax, lineMax}
+use Rattle.upload.specs.Calls.{Lent}
+use Rattle.replay.specs.Lines.{Cut, headed, cut, records, faultBehind, firstFrom, firstFault}
 use Rattle.upload_claims.specs.Claims.{firstRefusal, EndedWith, Finished, Within}
-use Rattle.upload.proofs.Snoc.{longer, cut-lf, cut-byte, records-snoc}
-use Rattle.upload.proofs.Step.{stop-snoc}
-use Rattle.upload.proofs.WholeList.{empty-record}
+use Rattle.replay.proofs.Snoc.{longer, cut-lf, cut-byte, records-snoc}
+use Rattle.replay.proofs.Step.{fault-snoc}
+use Rattle.replay.proofs.WholeList.{empty-record}
 
 -- a byte of a written text is no LF
 no-lf : (b : ℕ) → 32 ≤ b → eqb b LF ≡ false
@@ -41,7 +42,7 @@ abbrev Unrefused : ℕ → List ℕ → Type 0
 Unrefused room t = firstFault room t .why ≡ none
 
 byte-more : (room : ℕ) (t : List ℕ) (b : ℕ) → Unrefused room t → faultBehind room t b ≡ none → Unrefused room (t ++ (b ∷ []))
-byte-more room t b e f = rw (stop-snoc room t b e, f)
+byte-more room t b e f = rw (fault-snoc room t b e, f)
 
 module _ (room : ℕ) (t : List ℕ) (u : length t < uploadMax) where
   under : eqb (length t) uploadMax ≡ false
@@ -130,5 +131,5 @@ pub text-read : (room : ℕ) (rs : List ℕ) → IsBytes rs → rightRecords 0 r
 text-read room rs b e = by-records (Behind room) (behind-none room) (behind-one room) rs e [] [] (clean-none room) b
 
 -- such a text, finished
-pub all-read : (t rs out : List ℕ) (m : Whole) → Clean (length out) t rs → Finished (firstRefusal (length out) t) t out m → EndedWith rs out m
+pub all-read : (t rs out : List ℕ) (m : Lent) → Clean (length out) t rs → Finished (firstRefusal (length out) t) t out m → EndedWith rs out m
 all-read t rs out m k f = rw (k .same, k .shut, empty-record, append-nil rs) at (rw (k .unrefused, k .shut) at f)
