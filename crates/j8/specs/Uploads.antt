@@ -8,8 +8,7 @@ use Rattle.prelude.specs.Pick.{pick}
 use Rattle.upload.specs.declared.uploads.Upload.{Upload}
 use Rattle.upload.specs.declared.uploads.Answer.{Answer}
 use Rattle.upload.specs.declared.uploads.Fed.{Fed}
-use Rattle.upload.specs.Lines.{Whole}
-use Rattle.upload.specs.Calls.{Called}
+use Rattle.upload.specs.Calls.{Lent, Called}
 use Rattle.j8.specs.declared.uploads.J8Upload.{J8Upload}
 use Rattle.j8.specs.declared.uploads.J8Answer.{J8Answer}
 use Rattle.j8.specs.declared.uploads.J8Fed.{J8Fed}
@@ -61,9 +60,9 @@ abbrev pub fedFrom : Fed → J8Fed
 fedFrom f = record { upload = uploadOf (f .state); answer = answerOf (f .answer) }
 
 -- the state and the buffers that a call is given
-abbrev pub given : J8Upload → List ℕ → List ℕ → Whole
+abbrev pub given : J8Upload → List ℕ → List ℕ → Lent
 given u line out = record { state = stateOf u; line = line; out = out }
 
 -- what a call returns
 abbrev pub fedOf : Called → J8Fed
-fedOf r = fedFrom (record { state = r .whole .state; answer = r .answer })
+fedOf r = fedFrom (record { state = r .lent .state; answer = r .answer })

@@ -110,8 +110,8 @@ pub extern "C" fn j8_upload_feed(
     out: &mut [u8],
 ) -> J8Fed
     ensures answer { λ r. ⌜ r ≡ fedOf (feed (given upload (now (line .entry)) (now (out .entry))) (now (piece .entry))) ⌝ }
-    ensures held { λ r. ⌜ now (line .exit) ≡ feed (given upload (now (line .entry)) (now (out .entry))) (now (piece .entry)) .whole .line ⌝ }
-    ensures stored { λ r. ⌜ now (out .exit) ≡ feed (given upload (now (line .entry)) (now (out .entry))) (now (piece .entry)) .whole .out ⌝ }
+    ensures held { λ r. ⌜ now (line .exit) ≡ feed (given upload (now (line .entry)) (now (out .entry))) (now (piece .entry)) .lent .line ⌝ }
+    ensures stored { λ r. ⌜ now (out .exit) ≡ feed (given upload (now (line .entry)) (now (out .entry))) (now (piece .entry)) .lent .out ⌝ }
 {
     let s = state_of(upload);
     let f = s.feed(piece, line, out);
@@ -121,8 +121,8 @@ pub extern "C" fn j8_upload_feed(
 #[no_mangle]
 pub extern "C" fn j8_upload_finish(upload: J8Upload, line: &mut [u8], out: &mut [u8]) -> J8Fed
     ensures answer { λ r. ⌜ r ≡ fedOf (finish (given upload (now (line .entry)) (now (out .entry)))) ⌝ }
-    ensures held { λ r. ⌜ now (line .exit) ≡ finish (given upload (now (line .entry)) (now (out .entry))) .whole .line ⌝ }
-    ensures stored { λ r. ⌜ now (out .exit) ≡ finish (given upload (now (line .entry)) (now (out .entry))) .whole .out ⌝ }
+    ensures held { λ r. ⌜ now (line .exit) ≡ finish (given upload (now (line .entry)) (now (out .entry))) .lent .line ⌝ }
+    ensures stored { λ r. ⌜ now (out .exit) ≡ finish (given upload (now (line .entry)) (now (out .entry))) .lent .out ⌝ }
 {
     let s = state_of(upload);
     let f = s.finish(line, out);

@@ -1,18 +1,17 @@
 -- The bare check in a loop: what is found from a place on is what is found in the whole, a character at a time.
 -- Assumes nothing.
 use mathlib.Core.Path.{_≡_, refl, sym, ap, _∙_}
-use mathlib.Core.Bool.{Bool, true, false}
 use mathlib.Core.List.{List, [], _∷_}
-use Prim.Native.Nat.{ℕ, zero, suc, pred, _+_, _-_, _*_, _/_, _≤_, _<_}
+use Prim.Native.Nat.{ℕ, zero, suc, _+_, _-_, _≤_, _<_}
 use native.Mathlib.Omega.{arith}
-use borrow.Author.Tests.{eqb-true, eqb-false, lt-ltb, le-ltb, ltb-true, ltb-false, eq-eqb, ne-eqb}
+use borrow.Author.Tests.{lt-ltb, le-ltb, ltb-true, ltb-false, eq-eqb, ne-eqb}
 use lib.Dec.{ltb, eqb}
 use lib.ListN.{length, getD, drop, length-drop, drop-of-length-le}
 use lib.Seq.{drop-drop, drop-cons}
 use Rattle.prelude.specs.Pick.{pick}
 use Rattle.prelude.proofs.Cases.{split}
 use Rattle.utf8.specs.Class.{classOf}
-use Rattle.utf8.specs.Utf8.{charLen, charBy, charAt, longLen}
+use Rattle.utf8.specs.Utf8.{charLen, charBy, longLen}
 use Rattle.utf8.proofs.ByteClasses.{by-byte}
 use Rattle.utf8.proofs.CharSteps.{one-byte, lone-tail, long-char}
 use Rattle.utf8.proofs.Characters.{char-le}
@@ -22,7 +21,7 @@ use Rattle.runs.specs.inner.Blocks.{Running}
 use Rattle.units.proofs.LiteralLaws.{literal-char, literal-printed, by-run, run-fits}
 use Rattle.lines.specs.declared.bare.Checked.{Checked}
 use Rattle.lines.specs.declared.bare.Checked.the-variants.{Fine, Faulty}
-use Rattle.lines.specs.Line.{badChar, bareFault, unless, bareFrom, bare}
+use Rattle.lines.specs.Line.{bareFault, bareFrom, bare}
 
 pub bare-skip : (p k : ℕ) (s : List ℕ) → bareFrom p k s ≡ bareFrom p 0 (drop k s)
 unfolding bareFrom

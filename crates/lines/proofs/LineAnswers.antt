@@ -1,12 +1,12 @@
 -- What the line reader answers, way by way of the code, against the definition.
 -- Assumes nothing.
-use Prim.Native.Nat.{ℕ, zero, suc, _+_, _-_, _≤_, _<_}
+use Prim.Native.Nat.{ℕ, _+_, _-_, _≤_, _<_}
 use mathlib.Core.Bool.{Bool, true, false}
 use mathlib.Core.List.{List, [], _∷_, _++_}
 use mathlib.Core.Path.{_≡_, refl, sym, ap, _∙_, subst}
 use native.Mathlib.Omega.{arith}
 use lib.Dec.{ltb}
-use borrow.Author.Tests.{lt-ltb, le-ltb, ltb-true, ltb-false}
+use borrow.Author.Tests.{lt-ltb, le-ltb}
 use lib.ListN.{length, take, drop, length-append, length-take}
 use lib.Seq.{sets, take-length, take-append-seam}
 use Rattle.prelude.specs.Pick.{pick}
@@ -19,7 +19,7 @@ use Rattle.strings.specs.declared.answers.Decoded.{Decoded}
 use Rattle.strings.specs.declared.answers.Decoded.the-variants.{Done, Refused as Undone}
 use Rattle.strings.specs.declared.read.Mark.{Mark}
 use Rattle.strings.specs.declared.read.Mark.the-variants.{Opens, Unopened}
-use Rattle.strings.specs.Read.{StringRead, accepted, refused, fitted, decodedOf, readInto, Opening, opens, unopened, opening, readString}
+use Rattle.strings.specs.Read.{StringRead, accepted, refused, fitted, decodedOf, readInto, opens, unopened, opening, readString}
 use Rattle.strings.specs.inner.Turns.{openingOf, readBehind, Closed}
 use Rattle.strings.proofs.Utf8Denoted.{Valid}
 use Rattle.strings.proofs.WholeTexts.{mark-inside, literal-valid, marked as read-marked}
@@ -27,8 +27,9 @@ use Rattle.lines.specs.declared.bare.Checked.{Checked}
 use Rattle.lines.specs.declared.bare.Checked.the-variants.{Fine, Faulty}
 use Rattle.lines.specs.declared.read.Line.{Line}
 use Rattle.lines.specs.declared.read.Line.the-variants.{Ignored, Holds, Refused}
-use Rattle.lines.specs.Line.{LineRead, ignored, holds, faulty, bare, kindOf, fromString, fromBare, byOpening, readStripped, shifted, leads, trimmed, strip, readLine}
-use Rattle.lines.specs.Answers.{fittedLine, lineOf, lineInto, Told}
+use Rattle.lines.specs.Line.{LineRead, ignored, holds, faulty, bare, kindOf, fromString, fromBare, byOpening, readStripped, shifted, leads, trimmed, readLine}
+use Rattle.lines.specs.Answers.{fittedLine, lineAnswer, lineInto}
+use Rattle.lines.specs.inner.Told.{Told}
 use Rattle.lines.proofs.LineEnds.{strip-part, strip-inside}
 use Rattle.lines.proofs.Refusing.{LineFault, stripped-fault}
 
@@ -195,6 +196,16 @@ module _ (a m : ℕ) (out new : List ℕ) where
       let y : n ≡ j = cc in let x : p ≡ q = cc in
       (record { answer = λ i. Refused (y i) (a + x i); stored = t .stored }, omega (arith, f .1))
 
+-- the two equations of `Told`, which a call's contract has one by one
+abbrev Parts : LineRead → Line → List ℕ → List ℕ → Type 0
+Parts v r out new = (r ≡ lineAnswer (fittedLine (length out) v)) × (new ≡ lineInto (fittedLine (length out) v) out)
+
+parts : (v : LineRead) (r : Line) (out new : List ℕ) → Told v r out new → Parts v r out new
+parts v r out new t = (t .answer, t .stored)
+
+abbrev LineTold : List ℕ → Line → List ℕ → List ℕ → Type 0
+LineTold l r out new = Parts (readLine l) r out new
+
 -- a whole line: a blanks stand first, and n bytes are left
 module _ (l out : List ℕ) (a n : ℕ) (ea : a ≡ leads l) (en : n ≡ length (trimmed (take (length l - a) (drop a l)))) where
   abbrev part : List ℕ
@@ -207,24 +218,25 @@ module _ (l out : List ℕ) (a n : ℕ) (ea : a ≡ leads l) (en : n ≡ length 
   part-length : length part ≤ n
   part-length = omega (arith, length-take (a + n - a) (drop a l))
 
-  pub nothing-left : n ≡ 0 → Told (readLine l) Ignored out out
+  pub nothing-left : n ≡ 0 → LineTold l Ignored out out
   unfolding readStripped
   nothing-left z =
       let p : part ≡ [] = ap (λ (k : ℕ). take k (drop a l)) (let q : a + n - a ≡ 0 = omega arith in q) in
-      subst (λ (v : LineRead). Told v Ignored out out) (sym (line-is ∙ ap (λ (s : List ℕ). shifted a (readStripped s)) p)) (record { answer = refl; stored = refl })
+      let t = subst (λ (v : LineRead). Told v Ignored out out) (sym (line-is ∙ ap (λ (s : List ℕ). shifted a (readStripped s)) p)) (record { answer = refl; stored = refl }) in
+      parts (readLine l) Ignored out out t
 
   module _ (new : List ℕ) (r : Line) (t : Told (readStripped part) r out new) where
-    pub line-ignored : r ≡ Ignored → Told (readLine l) Ignored out new
-    line-ignored e = rw line-is (as-ignored a n out new (readStripped part) r t e)
+    pub line-ignored : r ≡ Ignored → LineTold l Ignored out new
+    line-ignored e = rw line-is (parts _ _ _ _ (as-ignored a n out new (readStripped part) r t e))
 
-    pub line-holds : (k m : ℕ) → r ≡ Holds k m → Told (readLine l) (Holds k m) out new
-    line-holds k m e = rw line-is (as-holds a n out new (readStripped part) r k m t e)
+    pub line-holds : (k m : ℕ) → r ≡ Holds k m → LineTold l (Holds k m) out new
+    line-holds k m e = rw line-is (parts _ _ _ _ (as-holds a n out new (readStripped part) r k m t e))
 
-    pub line-full : (number place : ℕ) → r ≡ Refused number place → number ≡ 12 → Told (readLine l) (Refused 12 0) out new
-    line-full number place e z = rw line-is (as-full a (length part) out new (readStripped part) r number place (stripped-fault part) t e z)
+    pub line-full : (number place : ℕ) → r ≡ Refused number place → number ≡ 12 → LineTold l (Refused 12 0) out new
+    line-full number place e z = rw line-is (parts _ _ _ _ (as-full a (length part) out new (readStripped part) r number place (stripped-fault part) t e z))
 
-    pub line-faulty : (number place : ℕ) → r ≡ Refused number place → (number ≡ 12 → ⊥) → Told (readLine l) (Refused number (a + place)) out new
-    line-faulty number place e z = rw line-is (as-faulty a (length part) out new (readStripped part) r number place (stripped-fault part) t e z .0)
+    pub line-faulty : (number place : ℕ) → r ≡ Refused number place → (number ≡ 12 → ⊥) → LineTold l (Refused number (a + place)) out new
+    line-faulty number place e z = rw line-is (parts _ _ _ _ (as-faulty a (length part) out new (readStripped part) r number place (stripped-fault part) t e z .0))
 
     pub place-inside : (number place : ℕ) → r ≡ Refused number place → (number ≡ 12 → ⊥) → a + place ≤ length l
     place-inside number place e z =

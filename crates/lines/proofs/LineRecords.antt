@@ -1,12 +1,11 @@
 -- A line's record in the output: the part behind the head holds the payload or is as it was, and the head goes before it.
 -- Assumes nothing.
-use Prim.Native.Nat.{ℕ, zero, suc, _+_, _-_, _≤_, _<_}
-use mathlib.Core.Bool.{Bool, true, false}
+use Prim.Native.Nat.{ℕ, _+_, _-_, _≤_, _<_}
 use mathlib.Core.List.{List, [], _∷_, _++_, append-assoc, append-nil}
 use mathlib.Core.Path.{_≡_, refl, sym, ap, _∙_}
 use native.Mathlib.Nat.{add-zero}
 use native.Mathlib.Omega.{arith}
-use lib.Dec.{ltb, leb}
+use lib.Dec.{ltb}
 use borrow.Author.Tests.{lt-ltb, le-ltb, ltb-true, ltb-false, le-leb, lt-leb}
 use borrow.Rule.Slice.PartMut.{putMid, put-same}
 use lib.ListN.{length, take, drop, length-append, length-drop, drop-of-length-le, take-append-drop}
@@ -16,7 +15,8 @@ use Rattle.prelude.proofs.Cases.{split, never}
 use Rattle.lines.specs.declared.read.Line.{Line}
 use Rattle.lines.specs.declared.read.Line.the-variants.{Ignored, Holds, Refused}
 use Rattle.lines.specs.Line.{LineRead, ignored, holds, faulty, readLine}
-use Rattle.lines.specs.Answers.{fittedLine, lineOf, lineInto, Told}
+use Rattle.lines.specs.Answers.{fittedLine, lineAnswer, lineInto}
+use Rattle.lines.specs.inner.Told.{Told}
 use Rattle.lines.specs.Records.{head, recordOf, recordBy, lineRecord, Fault, none, refuse, faultBy, lineFault, putAt, Appended, appendBy, appendLine}
 
 -- the head before a payload that stands already
@@ -36,7 +36,7 @@ head-over out bs hd used from e h =
     ∙ (λ i. a i ++ (hd ++ b i))
     ∙ ap (λ (x : List ℕ). take used out ++ x) (sym (append-assoc hd bs (drop (length bs) (drop from out))) ∙ ap (λ (x : List ℕ). (hd ++ bs) ++ x) d)
 
-put-none : (out : List ℕ) (used : ℕ) → putAt out used [] ≡ out
+pub put-none : (out : List ℕ) (used : ℕ) → putAt out used [] ≡ out
 put-none out used = rw (add-zero used) (take-append-drop used out)
 
 -- what a line that reads as v adds, whatever the line
@@ -148,12 +148,15 @@ module _ (out : List ℕ) (used from : ℕ) (le : used ≤ length out) (ef : fro
       (bs, (ap (λ (m : ℕ). holds m bs) a, (c, (ltb-false _ _ b, t .stored ∙ rw b)))))
   holds-is (faulty m q) r new k n t e = let z : Refused m q ≡ Holds k n = sym (t .answer) ∙ e in never (cc)
 
-  module _ (l new : List ℕ) (r : Line) (t : Told (readLine l) r part new) where
+  module _ (l new : List ℕ) (r : Line) (p : (r ≡ lineAnswer (fittedLine (length part) (readLine l))) × (new ≡ lineInto (fittedLine (length part) (readLine l)) part)) where
+    t : Told (readLine l) r part new
+    t = record { answer = p .0; stored = p .1 }
+
     pub nothing-added : r ≡ Ignored → record { number = 0; place = 0; count = 0; out = back new } ≡ appendLine l out used
     nothing-added e = add-nothing (readLine l) r new t e ∙ sym (append-is l out used)
 
-    pub fault-added : (n p : ℕ) → r ≡ Refused n p → record { number = n; place = p; count = 0; out = back new } ≡ appendLine l out used
-    fault-added n p e = add-fault (readLine l) r new n p t e ∙ sym (append-is l out used)
+    pub fault-added : (n q : ℕ) → r ≡ Refused n q → record { number = n; place = q; count = 0; out = back new } ≡ appendLine l out used
+    fault-added n q e = add-fault (readLine l) r new n q t e ∙ sym (append-is l out used)
 
     module _ (k n : ℕ) (e : r ≡ Holds k n) where
       pub no-head : length out - used < 4 → record { number = 12; place = 0; count = 0; out = back new } ≡ appendLine l out used

@@ -2,12 +2,11 @@
 -- of a string, and character by character of a bare text.
 -- Assumes nothing.
 use Prim.Native.Nat.{ℕ, zero, suc, pred, _+_, _≤_, _<_}
-use mathlib.Core.Bool.{Bool, true, false, _&&_}
 use mathlib.Core.List.{List, [], _∷_}
-use mathlib.Core.Path.{_≡_, refl, sym, subst}
+use mathlib.Core.Path.{_≡_, subst}
 use native.Mathlib.Omega.{arith}
 use lib.Dec.{ltb, eqb, lit<}
-use lib.ListN.{length, drop, getD, length-drop}
+use lib.ListN.{length, drop, length-drop}
 use Rattle.prelude.specs.Refusals.{noRoom}
 use Rattle.prelude.proofs.Picks.{pick-case}
 use Rattle.prelude.proofs.Suffix.{by-suffix}
@@ -17,7 +16,7 @@ use Rattle.units.specs.declared.styles.Style.{Style}
 use Rattle.units.specs.declared.styles.Style.the-variants.{Json, Unicode, Bytes}
 use Rattle.units.specs.Styles.{quote, StringUnit, close, took, fault}
 use Rattle.units.specs.Hex.{hexRun}
-use Rattle.units.specs.Escapes.{lookup, lettersOf, high, codeUnit, fourDigits, scalar, isBraced, braced, codePoint, rawByte, short, escape}
+use Rattle.units.specs.Escapes.{lookup, lettersOf, codeUnit, fourDigits, scalar, isBraced, braced, codePoint, rawByte, short, escape}
 use Rattle.units.specs.Units.{literal, unitAt}
 use Rattle.strings.specs.Read.{StringRead, accepted, refused, more, after, whole, readUnits, Opening, opens, unopened, opening, readFrom, readToken, readString}
 use Rattle.strings.proofs.Steps.{read-skip}

@@ -2,7 +2,6 @@
 -- Assumes nothing.
 use Prim.Native.Nat.{ℕ}
 use mathlib.Core.List.{List, _++_}
-use mathlib.Core.Path.{_≡_}
 use lib.Dec.{ltb}
 use lib.ListN.{length, drop}
 use Rattle.prelude.specs.Pick.{pick}
@@ -17,18 +16,13 @@ fittedLine room ignored = ignored
 fittedLine room (holds kind bs) = pick (ltb room (length bs)) (faulty noRoom 0) (holds kind bs)
 fittedLine room (faulty number at) = faulty number at
 
-abbrev pub lineOf : LineRead → Line
-lineOf ignored = Ignored
-lineOf (holds kind bs) = Holds kind (length bs)
-lineOf (faulty number at) = Refused number at
+abbrev pub lineAnswer : LineRead → Line
+lineAnswer ignored = Ignored
+lineAnswer (holds kind bs) = Holds kind (length bs)
+lineAnswer (faulty number at) = Refused number at
 
 -- the string's bytes in front of what was there, or all as it was
 abbrev pub lineInto : LineRead → List ℕ → List ℕ
 lineInto ignored out = out
 lineInto (holds kind bs) out = bs ++ drop (length bs) out
 lineInto (faulty number at) out = out
-
--- what a call answers and leaves for a line that reads as v
-pub record Told (v : LineRead) (r : Line) (out new : List ℕ) : Type 0 where
-  pub answer : r ≡ lineOf (fittedLine (length out) v)
-  pub stored : new ≡ lineInto (fittedLine (length out) v) out

@@ -1,3 +1,4 @@
 pub mod Line
 pub mod Answers
 pub mod Records
+pub mod inner

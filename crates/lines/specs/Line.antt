@@ -1,10 +1,11 @@
 -- One line of J8 Lines, a sentence of document 01 quoted at each definition.
 -- Assumes nothing.
 use Prim.Native.Nat.{ℕ, zero, suc, pred, _+_}
-use mathlib.Core.Bool.{Bool, true, false}
+use mathlib.Core.Bool.{Bool, true}
 use mathlib.Core.List.{List, [], _∷_}
 use lib.Dec.{ltb, eqb}
 use lib.ListN.{drop}
+use Rattle.prelude.specs.Bytes.{space, tab, CR}
 use Rattle.prelude.specs.Pick.{pick}
 use Rattle.prelude.specs.Refusals.{control}
 use Rattle.utf8.specs.declared.chars.Char.{Char}
@@ -16,7 +17,7 @@ use Rattle.lines.specs.declared.bare.Checked.the-variants.{Fine, Faulty}
 
 -- "Space, tab and CR"
 unfoldable pub blank : ℕ → Bool
-blank x = pick (eqb x 32) true (pick (eqb x 9) true (eqb x 13))
+blank x = pick (eqb x space) true (pick (eqb x tab) true (eqb x CR))
 
 -- how many blanks stand first
 unfoldable pub leads : List ℕ → ℕ
@@ -43,7 +44,7 @@ badChar (Bad number) = number
 
 -- "valid UTF-8, with no control but tab": the fault of the character c that x begins, 0 where there is none
 unfoldable pub bareFault : ℕ → Char → ℕ
-bareFault x c = pick (ltb x 32) (pick (eqb x 9) 0 control) (badChar c)
+bareFault x c = pick (ltb x 0x20) (pick (eqb x tab) 0 control) (badChar c)
 
 abbrev pub unless : ℕ → ℕ → Checked → Checked
 unless p zero go = go

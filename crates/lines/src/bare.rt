@@ -31,7 +31,7 @@ fn check_from(t: &[u8; 256], s: &[u8], from: usize) -> Checked
                 at += 1;
                 continue;
             }
-            if x == 9 {
+            if x == b'\t' {
                 at += 1;
                 continue;
             }

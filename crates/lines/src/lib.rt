@@ -1,4 +1,4 @@
-// J8 Lines: one line, its record, and the Lines writer.
+// J8 Lines: one line, and its record.
 pub mod bare;
 pub mod read;
 pub mod records;

@@ -1,13 +1,14 @@
 // The line reader.
 ghost use mathlib.Core.Path.{_≡_};
-ghost use Prim.Native.Nat.{_+_, _<_, _≤_};
+ghost use Prim.Native.Nat.{_+_, _<_};
 ghost use lib.ListN.{length};
 ghost use Rattle.utf8.specs.Class.{IsTable};
 ghost use Rattle.runs.specs.inner.Blocks.{Running};
 ghost use Rattle.strings.specs.Read.{opens, opening, readString};
 ghost use Rattle.strings.specs.inner.Turns.{Closed};
 ghost use Rattle.lines.specs.Line.{bare, kindOf, fromString, fromBare, readStripped, readLine};
-ghost use Rattle.lines.specs.Answers.{Told};
+ghost use Rattle.lines.specs.Answers.{fittedLine, lineAnswer, lineInto};
+ghost use Rattle.lines.specs.inner.Told.{Told};
 use crate::bare;
 use crate::bare::Checked;
 use crate::strip;
@@ -112,7 +113,8 @@ fn read_stripped(s: &[u8], out: &mut [u8]) -> Line
 
 // Reads a line, without its LF: the string's bytes in front of out, or out as it was. Places are those of the line as it stands.
 pub fn read_line(l: &[u8], out: &mut [u8]) -> Line
-    ensures { λ r. ⌜ Told (readLine (now (l .entry))) r (now (out .entry)) (now (out .exit)) ⌝ }
+    ensures answer { λ r. ⌜ r ≡ lineAnswer (fittedLine (length (now (out .entry))) (readLine (now (l .entry)))) ⌝ }
+    ensures stored { λ r. ⌜ now (out .exit) ≡ lineInto (fittedLine (length (now (out .entry))) (readLine (now (l .entry)))) (now (out .entry)) ⌝ }
 {
     let a = strip::lead(l);
     let n = strip::trim(&l[a..]);

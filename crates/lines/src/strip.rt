@@ -6,13 +6,13 @@ ghost use Rattle.lines.specs.Line.{blank, leads, trimmed};
 fn is_blank(x: u8) -> bool
     ensures { λ r. ⌜ r ≡ blank x ⌝ }
 {
-    if x == 32 {
+    if x == b' ' {
         return true;
     }
-    if x == 9 {
+    if x == b'\t' {
         return true;
     }
-    x == 13
+    x == b'\r'
 }
 
 // How many blanks stand first.

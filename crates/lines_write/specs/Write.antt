@@ -2,10 +2,11 @@
 -- kind doesn't fit its payload, then 12".
 -- Assumes nothing.
 use Prim.Native.Nat.{ℕ, zero, suc, pred, _+_, _*_}
-use mathlib.Core.Bool.{Bool, true, false, _&&_}
+use mathlib.Core.Bool.{Bool, true, _&&_}
 use mathlib.Core.List.{List, [], _∷_, _++_}
 use lib.Dec.{leb, eqb}
 use lib.ListN.{length, getD, take, drop}
+use Rattle.prelude.specs.Bytes.{LF}
 use Rattle.prelude.specs.Pick.{pick}
 use Rattle.prelude.specs.Refusals.{unfit, noRoom}
 use Rattle.strings_write.specs.Write.{writeString}
@@ -24,20 +25,24 @@ kindAt s = getD s 2 0 + 256 * getD s 3 0
 abbrev pub payloadAt : List ℕ → List ℕ
 payloadAt s = take (sizeAt s) (drop headSize s)
 
--- a record is there whole, and of its payload's kind
-unfoldable pub sound : List ℕ → Bool
-sound s = leb (headSize + sizeAt s) (length s) && eqb (kindAt s) (kindOf (payloadAt s))
+-- the record at the head of s is there whole, and of its payload's kind
+unfoldable pub rightRecord : List ℕ → Bool
+rightRecord s = leb (headSize + sizeAt s) (length s) && eqb (kindAt s) (kindOf (payloadAt s))
 
--- all records are sound; k bytes are skipped
-unfoldable pub soundFrom : ℕ → List ℕ → Bool
-soundFrom k [] = true
-soundFrom zero (x ∷ r) = sound (x ∷ r) && soundFrom (pred (headSize + sizeAt (x ∷ r))) r
-soundFrom (suc k) (x ∷ r) = soundFrom k r
+-- all records are right; k bytes are skipped
+unfoldable pub rightRecords : ℕ → List ℕ → Bool
+rightRecords k [] = true
+rightRecords zero (x ∷ r) = rightRecord (x ∷ r) && rightRecords (pred (headSize + sizeAt (x ∷ r))) r
+rightRecords (suc k) (x ∷ r) = rightRecords k r
+
+-- the line of the record at the head of s
+unfoldable pub lineAt : List ℕ → List ℕ
+lineAt s = writeString (payloadAt s) ++ (LF ∷ [])
 
 -- the lines of the records; k bytes are skipped
 unfoldable pub linesFrom : ℕ → List ℕ → List ℕ
 linesFrom k [] = []
-linesFrom zero (x ∷ r) = writeString (payloadAt (x ∷ r)) ++ (10 ∷ linesFrom (pred (headSize + sizeAt (x ∷ r))) r)
+linesFrom zero (x ∷ r) = lineAt (x ∷ r) ++ linesFrom (pred (headSize + sizeAt (x ∷ r))) r
 linesFrom (suc k) (x ∷ r) = linesFrom k r
 
 -- the text that the writer gives for records
@@ -46,12 +51,12 @@ writeQuoted records = linesFrom 0 records
 
 unfoldable pub wroteLines : ℕ → List ℕ → WroteLines
 wroteLines room records =
-    pick (soundFrom 0 records)
+    pick (rightRecords 0 records)
     (pick (leb (length (writeQuoted records)) room) (Wrote (length (writeQuoted records))) (Refused noRoom))
     (Refused unfit)
 
 unfoldable pub linesInto : List ℕ → List ℕ → List ℕ
 linesInto records out =
-    pick (soundFrom 0 records)
+    pick (rightRecords 0 records)
     (pick (leb (length (writeQuoted records)) (length out)) (writeQuoted records ++ drop (length (writeQuoted records)) out) out)
     out

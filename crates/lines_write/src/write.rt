@@ -4,8 +4,10 @@ ghost use mathlib.Core.Path.{_≡_};
 ghost use Prim.Native.Nat.{_+_, _*_, _-_, _<_, _≤_};
 ghost use lib.ListN.{length, getD, drop};
 ghost use Rattle.utf8.specs.Class.{IsTable};
-ghost use Rattle.lines_write.specs.Write.{sound, soundFrom, linesFrom, wroteLines, linesInto};
-ghost use Rattle.lines_write.specs.inner.Passes.{lineAt, Placed, Filled};
+ghost use Rattle.prelude.specs.Refusals.{noRoom};
+ghost use Rattle.lines_write.specs.declared.write.WroteLines.the-variants.{Wrote, Refused};
+ghost use Rattle.lines_write.specs.Write.{rightRecord, rightRecords, lineAt, linesFrom, wroteLines, linesInto};
+ghost use Rattle.lines_write.specs.inner.Passes.{Placed};
 use lines::read;
 use lines::records::HEAD;
 use prelude::refusals;
@@ -29,9 +31,9 @@ fn number_at(s: &[u8], at: usize, k: usize) -> usize
 }
 
 // Whether the record at a place is there whole, and of its payload's kind.
-fn sound_at(t: &[u8; 256], s: &[u8], at: usize) -> bool
+fn right_record(t: &[u8; 256], s: &[u8], at: usize) -> bool
     requires { ⌜ IsTable (now t) × (at ≤ length (now s)) ⌝ }
-    ensures { λ r. ⌜ r ≡ sound (drop at (now (s .entry))) ⌝ }
+    ensures { λ r. ⌜ r ≡ rightRecord (drop at (now (s .entry))) ⌝ }
 {
     let n = number_at(s, at, 0);
     if s.len() - at < HEAD + n {
@@ -42,14 +44,14 @@ fn sound_at(t: &[u8; 256], s: &[u8], at: usize) -> bool
     number_at(s, at, 2) == kind as usize
 }
 
-// Whether all records are sound.
-fn all_sound(t: &[u8; 256], s: &[u8]) -> bool
+// Whether all records are right.
+fn right_records(t: &[u8; 256], s: &[u8]) -> bool
     requires { ⌜ IsTable (now t) ⌝ }
-    ensures { λ r. ⌜ r ≡ soundFrom 0 (now (s .entry)) ⌝ }
+    ensures { λ r. ⌜ r ≡ rightRecords 0 (now (s .entry)) ⌝ }
 {
     let mut at = 0;
     while at < s.len() {
-        if !sound_at(t, s, at) {
+        if !right_record(t, s, at) {
             return false;
         }
         at += HEAD + number_at(s, at, 0);
@@ -57,16 +59,10 @@ fn all_sound(t: &[u8; 256], s: &[u8]) -> bool
     true
 }
 
-fn least(a: usize, b: usize) -> usize
-    ensures { λ r. ⌜ (a ≤ b → r ≡ a) × (b ≤ a → r ≡ b) ⌝ }
-{
-    if a < b { a } else { b }
-}
-
-// The line of a sound record, put at o as far as the buffer reaches: its length, or 0 where it passes the room.
+// The line of a right record, put at o as far as the buffer reaches: its length, or 0 where it passes the room.
 fn put_line(t: &[u8; 256], s: &[u8], at: usize, room: usize, o: usize, out: &mut [u8]) -> usize
-    requires { ⌜ IsTable (now t) × (at ≤ length (now s)) × (sound (drop at (now s)) ≡ true) × (o ≤ room) ⌝ }
-    ensures { λ r. ⌜ Placed (lineAt (drop at (now (s .entry)))) room o r (now (out .entry)) (now (out .exit)) ⌝ }
+    requires { ⌜ IsTable (now t) × (at ≤ length (now s)) × (rightRecord (drop at (now s)) ≡ true) × (o ≤ room) ⌝ }
+    ensures { λ r. ⌜ Placed (λ n. n) 0 (lineAt (drop at (now (s .entry)))) (room - o) o r (now (out .entry)) (now (out .exit)) ⌝ }
 {
     if room - o == 0 {
         return 0;
@@ -74,7 +70,7 @@ fn put_line(t: &[u8; 256], s: &[u8], at: usize, room: usize, o: usize, out: &mut
     let n = number_at(s, at, 0);
     let valid = number_at(s, at, 2) == 1;
     let from = at + HEAD;
-    let b = least(o, out.len());
+    let b = slices::least(o, out.len());
     let m = strings_write::write::write_part(
         t,
         valid,
@@ -85,14 +81,14 @@ fn put_line(t: &[u8; 256], s: &[u8], at: usize, room: usize, o: usize, out: &mut
     if m == 0 {
         return 0;
     }
-    slices::put(10, o + m, out);
+    slices::put(b'\n', o + m, out);
     m + 1
 }
 
-// The lines of sound records, as far as the buffer reaches. The count stops at the room, so it can't run over.
+// The lines of right records, as far as the buffer reaches. The count stops at the room, so it can't run over.
 fn pass(t: &[u8; 256], s: &[u8], room: usize, out: &mut [u8]) -> WroteLines
-    requires { ⌜ IsTable (now t) × (soundFrom 0 (now s) ≡ true) ⌝ }
-    ensures { λ r. ⌜ Filled (linesFrom 0 (now (s .entry))) room r (now (out .entry)) (now (out .exit)) ⌝ }
+    requires { ⌜ IsTable (now t) × (rightRecords 0 (now s) ≡ true) ⌝ }
+    ensures { λ r. ⌜ Placed Wrote (Refused noRoom) (linesFrom 0 (now (s .entry))) room 0 r (now (out .entry)) (now (out .exit)) ⌝ }
 {
     let mut at = 0;
     let mut o: usize = 0;
@@ -114,7 +110,7 @@ pub fn write(records: &[u8], out: &mut [u8]) -> WroteLines
     ensures stored { λ r. ⌜ now (out .exit) ≡ linesInto (now (records .entry)) (now (out .entry)) ⌝ }
 {
     let t = classes::table();
-    if !all_sound(&t, records) {
+    if !right_records(&t, records) {
         return WroteLines::Refused(refusals::UNFIT);
     }
     let room = out.len();

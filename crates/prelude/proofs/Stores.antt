@@ -2,7 +2,7 @@
 -- Assumes nothing.
 use mathlib.Core.Path.{_≡_, refl, sym, ap, _∙_}
 use mathlib.Core.List.{List, [], _∷_, _++_, append-nil}
-use Prim.Native.Nat.{ℕ, zero, suc, _+_, _-_, _≤_, _<_}
+use Prim.Native.Nat.{ℕ, suc, _+_, _-_, _≤_, _<_}
 use native.Mathlib.Nat.{zero-add, suc-add}
 use native.Mathlib.Numerals.{add-one}
 use native.Mathlib.Omega.{arith}
@@ -88,9 +88,3 @@ sets-part out xs o b f g =
     split (leb o (length out))
     (λ q. let l : o ≤ length out = leb-true _ _ q in rw (f l) (part-inside out xs o l))
     (λ q. let l : length out < o = leb-false o (length out) q in part-outside out xs o b (omega arith) (g (omega arith)))
-
-pub least-inside : (b o m : ℕ) → (o ≤ m → b ≡ o) → (m ≤ o → b ≡ m) → b ≤ m
-least-inside b o m f g =
-    split (leb o m)
-    (λ q. let l : o ≤ m = leb-true _ _ q in omega (arith, f l))
-    (λ q. let l : m < o = leb-false o m q in omega (arith, g (omega arith)))

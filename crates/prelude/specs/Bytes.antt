@@ -1,4 +1,4 @@
--- Byte strings, and texts of ASCII characters as bytes; the byte that ends a line.
+-- Byte strings, and texts of ASCII characters as bytes; the byte that ends a line, and those that may stand around one.
 -- Assumes nothing.
 use Prim.Native.Nat.{ℕ, _<_}
 use Prim.Native.Char.{code}
@@ -18,3 +18,12 @@ ascii (String._∷_ c s) = code c ∷ ascii s
 
 abbrev pub LF : ℕ
 LF = 10
+
+abbrev pub CR : ℕ
+CR = 13
+
+abbrev pub tab : ℕ
+tab = 9
+
+abbrev pub space : ℕ
+space = 32

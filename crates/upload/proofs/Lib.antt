@@ -1,6 +1,3 @@
-pub mod Snoc
-pub mod Step
-pub mod WholeList
+pub mod Kept
 pub mod Values
 pub mod Runs
-pub mod Playing

@@ -4,8 +4,9 @@ ghost use mathlib.Core.List.{List};
 ghost use mathlib.Core.Path.{_≡_};
 ghost use Prim.Native.Nat.{ℕ, _+_, _≤_};
 ghost use lib.ListN.{length, take, drop};
-ghost use Rattle.upload.specs.Calls.{keeping, atEnd, whole, Fit, feedByte, feedBytes, finishAll, lineRun, NoLF, storedRun};
 ghost use Rattle.prelude.specs.Limits.{uploadMax, lineMax};
+ghost use Rattle.upload.specs.Calls.{lent, withRefusal, stored, atEnd, feedByte, feedBytes, finishAll};
+ghost use Rattle.upload.specs.inner.Runs.{Fit, lineRun, NoLF};
 use crate::uploads::Upload;
 use lines::records;
 use prelude::limits::LINE_MAX;
@@ -16,7 +17,7 @@ use prelude::slices;
 // The state before a byte, with the refusal that the byte causes.
 fn with_refusal(before: Upload, number: u32, place: usize) -> Upload
     requires { ⌜ before .lfs ≤ uploadMax ⌝ }
-    ensures { λ r. ⌜ r ≡ keeping before number place ⌝ }
+    ensures { λ r. ⌜ r ≡ withRefusal before number place ⌝ }
 {
     Upload {
         taken: before.taken,
@@ -32,8 +33,8 @@ fn with_refusal(before: Upload, number: u32, place: usize) -> Upload
 
 // One byte of a piece.
 fn take_byte(s: Upload, b: u8, line: &mut [u8], out: &mut [u8]) -> Upload
-    requires { ⌜ Fit (whole s (now line) (now out)) ⌝ }
-    ensures { λ r. ⌜ whole r (now (line .exit)) (now (out .exit)) ≡ feedByte (whole s (now (line .entry)) (now (out .entry))) b ⌝ }
+    requires { ⌜ Fit (lent s (now line) (now out)) ⌝ }
+    ensures { λ r. ⌜ lent r (now (line .exit)) (now (out .exit)) ≡ feedByte (lent s (now (line .entry)) (now (out .entry))) b ⌝ }
 {
     let held = s.held;
     if s.refusal != 0 {
@@ -118,24 +119,18 @@ fn lf_from(p: &[u8], from: usize) -> usize
     lf_near(p, i)
 }
 
-fn least(a: usize, b: usize) -> usize
-    ensures { λ r. ⌜ (r ≤ a) × (r ≤ b) ⌝ }
-{
-    if a < b { a } else { b }
-}
-
 // How many of n bytes that are no LF find their place in the line and in the upload.
 fn run_fits(s: Upload, n: usize) -> usize
     requires { ⌜ (s .held ≤ lineMax) × (s .taken ≤ uploadMax) ⌝ }
     ensures { λ r. ⌜ (r ≤ n) × (s .held + r ≤ lineMax) × (s .taken + r ≤ uploadMax) ⌝ }
 {
-    least(n, least(LINE_MAX - s.held, UPLOAD_MAX - s.taken))
+    slices::least(n, slices::least(LINE_MAX - s.held, UPLOAD_MAX - s.taken))
 }
 
 // The a bytes of a piece from i on, none an LF, stored behind those held.
 fn take_run(s: Upload, piece: &[u8], i: usize, a: usize, line: &mut [u8]) -> Upload
     requires { ⌜ (i + a ≤ length (now piece)) × (s .held + a ≤ lineMax) × (s .taken + a ≤ uploadMax) ⌝ }
-    ensures { λ r. ⌜ ((out : List ℕ) → whole r (now (line .exit)) out ≡ storedRun (whole s (now (line .entry)) out) a (take a (drop i (now (piece .entry))))) ⌝ }
+    ensures { λ r. ⌜ ((out : List ℕ) → lent r (now (line .exit)) out ≡ stored (lent s (now (line .entry)) out) (take a (drop i (now (piece .entry))))) ⌝ }
 {
     slices::copy_run(piece, i, a, s.held, line);
     Upload {
@@ -152,8 +147,8 @@ fn take_run(s: Upload, piece: &[u8], i: usize, a: usize, line: &mut [u8]) -> Upl
 
 // The bytes of a piece: runs up to the next LF or limit, and the byte behind each.
 pub fn take_bytes(state: Upload, piece: &[u8], line: &mut [u8], out: &mut [u8]) -> Upload
-    requires { ⌜ Fit (whole state (now line) (now out)) ⌝ }
-    ensures { λ r. ⌜ whole r (now (line .exit)) (now (out .exit)) ≡ feedBytes (whole state (now (line .entry)) (now (out .entry))) (now (piece .entry)) ⌝ }
+    requires { ⌜ Fit (lent state (now line) (now out)) ⌝ }
+    ensures { λ r. ⌜ lent r (now (line .exit)) (now (out .exit)) ≡ feedBytes (lent state (now (line .entry)) (now (out .entry))) (now (piece .entry)) ⌝ }
 {
     let mut s = state;
     let mut i = 0;
@@ -191,8 +186,8 @@ fn at_end(s: Upload, used: usize) -> Upload
 
 // The end of an upload that is neither refused nor ended.
 pub fn take_end(s: Upload, line: &mut [u8], out: &mut [u8]) -> Upload
-    requires { ⌜ Fit (whole s (now line) (now out)) ⌝ }
-    ensures { λ r. ⌜ whole r (now (line .exit)) (now (out .exit)) ≡ finishAll (whole s (now (line .entry)) (now (out .entry))) ⌝ }
+    requires { ⌜ Fit (lent s (now line) (now out)) ⌝ }
+    ensures { λ r. ⌜ lent r (now (line .exit)) (now (out .exit)) ≡ finishAll (lent s (now (line .entry)) (now (out .entry))) ⌝ }
 {
     let held = s.held;
     if held == 0 {

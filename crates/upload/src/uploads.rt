@@ -1,7 +1,6 @@
 // The upload's state and its calls.
 ghost use mathlib.Core.Path.{_≡_};
-ghost use lib.ListN.{length};
-ghost use Rattle.upload.specs.Calls.{fresh, whole, called, fitBy, plain, answerOf, stopBy, feed, finish};
+ghost use Rattle.upload.specs.Calls.{lent, fresh, called, fitState, withoutLine, answerOf, stopState, feed, finish};
 use crate::pieces;
 use prelude::limits::LINE_MAX;
 use prelude::limits::UPLOAD_MAX;
@@ -34,7 +33,7 @@ pub struct Fed {
 
 // Whether a state and buffers of these lengths are fit.
 fn is_fit(s: Upload, line: usize, out: usize) -> bool
-    ensures { λ r. ⌜ r ≡ fitBy s line out ⌝ }
+    ensures { λ r. ⌜ r ≡ fitState s line out ⌝ }
 {
     if line < LINE_MAX {
         return false;
@@ -52,8 +51,8 @@ fn is_fit(s: Upload, line: usize, out: usize) -> bool
 }
 
 // An answer without a line.
-fn plain(number: u32) -> Answer
-    ensures { λ r. ⌜ r ≡ plain number ⌝ }
+fn without_line(number: u32) -> Answer
+    ensures { λ r. ⌜ r ≡ withoutLine number ⌝ }
 {
     Answer {
         number,
@@ -67,7 +66,7 @@ fn answer_of(s: Upload) -> Answer
     ensures { λ r. ⌜ r ≡ answerOf s ⌝ }
 {
     if s.refusal == 0 {
-        return plain(0);
+        return without_line(0);
     }
     Answer {
         number: s.refusal,
@@ -78,10 +77,10 @@ fn answer_of(s: Upload) -> Answer
 
 // What stops a call before it does anything: an unfit state or buffer, the refusal that is kept, the end. A number of 0 says that nothing does.
 fn stop(s: Upload, line: usize, out: usize) -> Answer
-    ensures { λ r. ⌜ r ≡ stopBy s line out ⌝ }
+    ensures { λ r. ⌜ r ≡ stopState s line out ⌝ }
 {
     if !is_fit(s, line, out) {
-        return plain(refusals::UNFIT);
+        return without_line(refusals::UNFIT);
     }
     if s.refusal != 0 {
         return Answer {
@@ -91,9 +90,9 @@ fn stop(s: Upload, line: usize, out: usize) -> Answer
         };
     }
     if s.ended {
-        return plain(refusals::ENDED);
+        return without_line(refusals::ENDED);
     }
-    plain(0)
+    without_line(0)
 }
 
 impl Upload {
@@ -114,7 +113,7 @@ impl Upload {
 
     // Takes the bytes of a piece. The line buffer has at least LINE_MAX bytes; records go to `out`.
     pub fn feed(self, piece: &[u8], line: &mut [u8], out: &mut [u8]) -> Fed
-        ensures { λ r. ⌜ called r (now (line .exit)) (now (out .exit)) ≡ feed (whole self (now (line .entry)) (now (out .entry))) (now (piece .entry)) ⌝ }
+        ensures { λ r. ⌜ called r (now (line .exit)) (now (out .exit)) ≡ feed (lent self (now (line .entry)) (now (out .entry))) (now (piece .entry)) ⌝ }
     {
         let a = stop(self, line.len(), out.len());
         if a.number != 0 {
@@ -132,7 +131,7 @@ impl Upload {
 
     // Reads the open line, if it holds a byte, and ends the upload.
     pub fn finish(self, line: &mut [u8], out: &mut [u8]) -> Fed
-        ensures { λ r. ⌜ called r (now (line .exit)) (now (out .exit)) ≡ finish (whole self (now (line .entry)) (now (out .entry))) ⌝ }
+        ensures { λ r. ⌜ called r (now (line .exit)) (now (out .exit)) ≡ finish (lent self (now (line .entry)) (now (out .entry))) ⌝ }
     {
         let a = stop(self, line.len(), out.len());
         if a.number != 0 {

@@ -7,17 +7,18 @@ use mathlib.Core.Path.{_≡_, refl, sym}
 use lib.ListN.{length}
 use Rattle.prelude.proofs.Cases.{never}
 use Rattle.prelude.specs.Limits.{lineMax}
-use Rattle.upload.specs.Calls.{Called, Call, feeds, finishes, call, run, began, joined, finished, earlier, defined}
+use Rattle.upload.specs.Calls.{Called}
+use Rattle.replay.specs.Lists.{Call, feeds, finishes, call, run, began, joined, finished, earlier, defined}
+use Rattle.replay.proofs.WholeList.{whole-list}
 use Rattle.upload_claims.specs.Claims.{answers, definedAnswers}
-use Rattle.upload.proofs.WholeList.{whole-list}
 
-run-last : (cs : List Call) (c : Call) (r : Called) → run r (cs ++ (c ∷ [])) ≡ call (run r cs .whole) c
+run-last : (cs : List Call) (c : Call) (r : Called) → run r (cs ++ (c ∷ [])) ≡ call (run r cs .lent) c
 unfolding run
 run-last [] c r = refl
-run-last (d ∷ cs) c r = run-last cs c (call (r .whole) d)
+run-last (d ∷ cs) c r = run-last cs c (call (r .lent) d)
 
 pub each-answer : (line out : List ℕ) → lineMax ≤ length line → (before cs : List Call)
-    → answers (run (began line out) before .whole) cs ≡ definedAnswers before cs line out
+    → answers (run (began line out) before .lent) cs ≡ definedAnswers before cs line out
 unfolding answers definedAnswers
 each-answer line out h before [] = refl
 each-answer line out h before (c ∷ cs) =

@@ -6,21 +6,22 @@ use mathlib.Core.Path.{refl, ap}
 use native.Mathlib.Omega.{arith}
 use lib.ListN.{length}
 use Rattle.prelude.specs.Limits.{lineMax}
-use Rattle.upload.specs.Calls.{Called, feeds, finishes, run, began, joined, finished, defined}
+use Rattle.upload.specs.Calls.{Called}
+use Rattle.replay.specs.Lists.{feeds, finishes, run, began, joined, finished, defined}
+use Rattle.replay.proofs.WholeList.{whole-list}
 use Rattle.upload_claims.specs.Claims.{Every-List-Of-Calls, Pieces-Do-Not-Matter, Records-After-Finish, Written-Lines-Read-Back, Every-List-Is-Encoded, Whole-Case, Handing-On-Changes-Nothing, caseText}
 use Rattle.upload_claims.proofs.Answers.{each-answer, same-pieces}
 use Rattle.upload_claims.proofs.CaseComputed.{case-state, case-out}
-use Rattle.upload_claims.proofs.Encoded.{textOf, cutsOf, all-lists}
+use Rattle.upload_claims.proofs.Encoded.{textOf, planOf, all-lists}
 use Rattle.upload_claims.proofs.Finished.{as-finished}
 use Rattle.upload_claims.proofs.Handing.{handing-on}
-use Rattle.upload.proofs.WholeList.{whole-list}
 use Rattle.upload_claims.proofs.WrittenTexts.{text-read, all-read}
 
 pub every-list-of-calls : Every-List-Of-Calls
 unfolding defined run
 every-list-of-calls cs line out h =
     let z : lineMax ≤ length line = omega arith in
-    record { state-and-buffers = ap (λ (r : Called). r .whole) (whole-list cs line out z); each-answer = each-answer line out z [] cs }
+    record { state-and-buffers = ap (λ (r : Called). r .lent) (whole-list cs line out z); each-answer = each-answer line out z [] cs }
 
 pub pieces-do-not-matter : Pieces-Do-Not-Matter
 pieces-do-not-matter cs ds line out h a b e =
@@ -32,11 +33,11 @@ records-after-finish cs line out h e = rw (whole-list cs line out h, e) (as-fini
 
 pub written-lines-read-back : Written-Lines-Read-Back
 written-lines-read-back rs cs line out h b e j f w u r =
-    all-read (joined cs) rs out (run (began line out) cs .whole) (rw j (text-read (length out) rs b e w u r))
+    all-read (joined cs) rs out (run (began line out) cs .lent) (rw j (text-read (length out) rs b e w u r))
     (records-after-finish cs line out h f)
 
 pub every-list-is-encoded : Every-List-Is-Encoded
-every-list-is-encoded cs = (textOf cs, cutsOf cs, all-lists cs)
+every-list-is-encoded cs = (textOf cs, planOf cs, all-lists cs)
 
 pub whole-case : Whole-Case
 unfolding defined joined finished

@@ -8,20 +8,20 @@ use lib.Dec.{eqb·suc-zero}
 use lib.ListN.{length}
 use lib.Seq.{take-append-seam, drop-append-seam}
 use Rattle.prelude.specs.Pick.{pick}
-use Rattle.upload.specs.Calls.{Call, feeds, finishes, decode}
+use Rattle.replay.specs.Lists.{Call, feeds, finishes, decode}
 
 pub textOf : List Call → List ℕ
 textOf [] = []
 textOf (feeds p ∷ cs) = p ++ textOf cs
 textOf (finishes ∷ cs) = textOf cs
 
-pub cutsOf : List Call → List ℕ
-cutsOf [] = []
-cutsOf (feeds p ∷ cs) = suc (length p) ∷ cutsOf cs
-cutsOf (finishes ∷ cs) = 0 ∷ cutsOf cs
+pub planOf : List Call → List ℕ
+planOf [] = []
+planOf (feeds p ∷ cs) = suc (length p) ∷ planOf cs
+planOf (finishes ∷ cs) = 0 ∷ planOf cs
 
-pub all-lists : (cs : List Call) → decode (textOf cs) (cutsOf cs) ≡ cs
-unfolding decode textOf cutsOf pick
+pub all-lists : (cs : List Call) → decode (textOf cs) (planOf cs) ≡ cs
+unfolding decode textOf planOf pick
 all-lists [] = refl
 all-lists (feeds p ∷ cs) =
     let e : suc (length p) - 1 ≡ length p = omega arith in

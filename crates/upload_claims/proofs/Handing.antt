@@ -9,6 +9,8 @@ use borrow.Author.Tests.{le-leb}
 use lib.Dec.{leb, eqb}
 use lib.ListN.{length, take, drop, set, length-append}
 use lib.Seq.{take-append-seam, length-take-le}
+use Rattle.prelude.specs.Bytes.{LF}
+use Rattle.prelude.specs.Limits.{uploadMax, lineMax}
 use Rattle.prelude.specs.Pick.{pick}
 use Rattle.prelude.specs.Refusals.{unfit, noRoom, tooLong, overLimit, ended}
 use Rattle.prelude.proofs.Cases.{split}
@@ -17,14 +19,12 @@ use Rattle.lines.specs.Line.{LineRead, ignored, holds, faulty, readLine}
 use Rattle.lines.specs.Records.{recordOf, lineRecord, Fault, none, refuse, faultBy, lineFault, putAt}
 use Rattle.upload.specs.declared.uploads.Upload.{Upload}
 use Rattle.upload.specs.declared.uploads.Answer.{Answer}
-use Rattle.upload.specs.Lines.{Whole, zeros}
-use Rattle.prelude.specs.Bytes.{LF}
-use Rattle.prelude.specs.Limits.{uploadMax, lineMax}
-use Rattle.upload.specs.Calls.{keeping, refused, stored, behindLF, atEnd, heldLine, appended, closing, byteFault, byteBy, feedByte, feedBytes, endFault, finishBy, finishAll, fitBy, Called, plain, keptAnswer, answerOf, stop, stopBy, guarded, feed, finish, Call, feeds, finishes, call, run, began}
+use Rattle.upload.specs.Calls.{Lent, lent, withRefusal, keepsRefusal, stored, behindLF, atEnd, heldLine, appended, closing, byteFault, byteBy, feedByte, feedBytes, endFault, finishBy, finishAll, fitState, Called, withoutLine, zeros, keptAnswer, answerOf, stopLent, stopState, guarded, feed, finish}
+use Rattle.replay.specs.Lists.{Call, feeds, finishes, call, run, began}
 use Rattle.upload_claims.specs.Claims.{emptied, recordsIn, Turn, calls, hands, turn, turns, handing, callsOf, Alike, Handing-On-Changes-Nothing}
 
 -- two uploads alike, each with its records inside its output
-record Same (h : List ℕ) (d m : Whole) : Type 0 where
+record Same (h : List ℕ) (d m : Lent) : Type 0 where
   pub state : emptied (d .state) ≡ emptied (m .state)
   pub line : d .line ≡ m .line
   pub records : h ++ recordsIn d ≡ recordsIn m
@@ -32,10 +32,10 @@ record Same (h : List ℕ) (d m : Whole) : Type 0 where
   pub other : m .state .used ≤ length (m .out)
 
 -- refused with 12, and so it stays
-abbrev Short : Whole → Type 0
+abbrev Short : Lent → Type 0
 Short m = m .state .refusal ≡ noRoom
 
-data Kept (h : List ℕ) (d m : Whole) : Type 0 where
+data Kept (h : List ℕ) (d m : Lent) : Type 0 where
   one-short : Short d → Kept h d m
   other-short : Short m → Kept h d m
   same : Same h d m → Kept h d m
@@ -92,10 +92,10 @@ faults-in taken held line x u y v b =
     choose (eqb taken uploadMax) (refuse overLimit held)
     (choose-first (eqb b LF) (pick (eqb held lineMax) (refuse tooLong lineMax) none) (line-faults x u y v (readLine (take held line))))
 
-kept-as : {h : List ℕ} {d e m n : Whole} → d ≡ e → m ≡ n → Kept h e n → Kept h d m
-kept-as {h} {d} {e} {m} {n} p q k = subst (λ (z : Whole). Kept h z m) (sym p) (subst (λ (z : Whole). Kept h e z) (sym q) k)
+kept-as : {h : List ℕ} {d e m n : Lent} → d ≡ e → m ≡ n → Kept h e n → Kept h d m
+kept-as {h} {d} {e} {m} {n} p q k = subst (λ (z : Lent). Kept h z m) (sym p) (subst (λ (z : Lent). Kept h e z) (sym q) k)
 
-module _ (h : List ℕ) (d m : Whole) (r : Same h d m) where
+module _ (h : List ℕ) (d m : Lent) (r : Same h d m) where
   taken-same : d .state .taken ≡ m .state .taken
   taken-same = ap (λ (s : Upload). s .taken) (r .state)
 
@@ -147,20 +147,20 @@ module _ (h : List ℕ) (d m : Whole) (r : Same h d m) where
         other = put-inside (m .out) (m .state .used) y (r .other);
       }
 
-  stored-same : (b : ℕ) → Same h (stored d b) (stored m b)
+  stored-same : (b : ℕ) → Same h (stored d (b ∷ [])) (stored m (b ∷ []))
   stored-same b =
       record {
-        state = ap (λ (s : Upload). emptied (stored (record { state = s; line = []; out = [] }) b .state)) (r .state);
+        state = ap (λ (s : Upload). emptied (stored (lent s [] []) (b ∷ []) .state)) (r .state);
         line = ap₂ (λ (l : List ℕ) (n : ℕ). set l n b) (r .line) held-same;
         records = r .records;
         one = r .one;
         other = r .other;
       }
 
-  refused-same : (n p : ℕ) → Same h (refused d n p) (refused m n p)
+  refused-same : (n p : ℕ) → Same h (keepsRefusal d n p) (keepsRefusal m n p)
   refused-same n p =
       record {
-        state = ap (λ (s : Upload). emptied (keeping s n p)) (r .state);
+        state = ap (λ (s : Upload). emptied (withRefusal s n p)) (r .state);
         line = r .line;
         records = r .records;
         one = r .one;
@@ -200,11 +200,11 @@ module _ (h : List ℕ) (d m : Whole) (r : Same h d m) where
   kept-finish = finish-faults end-faults
 
 -- a refusal stays under bytes
-byte-stays : (m : Whole) (b : ℕ) → Short m → Short (feedByte m b)
+byte-stays : (m : Lent) (b : ℕ) → Short m → Short (feedByte m b)
 unfolding feedByte
-byte-stays m b e = ap (λ (z : Whole). z .state .refusal) (pick-false _ _ _ (ap (λ (n : ℕ). eqb n 0) e)) ∙ e
+byte-stays m b e = ap (λ (z : Lent). z .state .refusal) (pick-false _ _ _ (ap (λ (n : ℕ). eqb n 0) e)) ∙ e
 
-bytes-kept : (h : List ℕ) (d m : Whole) (bs : List ℕ) → Kept h d m → Kept h (feedBytes d bs) (feedBytes m bs)
+bytes-kept : (h : List ℕ) (d m : Lent) (bs : List ℕ) → Kept h d m → Kept h (feedBytes d bs) (feedBytes m bs)
 unfolding feedBytes
 bytes-kept h d m [] k = k
 bytes-kept h d m (b ∷ bs) (one-short e) = bytes-kept h (feedByte d b) (feedByte m b) bs (one-short (byte-stays d b e))
@@ -215,12 +215,12 @@ bytes-kept h d m (b ∷ bs) (same r) = bytes-kept h (feedByte d b) (feedByte m b
 abbrev stopped : Upload → ℕ → Answer
 stopped s line =
     pick (leb lineMax line && (leb (s .held) lineMax && (leb (s .taken) uploadMax && (leb (s .lfs) (s .taken) && true))))
-    (pick (eqb (s .refusal) 0) (pick (s .ended) (plain ended) zeros) (keptAnswer s))
-    (plain unfit)
+    (pick (eqb (s .refusal) 0) (pick (s .ended) (withoutLine ended) zeros) (keptAnswer s))
+    (withoutLine unfit)
 
 -- a call is stopped alike
-fit-same : (h : List ℕ) (d m : Whole) → Same h d m → stop d ≡ stop m
-unfolding stopBy fitBy
+fit-same : (h : List ℕ) (d m : Lent) → Same h d m → stopLent d ≡ stopLent m
+unfolding stopState fitState
 fit-same h d m r =
     let u : leb (d .state .used) (length (d .out)) ≡ true = le-leb _ _ (r .one) in
     let v : leb (m .state .used) (length (m .out)) ≡ true = le-leb _ _ (r .other) in
@@ -228,60 +228,60 @@ fit-same h d m r =
 
 -- what a call leaves and answers: alike, or one of both refused with 12
 data Going (h : List ℕ) (d m : Called) : Type 0 where
-  one-stays : Short (d .whole) → Going h d m
-  other-stays : Short (m .whole) → Going h d m
-  both : Same h (d .whole) (m .whole) → d .answer ≡ m .answer → Going h d m
+  one-stays : Short (d .lent) → Going h d m
+  other-stays : Short (m .lent) → Going h d m
+  both : Same h (d .lent) (m .lent) → d .answer ≡ m .answer → Going h d m
 
 going-as : {h : List ℕ} {d e m n : Called} → d ≡ e → m ≡ n → Going h e n → Going h d m
 going-as {h} {d} {e} {m} {n} p q k = subst (λ (z : Called). Going h z m) (sym p) (subst (λ (z : Called). Going h e z) (sym q) k)
 
 -- a call that goes on
-done : Whole → Called
-done m = record { whole = m; answer = answerOf (m .state) }
+done : Lent → Called
+done m = record { lent = m; answer = answerOf (m .state) }
 
-going-on : (h : List ℕ) (d m : Whole) → Kept h d m → Going h (done d) (done m)
+going-on : (h : List ℕ) (d m : Lent) → Kept h d m → Going h (done d) (done m)
 unfolding done answerOf
 going-on h d m (one-short e) = one-stays e
 going-on h d m (other-short e) = other-stays e
 going-on h d m (same r) = both r (ap answerOf (r .state))
 
-going-guarded : (h : List ℕ) (d m x y : Whole) → Same h d m → Kept h x y → Going h (guarded d x) (guarded m y)
+going-guarded : (h : List ℕ) (d m x y : Lent) → Same h d m → Kept h x y → Going h (guarded d x) (guarded m y)
 unfolding done
 going-guarded h d m x y r k =
-    let p : stop d ≡ stop m = fit-same h d m r in
-    let q : eqb (stop d .number) 0 ≡ eqb (stop m .number) 0 = ap (λ (a : Answer). eqb (a .number) 0) p in
-    split (eqb (stop m .number) 0)
+    let p : stopLent d ≡ stopLent m = fit-same h d m r in
+    let q : eqb (stopLent d .number) 0 ≡ eqb (stopLent m .number) 0 = ap (λ (a : Answer). eqb (a .number) 0) p in
+    split (eqb (stopLent m .number) 0)
     (λ e. going-as (pick-true _ _ _ (q ∙ e)) (pick-true _ _ _ e) (going-on h x y k))
     (λ e. going-as (pick-false _ _ _ (q ∙ e)) (pick-false _ _ _ e) (both r p))
 
 -- 12 stays under a call
-not-zero : (m : Whole) → Short m → eqb (stop m .number) 0 ≡ false
-unfolding stopBy
+not-zero : (m : Lent) → Short m → eqb (stopLent m .number) 0 ≡ false
+unfolding stopState
 not-zero m e =
-    pick-case (λ (a : Answer). eqb (a .number) 0 ≡ false) (fitBy (m .state) (length (m .line)) (length (m .out))) _ _
+    pick-case (λ (a : Answer). eqb (a .number) 0 ≡ false) (fitState (m .state) (length (m .line)) (length (m .out))) _ _
     (λ t. subst (λ (a : Answer). eqb (a .number) 0 ≡ false) (sym (pick-false _ _ _ (ap (λ (n : ℕ). eqb n 0) e))) (ap (λ (n : ℕ). eqb n 0) e))
     (λ t. refl)
 
-guarded-stays : (m x : Whole) → Short m → Short (guarded m x .whole)
-guarded-stays m x e = ap (λ (c : Called). c .whole .state .refusal) (pick-false _ _ _ (not-zero m e)) ∙ e
+guarded-stays : (m x : Lent) → Short m → Short (guarded m x .lent)
+guarded-stays m x e = ap (λ (c : Called). c .lent .state .refusal) (pick-false _ _ _ (not-zero m e)) ∙ e
 
-call-stays : (m : Whole) (c : Call) → Short m → Short (call m c .whole)
+call-stays : (m : Lent) (c : Call) → Short m → Short (call m c .lent)
 unfolding call feed finish
 call-stays m (feeds piece) e = guarded-stays m (feedBytes m piece) e
 call-stays m finishes e = guarded-stays m (finishAll m) e
 
-going-call : (h : List ℕ) (d m : Whole) (c : Call) → Same h d m → Going h (call d c) (call m c)
+going-call : (h : List ℕ) (d m : Lent) (c : Call) → Same h d m → Going h (call d c) (call m c)
 unfolding call feed finish
 going-call h d m (feeds piece) r = going-guarded h d m (feedBytes d piece) (feedBytes m piece) r (bytes-kept h d m piece (same r))
 going-call h d m finishes r = going-guarded h d m (finishAll d) (finishAll m) r (kept-finish h d m r)
 
-next : (h : List ℕ) (d m : Called) (c : Call) → Going h d m → Going h (call (d .whole) c) (call (m .whole) c)
-next h d m c (one-stays e) = one-stays (call-stays (d .whole) c e)
-next h d m c (other-stays e) = other-stays (call-stays (m .whole) c e)
-next h d m c (both r a) = going-call h (d .whole) (m .whole) c r
+next : (h : List ℕ) (d m : Called) (c : Call) → Going h d m → Going h (call (d .lent) c) (call (m .lent) c)
+next h d m c (one-stays e) = one-stays (call-stays (d .lent) c e)
+next h d m c (other-stays e) = other-stays (call-stays (m .lent) c e)
+next h d m c (both r a) = going-call h (d .lent) (m .lent) c r
 
 -- records handed on
-emptied-same : (h : List ℕ) (d m : Whole) → Same h d m → Same (h ++ recordsIn d) (record { state = emptied (d .state); line = d .line; out = d .out }) m
+emptied-same : (h : List ℕ) (d m : Lent) → Same h d m → Same (h ++ recordsIn d) (lent (emptied (d .state)) (d .line) (d .out)) m
 emptied-same h d m r =
     record {
       state = r .state;
@@ -295,12 +295,12 @@ going-turns : (ts : List Turn) (h : List ℕ) (d m : Called) → Going h d m
     → Going (turns (record { handed = h; last = d }) ts .handed) (turns (record { handed = h; last = d }) ts .last) (run m (callsOf ts))
 unfolding turns turn run callsOf
 going-turns [] h d m k = k
-going-turns (calls c ∷ ts) h d m k = going-turns ts h (call (d .whole) c) (call (m .whole) c) (next h d m c k)
-going-turns (hands ∷ ts) h d m (one-stays e) = going-turns ts (h ++ recordsIn (d .whole)) _ m (one-stays e)
-going-turns (hands ∷ ts) h d m (other-stays e) = going-turns ts (h ++ recordsIn (d .whole)) _ m (other-stays e)
-going-turns (hands ∷ ts) h d m (both r a) = going-turns ts (h ++ recordsIn (d .whole)) _ m (both (emptied-same h (d .whole) (m .whole) r) a)
+going-turns (calls c ∷ ts) h d m k = going-turns ts h (call (d .lent) c) (call (m .lent) c) (next h d m c k)
+going-turns (hands ∷ ts) h d m (one-stays e) = going-turns ts (h ++ recordsIn (d .lent)) _ m (one-stays e)
+going-turns (hands ∷ ts) h d m (other-stays e) = going-turns ts (h ++ recordsIn (d .lent)) _ m (other-stays e)
+going-turns (hands ∷ ts) h d m (both r a) = going-turns ts (h ++ recordsIn (d .lent)) _ m (both (emptied-same h (d .lent) (m .lent) r) a)
 
-ending : (h : List ℕ) (d m : Called) → (d .whole .state .refusal ≡ noRoom → ⊥) → (m .whole .state .refusal ≡ noRoom → ⊥) → Going h d m → Alike h d m
+ending : (h : List ℕ) (d m : Called) → (d .lent .state .refusal ≡ noRoom → ⊥) → (m .lent .state .refusal ≡ noRoom → ⊥) → Going h d m → Alike h d m
 ending h d m f g (one-stays e) = absurd (f e)
 ending h d m f g (other-stays e) = absurd (g e)
 ending h d m f g (both r a) = record { state = r .state; line = r .line; records = r .records; answer = a }

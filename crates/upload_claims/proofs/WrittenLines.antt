@@ -22,9 +22,9 @@ use Rattle.prelude.specs.Bytes.{IsBytes}
 use Rattle.string_claims.proofs.RoundTrip.{bytes-drop, bytes-take, round-trip}
 use Rattle.lines.specs.Line.{blank, leads, strip, kindOf, holds, fromString, readStripped, readLine}
 use Rattle.lines.specs.Records.{headSize, head, recordOf, lineRecord, none, lineFault}
-use Rattle.lines_write.specs.Write.{sizeAt, kindAt, payloadAt, sound, soundFrom}
+use Rattle.lines_write.specs.Write.{sizeAt, kindAt, payloadAt, rightRecord, rightRecords}
 use Rattle.lines.proofs.LineEnds.{trim-stop}
-use Rattle.lines_write.proofs.LineTexts.{next, sound-step, sound-first, sound-size, sound-kind}
+use Rattle.lines_write.proofs.LineTexts.{next, right-step, right-first, right-size, right-kind}
 
 -- a text in quotes begins and ends with marks, which are no blanks
 no-leads : (st : Style) (r : List ℕ) → leads (mark st ++ r) ≡ 0
@@ -79,16 +79,16 @@ head-back (w ∷ x ∷ []) b h = absurd (omega arith)
 head-back (w ∷ x ∷ y ∷ []) b h = absurd (omega arith)
 head-back (w ∷ x ∷ y ∷ z ∷ r) b h = λ i. low w x (b 0) i ∷ high w x (b 0) (b 1) i ∷ low y z (b 2) i ∷ high y z (b 2) (b 3) i ∷ []
 
-module _ (s : List ℕ) (b : IsBytes s) (e : sound s ≡ true) where
+module _ (s : List ℕ) (b : IsBytes s) (e : rightRecord s ≡ true) where
   payload-bytes : IsBytes (payloadAt s)
   payload-bytes = bytes-take (sizeAt s) (drop headSize s) (bytes-drop headSize s b)
 
   record-back : recordOf (kindOf (payloadAt s)) (payloadAt s) ≡ take (headSize + sizeAt s) s
   record-back =
       let n : length (payloadAt s) ≡ sizeAt s =
-      length-take-le (sizeAt s) (drop headSize s) (omega (arith, sound-size s e, length-drop headSize s)) in
-      (λ i. head (n i) (sym (sound-kind s e) i) ++ payloadAt s)
-      ∙ ap (λ (h : List ℕ). h ++ payloadAt s) (head-back s b (omega (arith, sound-size s e)))
+      length-take-le (sizeAt s) (drop headSize s) (omega (arith, right-size s e, length-drop headSize s)) in
+      (λ i. head (n i) (sym (right-kind s e) i) ++ payloadAt s)
+      ∙ ap (λ (h : List ℕ). h ++ payloadAt s) (head-back s b (omega (arith, right-size s e)))
       ∙ sym (take-add headSize (sizeAt s) s)
 
   -- the line of the record at the head of s
@@ -102,13 +102,13 @@ module _ (s : List ℕ) (b : IsBytes s) (e : sound s ≡ true) where
       let g : used + length (recordOf (kindOf (payloadAt s)) (payloadAt s)) ≤ room = omega (arith, ap length record-back) in
       rw (written-line (payloadAt s) payload-bytes, le-leb _ _ g)
 
--- induction on records: what holds of none, and of records whenever it holds of those behind the first, holds of all that are sound
-module _ (P : List ℕ → Type 0) (empty : P []) (one : (s : List ℕ) → 0 < length s → sound s ≡ true → P (drop (headSize + sizeAt s) s) → P s) where
-  pub by-records : (s : List ℕ) → soundFrom 0 s ≡ true → P s
+-- induction on records: what holds of none, and of records whenever it holds of those behind the first, holds of all that are right
+module _ (P : List ℕ → Type 0) (empty : P []) (one : (s : List ℕ) → 0 < length s → rightRecord s ≡ true → P (drop (headSize + sizeAt s) s) → P s) where
+  pub by-records : (s : List ℕ) → rightRecords 0 s ≡ true → P s
   by-records =
-      by-suffix (λ s. soundFrom 0 s ≡ true → P s) (λ e. empty)
+      by-suffix (λ s. rightRecords 0 s ≡ true → P s) (λ e. empty)
       (λ x r ih e. let n : ℕ = sizeAt (x ∷ r) in
       let h : 0 < length (x ∷ r) = omega arith in
-      let f : sound (x ∷ r) ≡ true = sound-first (x ∷ r) h e in
-      let g : soundFrom 0 (drop (pred (headSize + n)) r) ≡ true = ap (soundFrom 0) (next x n r) ∙ sym (sound-step (x ∷ r) h f) ∙ e in
+      let f : rightRecord (x ∷ r) ≡ true = right-first (x ∷ r) h e in
+      let g : rightRecords 0 (drop (pred (headSize + n)) r) ≡ true = ap (rightRecords 0) (next x n r) ∙ sym (right-step (x ∷ r) h f) ∙ e in
       one (x ∷ r) h f (subst P (next x n r) (ih (pred (headSize + n)) g)))

@@ -9,23 +9,23 @@ use borrow.Author.Tests.{ne-eqb}
 use lib.Dec.{eqb}
 use lib.ListN.{length, take, drop, length-append, take-append-drop}
 use lib.Seq.{append-snoc, length-take-le}
+use Rattle.prelude.specs.Bytes.{IsBytes, LF}
+use Rattle.prelude.specs.Limits.{uploadMax, lineMax}
 use Rattle.prelude.specs.Pick.{pick}
 use Rattle.units.proofs.WrittenUnits.{Plain}
 use Rattle.strings_write.specs.Write.{writeString}
-use Rattle.prelude.specs.Bytes.{IsBytes, LF}
 use Rattle.string_claims.proofs.RoundTrip.{bytes-drop}
 use Rattle.string_claims.proofs.Plain.{write-plain}
 use Rattle.lines.specs.Records.{headSize, lineRecord, none, lineFault}
-use Rattle.lines_write.specs.Write.{sizeAt, payloadAt, sound, soundFrom, linesFrom, writeQuoted}
-use Rattle.lines_write.specs.inner.Passes.{lineAt}
-use Rattle.lines_write.proofs.LineTexts.{lines-step, sound-size}
+use Rattle.lines_write.specs.Write.{sizeAt, payloadAt, rightRecord, rightRecords, lineAt, linesFrom, writeQuoted}
+use Rattle.lines_write.proofs.LineTexts.{lines-step, right-size}
 use Rattle.upload_claims.proofs.WrittenLines.{line-record, line-fault, by-records}
-use Rattle.upload.specs.Lines.{Cut, headed, cut, records, faultBehind, firstFrom, firstFault, Whole}
-use Rattle.prelude.specs.Limits.{uploadMax, lineMax}
+use Rattle.upload.specs.Calls.{Lent}
+use Rattle.replay.specs.Lines.{Cut, headed, cut, records, faultBehind, firstFrom, firstFault}
 use Rattle.upload_claims.specs.Claims.{firstRefusal, EndedWith, Finished, Within}
-use Rattle.upload.proofs.Snoc.{longer, cut-lf, cut-byte, records-snoc}
-use Rattle.upload.proofs.Step.{stop-snoc}
-use Rattle.upload.proofs.WholeList.{empty-record}
+use Rattle.replay.proofs.Snoc.{longer, cut-lf, cut-byte, records-snoc}
+use Rattle.replay.proofs.Step.{fault-snoc}
+use Rattle.replay.proofs.WholeList.{empty-record}
 
 -- a byte of a written text is no LF
 no-lf : (b : ℕ) → 32 ≤ b → eqb b LF ≡ false
@@ -42,7 +42,7 @@ abbrev Unrefused : ℕ → List ℕ → Type 0
 Unrefused room t = firstFault room t .why ≡ none
 
 byte-more : (room : ℕ) (t : List ℕ) (b : ℕ) → Unrefused room t → faultBehind room t b ≡ none → Unrefused room (t ++ (b ∷ []))
-byte-more room t b e f = rw (stop-snoc room t b e, f)
+byte-more room t b e f = rw (fault-snoc room t b e, f)
 
 module _ (room : ℕ) (t : List ℕ) (u : length t < uploadMax) where
   under : eqb (length t) uploadMax ≡ false
@@ -103,7 +103,7 @@ behind-none : (room : ℕ) → Behind room []
 unfolding linesFrom
 behind-none room t rs k b w u r = rw (append-nil t, append-nil rs) k
 
-behind-one : (room : ℕ) (s : List ℕ) → 0 < length s → sound s ≡ true → Behind room (drop (headSize + sizeAt s) s) → Behind room s
+behind-one : (room : ℕ) (s : List ℕ) → 0 < length s → rightRecord s ≡ true → Behind room (drop (headSize + sizeAt s) s) → Behind room s
 unfolding lineAt
 behind-one room s h e ih t rs k b w u r =
     let n : ℕ = headSize + sizeAt s in
@@ -121,15 +121,15 @@ behind-one room s h e ih t rs k b w u r =
     ap length q
     ∙ omega (arith, length-append (t ++ (l ++ (LF ∷ []))) rest, length-append t (l ++ (LF ∷ [])), length-append l (LF ∷ [])) in
     let f : lineFault room (length rs) l ≡ none =
-    line-fault s b e room (length rs) (omega (arith, length-take-le n s (sound-size s e), sound-size s e, length-append rs s)) in
+    line-fault s b e room (length rs) (omega (arith, length-take-le n s (right-size s e), right-size s e, length-append rs s)) in
     let k₁ : Clean room (t ++ (l ++ (LF ∷ []))) (rs ++ take n s) =
     rw (line-record s b e) at (line-more room t rs l k (write-plain (payloadAt s)) (omega (arith, w₁ .0)) (omega arith) f) in
     rw (q, v) (ih (t ++ (l ++ (LF ∷ []))) (rs ++ take n s) k₁ (bytes-drop n s b) (w₁ .1) (rw q at u) (rw v at r))
 
-pub text-read : (room : ℕ) (rs : List ℕ) → IsBytes rs → soundFrom 0 rs ≡ true → Within lineMax (cut (writeQuoted rs) .closed)
+pub text-read : (room : ℕ) (rs : List ℕ) → IsBytes rs → rightRecords 0 rs ≡ true → Within lineMax (cut (writeQuoted rs) .closed)
     → length (writeQuoted rs) ≤ uploadMax → length rs ≤ room → Clean room (writeQuoted rs) rs
 text-read room rs b e = by-records (Behind room) (behind-none room) (behind-one room) rs e [] [] (clean-none room) b
 
 -- such a text, finished
-pub all-read : (t rs out : List ℕ) (m : Whole) → Clean (length out) t rs → Finished (firstRefusal (length out) t) t out m → EndedWith rs out m
+pub all-read : (t rs out : List ℕ) (m : Lent) → Clean (length out) t rs → Finished (firstRefusal (length out) t) t out m → EndedWith rs out m
 all-read t rs out m k f = rw (k .same, k .shut, empty-record, append-nil rs) at (rw (k .unrefused, k .shut) at f)

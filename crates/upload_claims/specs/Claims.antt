@@ -7,19 +7,20 @@ use mathlib.Core.List.{List, [], _∷_, _++_}
 use mathlib.Core.Path.{_≡_}
 use lib.ListN.{length, take}
 use Rattle.prelude.specs.Bytes.{IsBytes, ascii, LF}
+use Rattle.prelude.specs.Limits.{uploadMax, lineMax}
 use Rattle.prelude.specs.Refusals.{noRoom}
-use Rattle.lines.specs.Records.{lineRecord, Fault, none, refuse}
-use Rattle.lines_write.specs.Write.{soundFrom, writeQuoted}
+use Rattle.lines.specs.Records.{Fault, none, refuse}
+use Rattle.lines_write.specs.Write.{rightRecords, writeQuoted}
 use Rattle.upload.specs.declared.uploads.Upload.{Upload}
 use Rattle.upload.specs.declared.uploads.Answer.{Answer}
-use Rattle.upload.specs.Lines.{cut, records, front, firstFault, openFault, Whole, j8Lines}
-use Rattle.prelude.specs.Limits.{uploadMax, lineMax}
-use Rattle.upload.specs.Calls.{Called, Call, feeds, finishes, call, run, began, joined, finished, defined, decode}
+use Rattle.upload.specs.Calls.{Lent, lent, withCounts, Called}
+use Rattle.replay.specs.Lines.{cut, records, recordsOf, front, firstFault, openFault, j8Lines}
+use Rattle.replay.specs.Lists.{Call, feeds, finishes, call, run, began, joined, finished, defined, decode}
 
 -- the answers of a list of calls, in order, from a state and two buffers
-unfoldable pub answers : Whole → List Call → List Answer
+unfoldable pub answers : Lent → List Call → List Answer
 answers m [] = []
-answers m (c ∷ cs) = call m c .answer ∷ answers (call m c .whole) cs
+answers m (c ∷ cs) = call m c .answer ∷ answers (call m c .lent) cs
 
 -- the definition's: each call's answer is that of the calls up to and with it; `before` have gone before
 unfoldable pub definedAnswers : List Call → List Call → List ℕ → List ℕ → List Answer
@@ -28,8 +29,8 @@ definedAnswers before (c ∷ cs) line out =
     defined (before ++ (c ∷ [])) line out .answer ∷ definedAnswers (before ++ (c ∷ [])) cs line out
 
 pub record AsDefined (cs : List Call) (line out : List ℕ) : Type 0 where
-  pub state-and-buffers : run (began line out) cs .whole ≡ j8Lines (joined cs) (finished cs) line out
-  pub each-answer : answers (began line out .whole) cs ≡ definedAnswers [] cs line out
+  pub state-and-buffers : run (began line out) cs .lent ≡ j8Lines (joined cs) (finished cs) line out
+  pub each-answer : answers (began line out .lent) cs ≡ definedAnswers [] cs line out
 
 -- Demand 3: "Take any list of feeds and finishes of one J8 Lines upload, in any order, empty pieces and refused calls included. .. After
 -- every such list, the state and both buffers are exactly what the J8 Lines definition gives for the joined text, finished or not, and each
@@ -44,10 +45,6 @@ Pieces-Do-Not-Matter =
     (cs ds : List Call) (line out : List ℕ) → lineMax ≤ length line → finished cs ≡ false → finished ds ≡ false
     → joined cs ≡ joined ds → run (began line out) cs ≡ run (began line out) ds
 
--- all records of a text: of the lines that an LF ends, and of the open line
-abbrev pub textRecords : List ℕ → List ℕ
-textRecords text = records (cut text .closed) ++ lineRecord (cut text .openLine)
-
 -- the first refusal of a finished text: a byte's, or else the open line's
 abbrev pub orOpenLine : Fault → ℕ → List ℕ → Fault
 orOpenLine none room text = openFault room (length (records (cut text .closed))) (cut text .openLine)
@@ -57,23 +54,23 @@ abbrev pub firstRefusal : ℕ → List ℕ → Fault
 firstRefusal room text = orOpenLine (firstFault room text .why) room text
 
 -- an upload ended with nothing refused: these records at the output's front, and the rest as lent
-abbrev pub EndedWith : List ℕ → List ℕ → Whole → Type 0
+abbrev pub EndedWith : List ℕ → List ℕ → Lent → Type 0
 EndedWith rs out m =
     (m .state .refusal ≡ 0) × (m .state .ended ≡ true) × (m .state .used ≡ length rs) × (m .out ≡ front rs out)
 
 -- what a finished text leaves, by its first refusal: all its records; or those of the lines before the refused byte, and the refusal
-abbrev pub Finished : Fault → List ℕ → List ℕ → Whole → Type 0
-Finished none text out m = EndedWith (textRecords text) out m
+abbrev pub Finished : Fault → List ℕ → List ℕ → Lent → Type 0
+Finished none text out m = EndedWith (recordsOf true text) out m
 Finished (refuse number at) text out m =
     (m .state .refusal ≡ number) × (m .state .place ≡ at) × (m .state .line ≡ m .state .lfs + 1)
-    × (m .state .taken ≡ firstFault (length out) text .place)
-    × (m .out ≡ front (records (cut (take (firstFault (length out) text .place) text) .closed)) out)
+    × (m .state .taken ≡ firstFault (length out) text .before)
+    × (m .out ≡ front (records (cut (take (firstFault (length out) text .before) text) .closed)) out)
 
 -- "After a finish the output holds all the text's records, or those before the first refusal, which the state then holds."
 abbrev pub Records-After-Finish : Type 0
 Records-After-Finish =
     (cs : List Call) (line out : List ℕ) → lineMax ≤ length line → finished cs ≡ true
-    → Finished (firstRefusal (length out) (joined cs)) (joined cs) out (run (began line out) cs .whole)
+    → Finished (firstRefusal (length out) (joined cs)) (joined cs) out (run (began line out) cs .lent)
 
 -- every line is at most so many bytes long
 abbrev pub Within : ℕ → List (List ℕ) → Type 0
@@ -85,15 +82,15 @@ Within n (l ∷ ls) = (length l ≤ n) × Within n ls
 abbrev pub Written-Lines-Read-Back : Type 0
 Written-Lines-Read-Back =
     (rs : List ℕ) (cs : List Call) (line out : List ℕ) → lineMax ≤ length line
-    → IsBytes rs → soundFrom 0 rs ≡ true → joined cs ≡ writeQuoted rs → finished cs ≡ true
+    → IsBytes rs → rightRecords 0 rs ≡ true → joined cs ≡ writeQuoted rs → finished cs ≡ true
     → Within lineMax (cut (writeQuoted rs) .closed) → length (writeQuoted rs) ≤ uploadMax → length rs ≤ length out
-    → EndedWith rs out (run (began line out) cs .whole)
+    → EndedWith rs out (run (began line out) cs .lent)
 
--- every list of calls is the decoding of a text and a list of numbers, so `replay` runs every list
+-- every list of calls is the decoding of a text and a plan, so `replay` runs every list
 abbrev pub Every-List-Is-Encoded : Type 0
-Every-List-Is-Encoded = (cs : List Call) → (text : List ℕ) × (cuts : List ℕ) × (decode text cuts ≡ cs)
+Every-List-Is-Encoded = (cs : List Call) → (text : List ℕ) × (plan : List ℕ) × (decode text plan ≡ cs)
 
--- "Whole case, 22 bytes fed, then finish"
+-- "Lent case, 22 bytes fed, then finish"
 abbrev pub caseText : List ℕ
 caseText = ascii "scans/a b" ++ (LF ∷ ascii "b'x\\yff'" ++ (LF ∷ LF ∷ ascii "''"))
 
@@ -121,25 +118,15 @@ caseOut =
 abbrev pub Whole-Case : Type 0
 Whole-Case =
     (line out : List ℕ) → length line ≡ lineMax → length out ≡ 23
-    → (length caseText ≡ 22) × (run (began line out) (feeds caseText ∷ finishes ∷ []) .whole .state ≡ caseState)
-    × (run (began line out) (feeds caseText ∷ finishes ∷ []) .whole .out ≡ caseOut)
+    → (length caseText ≡ 22) × (run (began line out) (feeds caseText ∷ finishes ∷ []) .lent .state ≡ caseState)
+    × (run (began line out) (feeds caseText ∷ finishes ∷ []) .lent .out ≡ caseOut)
 
 -- Records handed on between two calls: `used` is set to 0, and nothing else is changed (include/j8.h).
 abbrev pub emptied : Upload → Upload
-emptied s =
-    record {
-      taken = s .taken;
-      lfs = s .lfs;
-      held = s .held;
-      used = 0;
-      ended = s .ended;
-      refusal = s .refusal;
-      line = s .line;
-      place = s .place;
-    }
+emptied s = withCounts s (s .taken) (s .lfs) (s .held) 0
 
 -- the records that an output holds
-abbrev pub recordsIn : Whole → List ℕ
+abbrev pub recordsIn : Lent → List ℕ
 recordsIn m = take (m .state .used) (m .out)
 
 -- a call, or the records handed on
@@ -153,13 +140,13 @@ pub record Handing : Type 0 where
   pub last : Called
 
 unfoldable pub turn : Handing → Turn → Handing
-turn d (calls c) = record { handed = d .handed; last = call (d .last .whole) c }
+turn d (calls c) = record { handed = d .handed; last = call (d .last .lent) c }
 turn d hands =
     record {
-      handed = d .handed ++ recordsIn (d .last .whole);
+      handed = d .handed ++ recordsIn (d .last .lent);
       last =
           record {
-            whole = record { state = emptied (d .last .whole .state); line = d .last .whole .line; out = d .last .whole .out };
+            lent = lent (emptied (d .last .lent .state)) (d .last .lent .line) (d .last .lent .out);
             answer = d .last .answer;
           };
     }
@@ -179,9 +166,9 @@ callsOf (hands ∷ ts) = callsOf ts
 
 -- two uploads that differ only in where their records stand: those of one are handed on in part
 pub record Alike (handed : List ℕ) (d m : Called) : Type 0 where
-  pub state : emptied (d .whole .state) ≡ emptied (m .whole .state)
-  pub line : d .whole .line ≡ m .whole .line
-  pub records : handed ++ recordsIn (d .whole) ≡ recordsIn (m .whole)
+  pub state : emptied (d .lent .state) ≡ emptied (m .lent .state)
+  pub line : d .lent .line ≡ m .lent .line
+  pub records : handed ++ recordsIn (d .lent) ≡ recordsIn (m .lent)
   pub answer : d .answer ≡ m .answer
 
 -- An upload whose records are handed on between its calls, in an output of any length, is like one that is left alone, unless a record
@@ -189,6 +176,6 @@ pub record Alike (handed : List ℕ) (d m : Called) : Type 0 where
 abbrev pub Handing-On-Changes-Nothing : Type 0
 Handing-On-Changes-Nothing =
     (ts : List Turn) (line small large : List ℕ)
-    → (handing line small ts .last .whole .state .refusal ≡ noRoom → ⊥)
-    → (run (began line large) (callsOf ts) .whole .state .refusal ≡ noRoom → ⊥)
+    → (handing line small ts .last .lent .state .refusal ≡ noRoom → ⊥)
+    → (run (began line large) (callsOf ts) .lent .state .refusal ≡ noRoom → ⊥)
     → Alike (handing line small ts .handed) (handing line small ts .last) (run (began line large) (callsOf ts))

@@ -27,7 +27,7 @@ trim-requires c κs = search needs
 
 returns : tie.Need-returns
 returns c =
-    search nothing-left
+    nothing-left (now (c .before .before .before .before .before .before .args .l)) (now (c .before .before .before .before .before .before .args .out)) _ _ (c .before .before .before .lead .ensures) (c .before .trim .ensures) (c .if1 .taken)
 
 add-read-stripped : tie.Need-add-read-stripped
 add-read-stripped c =
@@ -60,7 +60,7 @@ same-length c = search needs
 
 returns-2 : tie.Need-returns-2
 returns-2 c =
-    search line-full
+    line-full (now (c .before .before .before .before .before .before .before .before .before .before .before .before .before .before .before .args .l)) (now (c .before .before .before .before .before .before .before .before .before .before .before .before .before .before .before .args .out)) _ _ (c .before .before .before .before .before .before .before .before .before .before .before .before .lead .ensures) (c .before .before .before .before .before .before .before .before .before .before .trim .ensures) _ _ (c .before .before .before .before .before .before .read-stripped .ensures) _ _ (c .before .before .line2 .given .1) (c .if2 .taken)
 
 add-t23 : tie.Need-add-t23
 add-t23 c =
@@ -71,14 +71,14 @@ same-length-2 c = search needs
 
 returns-3 : tie.Need-returns-3
 returns-3 c =
-    search line-ignored
+    line-ignored (now (c .before .before .before .before .before .before .before .before .before .before .before .before .before .args .l)) (now (c .before .before .before .before .before .before .before .before .before .before .before .before .before .args .out)) _ _ (c .before .before .before .before .before .before .before .before .before .before .lead .ensures) (c .before .before .before .before .before .before .before .before .trim .ensures) _ _ (c .before .before .before .before .read-stripped .ensures) (c .enum-told .given .1)
 
 same-length-3 : tie.Need-same-length-3
 same-length-3 c = search needs
 
 returns-4 : tie.Need-returns-4
 returns-4 c =
-    search line-holds
+    line-holds (now (c .before .before .before .before .before .before .before .before .before .before .before .before .before .before .args .l)) (now (c .before .before .before .before .before .before .before .before .before .before .before .before .before .before .args .out)) _ _ (c .before .before .before .before .before .before .before .before .before .before .before .lead .ensures) (c .before .before .before .before .before .before .before .before .before .trim .ensures) _ _ (c .before .before .before .before .before .read-stripped .ensures) _ _ (c .before .line .given .1)
 
 same-length-4 : tie.Need-same-length-4
 same-length-4 c = search needs

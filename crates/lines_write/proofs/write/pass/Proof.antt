@@ -5,9 +5,8 @@ use Rattle.lines_write.proofs.write.pass.Tie as tie
 use Prim.Native.Nat.{_-_}
 use native.Mathlib.Omega.{arith}
 use mathlib.Core.Path.{refl, _∙_}
-use denote.Ref.{now}
 use lib.ListN.{length}
-use Rattle.lines_write.proofs.LineTexts.{Filling, begun, kept, here-sound, overfull, moved, filled}
+use Rattle.lines_write.proofs.LineTexts.{Filling, begun, kept, here-right, overfull, moved, filled}
 
 abbrev Inv-loop : tie.InvT-loop
 Inv-loop t s room out₀ at₀ o₀ out at o =
@@ -23,7 +22,7 @@ loop-holds c =
 
 put-line-requires : tie.Need-put-line-requires Inv-loop μ-loop
 put-line-requires c κs =
-    (c .before .before .before .before .before .pre .0, c .before .before .loop .inv .inside, here-sound (c .before .before .loop .inv) (c .before .loop-test .taken), c .before .before .loop .inv .below)
+    (c .before .before .before .before .before .pre .0, c .before .before .loop .inv .inside, here-right (c .before .before .loop .inv) (c .before .loop-test .taken), c .before .before .loop .inv .below)
 
 same-length : tie.Need-same-length Inv-loop μ-loop
 same-length c =

@@ -5,8 +5,7 @@ use Rattle.lines_write.proofs.write.put_line.Statement.{statement}
 use Rattle.lines_write.proofs.write.put_line.Tie as tie
 use native.Mathlib.Omega.{arith}
 use denote.Ref.{now}
-use Rattle.prelude.proofs.Stores.{least-inside}
-use Rattle.lines_write.proofs.LineTexts.{no-room, sound-inside, valid-told, line-over, line-inside, line-put}
+use Rattle.lines_write.proofs.LineTexts.{no-room, right-inside, valid-told, line-over, line-inside, line-put}
 
 sub-if1 : tie.Need-sub-if1
 sub-if1 c = search needs
@@ -38,7 +37,7 @@ part-write-part-start c = search needs
 
 part-write-part-end : tie.Need-part-write-part-end
 part-write-part-end c =
-    omega (arith, sound-inside (now (c .before .before .before .before .before .before .args .s)) _ _ (c .before .before .before .before .before .before .pre .1) (c .before .before .number-at .ensures .0) (c .before .before .before .before .before .before .pre .2))
+    omega (arith, right-inside (now (c .before .before .before .before .before .before .args .s)) _ _ (c .before .before .before .before .before .before .pre .1) (c .before .before .number-at .ensures .0) (c .before .before .before .before .before .before .pre .2))
 
 sub-write-part-2 : tie.Need-sub-write-part-2
 sub-write-part-2 c = search needs
@@ -48,11 +47,11 @@ sub-write-part-3 c = search needs
 
 sub-write-part-4 : tie.Need-sub-write-part-4
 sub-write-part-4 c =
-    least-inside _ _ _ (c .before .least .ensures .0) (c .before .least .ensures .1)
+    c .before .least .ensures .1
 
 part-write-part-start-2 : tie.Need-part-write-part-start-2
 part-write-part-start-2 c =
-    least-inside _ _ _ (c .before .least .ensures .0) (c .before .least .ensures .1)
+    c .before .least .ensures .1
 
 part-write-part-end-2 : tie.Need-part-write-part-end-2
 part-write-part-end-2 c = search needs
@@ -84,7 +83,7 @@ same-length-2 c = search needs
 
 returns-3 : tie.Need-returns-3
 returns-3 c =
-    line-put (now (c .before .before .before .before .before .before .before .before .before .before .before .before .before .before .before .before .args .s)) _ _ _ _ (c .before .before .before .before .before .before .before .before .before .before .before .before .before .before .before .before .pre .1) (c .before .before .before .before .before .before .before .before .before .before .before .before .number-at .ensures .0) (now (c .before .before .before .before .before .before .before .before .before .before .before .before .before .before .before .before .args .out)) _ _ _ (c .before .before .before .before .before .before .before .before .before .before .before .before .before .if1 .left) (c .before .before .before .before .before .before .before .write-part .ensures) (c .before .before .before .before .if2 .left) _ (c .before .before .before .before .before .before .before .before .before .before .least .ensures .0) (c .before .before .before .before .before .before .before .before .before .before .least .ensures .1) (c .before .before .put .ensures)
+    line-put (now (c .before .before .before .before .before .before .before .before .before .before .before .before .before .before .before .before .args .s)) _ _ _ _ (c .before .before .before .before .before .before .before .before .before .before .before .before .before .before .before .before .pre .1) (c .before .before .before .before .before .before .before .before .before .before .before .before .number-at .ensures .0) (now (c .before .before .before .before .before .before .before .before .before .before .before .before .before .before .before .before .args .out)) _ _ _ (c .before .before .before .before .before .before .before .before .before .before .before .before .before .if1 .left) (c .before .before .before .before .before .before .before .write-part .ensures) (c .before .before .before .before .if2 .left) _ (c .before .before .before .before .before .before .before .before .before .before .least .ensures .2) (c .before .before .before .before .before .before .before .before .before .before .least .ensures .3) (c .before .before .put .ensures)
 
 pub put-line-spec : {M : Type 1} → statement M
 put-line-spec =

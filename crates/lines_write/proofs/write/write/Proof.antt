@@ -1,4 +1,4 @@
--- Unsound records are refused first; then the first pass has no buffer, and what it measured is what the second stores (LineTexts).
+-- Records that aren't right are refused first; then the first pass has no buffer, and what it measured is what the second stores (LineTexts).
 -- Assumes nothing.
 use borrow.Author.Needs.{needs}
 use Rattle.lines_write.proofs.write.write.Statement.{statement}
@@ -6,17 +6,17 @@ use Rattle.lines_write.proofs.write.write.Tie as tie
 use mathlib.Core.Path.{sym, _∙_}
 use borrow.Author.Tests.{not-true, not-false}
 use denote.Ref.{now}
-use Rattle.lines_write.proofs.LineTexts.{unsound, too-full, both-passes}
+use Rattle.lines_write.proofs.LineTexts.{not-right, too-full, both-passes}
 
 table-requires : tie.Need-table-requires
 table-requires c κs = search needs
 
-all-sound-requires : tie.Need-all-sound-requires
-all-sound-requires c κs = search needs
+right-records-requires : tie.Need-right-records-requires
+right-records-requires c κs = search needs
 
 returns : tie.Need-returns
 returns c =
-    unsound (now (c .before .before .before .before .before .before .args .records)) (now (c .before .before .before .before .before .before .args .out)) _ (c .before .all-sound .ensures) (not-true _ (c .if1 .taken))
+    not-right (now (c .before .before .before .before .before .before .args .records)) (now (c .before .before .before .before .before .before .args .out)) _ (c .before .right-records .ensures) (not-true _ (c .if1 .taken))
 
 slice-relend-prefix-pass : tie.Need-slice-relend-prefix-pass
 slice-relend-prefix-pass c = search needs
@@ -26,14 +26,14 @@ slice-aggregate-pass c = search needs
 
 pass-requires : tie.Need-pass-requires
 pass-requires c κs =
-    (c .before .before .before .before .before .table .ensures, sym (c .before .before .before .all-sound .ensures) ∙ not-false _ (c .before .before .if1 .left))
+    (c .before .before .before .before .before .table .ensures, sym (c .before .before .before .right-records .ensures) ∙ not-false _ (c .before .before .if1 .left))
 
 enum-known-judged : tie.Need-enum-known-judged
 enum-known-judged c = search needs
 
 pass-requires-2 : tie.Need-pass-requires-2
 pass-requires-2 c κs =
-    (c .before .before .before .before .before .before .before .before .before .before .before .before .before .table .ensures, sym (c .before .before .before .before .before .before .before .before .before .before .before .all-sound .ensures) ∙ not-false _ (c .before .before .before .before .before .before .before .before .before .before .if1 .left))
+    (c .before .before .before .before .before .before .before .before .before .before .before .before .before .table .ensures, sym (c .before .before .before .before .before .before .before .before .before .before .before .right-records .ensures) ∙ not-false _ (c .before .before .before .before .before .before .before .before .before .before .if1 .left))
 
 enum-known-judged-2 : tie.Need-enum-known-judged-2
 enum-known-judged-2 c = search needs
@@ -43,21 +43,21 @@ same-length c = search needs
 
 returns-2 : tie.Need-returns-2
 returns-2 c =
-    both-passes (now (c .before .before .before .before .before .before .before .before .before .before .before .before .before .before .before .before .before .before .before .args .records)) (now (c .before .before .before .before .before .before .before .before .before .before .before .before .before .before .before .before .before .before .before .args .out)) _ (c .before .before .before .before .before .before .before .before .before .before .before .before .before .before .all-sound .ensures) (not-false _ (c .before .before .before .before .before .before .before .before .before .before .before .before .before .if1 .left)) _ (c .before .before .before .before .before .before .before .before .before .before .pass .last .1 .1 .1 .0) _ (c .before .before .before .before .before .before .before .before .before .before .pass .ensures) (c .before .before .before .before .before .before .before .before .before .before .pass .kept .1 .1 .1 .0) _ (c .before .before .before .before .before .before .judged .given .1) _ _ (c .before .before .pass2 .ensures)
+    both-passes (now (c .before .before .before .before .before .before .before .before .before .before .before .before .before .before .before .before .before .before .before .args .records)) (now (c .before .before .before .before .before .before .before .before .before .before .before .before .before .before .before .before .before .before .before .args .out)) _ (c .before .before .before .before .before .before .before .before .before .before .before .before .before .before .right-records .ensures) (not-false _ (c .before .before .before .before .before .before .before .before .before .before .before .before .before .if1 .left)) _ (c .before .before .before .before .before .before .before .before .before .before .pass .last .1 .1 .1 .0) _ (c .before .before .before .before .before .before .before .before .before .before .pass .ensures) (c .before .before .before .before .before .before .before .before .before .before .pass .kept .1 .1 .1 .0) _ (c .before .before .before .before .before .before .judged .given .1) _ _ (c .before .before .pass2 .ensures)
 
 same-length-2 : tie.Need-same-length-2
 same-length-2 c = search needs
 
 returns-3 : tie.Need-returns-3
 returns-3 c =
-    too-full (now (c .before .before .before .before .before .before .before .before .before .before .before .before .before .before .args .records)) (now (c .before .before .before .before .before .before .before .before .before .before .before .before .before .before .args .out)) _ (c .before .before .before .before .before .before .before .before .before .all-sound .ensures) (not-false _ (c .before .before .before .before .before .before .before .before .if1 .left)) _ (c .before .before .before .before .before .pass .last .1 .1 .1 .0) _ (c .before .before .before .before .before .pass .ensures) (c .before .before .before .before .before .pass .kept .1 .1 .1 .0) _ (c .before .judged2 .given .1)
+    too-full (now (c .before .before .before .before .before .before .before .before .before .before .before .before .before .before .args .records)) (now (c .before .before .before .before .before .before .before .before .before .before .before .before .before .before .args .out)) _ (c .before .before .before .before .before .before .before .before .before .right-records .ensures) (not-false _ (c .before .before .before .before .before .before .before .before .if1 .left)) _ (c .before .before .before .before .before .pass .last .1 .1 .1 .0) _ (c .before .before .before .before .before .pass .ensures) (c .before .before .before .before .before .pass .kept .1 .1 .1 .0) _ (c .before .judged2 .given .1)
 
 pub write-spec : {M : Type 1} → statement M
 write-spec =
     tie.close
     (tie.spec
     table-requires
-    all-sound-requires
+    right-records-requires
     returns
     slice-relend-prefix-pass
     slice-aggregate-pass

@@ -10,7 +10,7 @@ use lib.ListN.{getD}
 use denote.Ref.{now}
 use borrow.Author.Tests.{eqb-false}
 use Rattle.runs.proofs.BlockLaws.{one-more}
-use Rattle.upload.specs.Calls.{NoLF}
+use Rattle.upload.specs.inner.Runs.{NoLF}
 
 abbrev Inv-loop : tie.InvT-loop
 Inv-loop p at found₀ k₀ found k =

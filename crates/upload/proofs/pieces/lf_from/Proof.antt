@@ -7,7 +7,7 @@ use mathlib.Core.Path.{_≡_, refl}
 use native.Mathlib.Omega.{arith}
 use lib.ListN.{length, drop}
 use denote.Ref.{now}
-use Rattle.upload.specs.Calls.{lineRun}
+use Rattle.upload.specs.inner.Runs.{lineRun}
 use Rattle.upload.proofs.Runs.{run-block}
 
 abbrev Inv-loop : tie.InvT-loop

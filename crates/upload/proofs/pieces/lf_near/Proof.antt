@@ -8,7 +8,7 @@ use lib.ListN.{length, drop}
 use native.Mathlib.Omega.{arith}
 use native.Mathlib.Numerals.{add-one}
 use denote.Ref.{now}
-use Rattle.upload.specs.Calls.{lineRun}
+use Rattle.upload.specs.inner.Runs.{lineRun}
 use Rattle.upload.proofs.Runs.{at-on, at-lf, at-end}
 
 abbrev Inv-loop : tie.InvT-loop

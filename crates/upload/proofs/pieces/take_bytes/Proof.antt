@@ -3,17 +3,17 @@
 use Rattle.upload.proofs.pieces.take_bytes.Statement.{statement}
 use Rattle.upload.proofs.pieces.take_bytes.Tie as tie
 use Prim.Native.Nat.{_+_, _-_, _≤_}
-use mathlib.Core.Path.{_≡_}
+use mathlib.Core.Path.{_≡_, sym}
 use lib.ListN.{length, take}
 use native.Mathlib.Omega.{arith}
 use denote.Ref.{now}
-use Rattle.upload.specs.Calls.{whole, feedBytes}
-use Rattle.upload.proofs.Values.{after-bytes, bytes-next, bytes-none, bytes-all, ok-fits}
-use Rattle.upload.proofs.Runs.{run-next, bytes-stay, run-inside}
+use Rattle.upload.specs.Calls.{lent, feedBytes}
+use Rattle.upload.proofs.Values.{after-bytes, ok-fits}
+use Rattle.upload.proofs.Runs.{bytes-nil, bytes-next, bytes-all, run-next, bytes-stay, run-inside}
 
 abbrev Inv-loop : tie.InvT-loop
 Inv-loop piece line₀ out₀ s₀ i₀ line out s i =
-    (i ≤ length piece) × (whole s line out ≡ feedBytes (whole s₀ line₀ out₀) (take i piece))
+    (i ≤ length piece) × (lent s line out ≡ feedBytes (lent s₀ line₀ out₀) (take i piece))
 
 abbrev μ-loop : tie.MeasureT-loop
 μ-loop piece line₀ out₀ s₀ i₀ line out s i =
@@ -21,7 +21,7 @@ abbrev μ-loop : tie.MeasureT-loop
 
 loop-holds : tie.Need-loop-holds Inv-loop μ-loop
 loop-holds c =
-    (omega arith, bytes-none _)
+    (omega arith, sym (bytes-nil _))
 
 same-length : tie.Need-same-length Inv-loop μ-loop
 same-length c =

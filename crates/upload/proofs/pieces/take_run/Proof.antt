@@ -3,8 +3,8 @@
 use borrow.Author.Needs.{needs}
 use Rattle.upload.proofs.pieces.take_run.Statement.{statement}
 use Rattle.upload.proofs.pieces.take_run.Tie as tie
-use mathlib.Core.Path.{refl}
-use Rattle.upload.proofs.Step.{whole-path}
+use denote.Ref.{now}
+use Rattle.upload.proofs.Runs.{run-stored}
 
 copy-run-requires : tie.Need-copy-run-requires
 copy-run-requires c κs = search needs
@@ -20,7 +20,7 @@ same-length c = search needs
 
 returns : tie.Need-returns
 returns c =
-    λ out. whole-path _ _ refl (c .before .before .before .before .copy-run .ensures) refl
+    λ out. run-stored _ (now (c .before .before .before .before .before .before .before .before .args .piece)) _ _ out _ _ (c .before .before .before .before .before .before .before .before .pre .0) (c .before .before .before .before .copy-run .ensures)
 
 pub take-run-spec : {M : Type 1} → statement M
 take-run-spec = tie.close (tie.spec copy-run-requires add-t9 add-t10 same-length returns)

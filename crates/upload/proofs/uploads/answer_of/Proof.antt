@@ -5,16 +5,16 @@ use Rattle.upload.proofs.uploads.answer_of.Statement.{statement}
 use Rattle.upload.proofs.uploads.answer_of.Tie as tie
 use Rattle.upload.proofs.Values.{answer-none, answer-some}
 
-plain-requires : tie.Need-plain-requires
-plain-requires c κs = search needs
+without-line-requires : tie.Need-without-line-requires
+without-line-requires c κs = search needs
 
 returns : tie.Need-returns
 returns c =
-    answer-none _ _ (c .plain .ensures) (c .before .if1 .taken)
+    answer-none _ _ (c .without-line .ensures) (c .before .if1 .taken)
 
 returns-2 : tie.Need-returns-2
 returns-2 c =
     answer-some _ (c .if1 .left)
 
 pub answer-of-spec : {M : Type 1} → statement M
-answer-of-spec = tie.close (tie.spec plain-requires returns returns-2)
+answer-of-spec = tie.close (tie.spec without-line-requires returns returns-2)

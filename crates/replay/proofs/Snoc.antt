@@ -9,10 +9,10 @@ use native.Mathlib.Omega.{arith}
 use lib.Dec.{eqb}
 use lib.ListN.{length, take, getD, set, length-append, List·getD-append, List·getD-eq-default}
 use lib.Seq.{take-append-le, getD-at}
+use Rattle.prelude.specs.Bytes.{LF}
 use Rattle.prelude.specs.Pick.{pick}
 use Rattle.lines.specs.Records.{lineRecord, Fault, none, refuse}
-use Rattle.upload.specs.Lines.{Cut, headed, cut, countLF, records, faultAt, Stop, orElse, firstFrom, firstFault, lastAt, lineBuffer}
-use Rattle.prelude.specs.Bytes.{LF}
+use Rattle.replay.specs.Lines.{Cut, headed, cut, countLF, records, faultOfByte, FirstFault, orElse, firstFrom, firstFault, lastAt, lineBuffer}
 
 -- the last byte is an LF, or not
 abbrev pub shut : Cut → Cut
@@ -115,14 +115,14 @@ buffer-held ls p (x ∷ q) i (d ∷ ds) e h =
     append-snoc′ p x q = append-assoc p (x ∷ []) q
 
 -- the first refused byte
-abbrev pub nextBy : Fault → ℕ → List ℕ → Stop → Stop
-nextBy none room text s = orElse (s .place) (faultAt room text (s .place)) (record { place = suc (s .place); why = none })
+abbrev pub nextBy : Fault → ℕ → List ℕ → FirstFault → FirstFault
+nextBy none room text s = orElse (s .before) (faultOfByte room text (s .before)) (record { before = suc (s .before); why = none })
 nextBy (refuse n p) room text s = s
 
-abbrev pub next : ℕ → List ℕ → Stop → Stop
+abbrev pub next : ℕ → List ℕ → FirstFault → FirstFault
 next room text s = nextBy (s .why) room text s
 
-next-else : (room : ℕ) (text : List ℕ) (p : ℕ) (f : Fault) (s : Stop) → orElse p f (next room text s) ≡ next room text (orElse p f s)
+next-else : (room : ℕ) (text : List ℕ) (p : ℕ) (f : Fault) (s : FirstFault) → orElse p f (next room text s) ≡ next room text (orElse p f s)
 next-else room text p none s = refl
 next-else room text p (refuse n q) s = refl
 
@@ -130,7 +130,7 @@ first-suc : (room : ℕ) (text : List ℕ) (n p : ℕ) → firstFrom room text p
 unfolding firstFrom pick
 first-suc room text zero p = refl
 first-suc room text (suc n) p =
-    ap (orElse p (faultAt room text p)) (first-suc room text n (suc p)) ∙ next-else room text p (faultAt room text p) (firstFrom room text (suc p) n)
+    ap (orElse p (faultOfByte room text p)) (first-suc room text n (suc p)) ∙ next-else room text p (faultOfByte room text p) (firstFrom room text (suc p) n)
 
 first-append : (room : ℕ) (t u : List ℕ) (n p : ℕ) → p + n ≤ length t → firstFrom room (t ++ u) p n ≡ firstFrom room t p n
 unfolding firstFrom pick
@@ -145,28 +145,28 @@ first-snoc room t b =
     ∙ first-suc room (t ++ (b ∷ [])) (length t) 0
     ∙ ap (next room (t ++ (b ∷ []))) (first-append room t (b ∷ []) (length t) 0 (omega arith))
 
--- where nothing is refused, the place is the end; where something is, it is inside
-at-end : (p n : ℕ) (f : Fault) (s : Stop) → (s .why ≡ none → s .place ≡ suc p + n) → orElse p f s .why ≡ none → orElse p f s .place ≡ p + suc n
+-- where nothing is refused, all bytes stand before it; where something is, no more than there are
+at-end : (p n : ℕ) (f : Fault) (s : FirstFault) → (s .why ≡ none → s .before ≡ suc p + n) → orElse p f s .why ≡ none → orElse p f s .before ≡ p + suc n
 at-end p n none s h e = omega (arith, h e)
 at-end p n (refuse m q) s h e = let z : _≡_ {A = ℕ} 0 1 = cc in absurd (omega arith)
 
-first-none : (room : ℕ) (t : List ℕ) (n p : ℕ) → firstFrom room t p n .why ≡ none → firstFrom room t p n .place ≡ p + n
+first-none : (room : ℕ) (t : List ℕ) (n p : ℕ) → firstFrom room t p n .why ≡ none → firstFrom room t p n .before ≡ p + n
 unfolding firstFrom pick
 first-none room t zero p e = omega arith
 first-none room t (suc n) p e =
-    at-end p n (faultAt room t p) (firstFrom room t (suc p) n) (first-none room t n (suc p)) e
+    at-end p n (faultOfByte room t p) (firstFrom room t (suc p) n) (first-none room t n (suc p)) e
 
-pub none-end : (room : ℕ) (t : List ℕ) → firstFault room t .why ≡ none → firstFault room t .place ≡ length t
+pub none-end : (room : ℕ) (t : List ℕ) → firstFault room t .why ≡ none → firstFault room t .before ≡ length t
 none-end room t e = first-none room t (length t) 0 e ∙ zero-add (length t)
 
-inside : (p n : ℕ) (f : Fault) (s : Stop) → s .place ≤ suc p + n → orElse p f s .place ≤ p + suc n
+inside : (p n : ℕ) (f : Fault) (s : FirstFault) → s .before ≤ suc p + n → orElse p f s .before ≤ p + suc n
 inside p n none s h = omega arith
 inside p n (refuse m q) s h = omega arith
 
-first-inside : (room : ℕ) (t : List ℕ) (n p : ℕ) → firstFrom room t p n .place ≤ p + n
+first-inside : (room : ℕ) (t : List ℕ) (n p : ℕ) → firstFrom room t p n .before ≤ p + n
 unfolding firstFrom pick
 first-inside room t zero p = omega arith
-first-inside room t (suc n) p = inside p n (faultAt room t p) (firstFrom room t (suc p) n) (first-inside room t n (suc p))
+first-inside room t (suc n) p = inside p n (faultOfByte room t p) (firstFrom room t (suc p) n) (first-inside room t n (suc p))
 
-pub stop-inside : (room : ℕ) (t : List ℕ) → firstFault room t .place ≤ length t
-stop-inside room t = omega (arith, first-inside room t (length t) 0)
+pub fault-inside : (room : ℕ) (t : List ℕ) → firstFault room t .before ≤ length t
+fault-inside room t = omega (arith, first-inside room t (length t) 0)

@@ -1,9 +1,9 @@
 -- A finish, a piece that is there whole, or what is left of the text.
 -- Assumes nothing.
 use borrow.Author.Needs.{needs}
-use Rattle.upload.proofs.replays.play_one.Statement.{statement}
-use Rattle.upload.proofs.replays.play_one.Tie as tie
-use Rattle.upload.proofs.Playing.{one-finish, one-feed, one-rest}
+use Rattle.replay.proofs.replays.play_one.Statement.{statement}
+use Rattle.replay.proofs.replays.play_one.Tie as tie
+use Rattle.replay.proofs.Playing.{one-finish, one-feed, one-rest}
 
 -- A finish, a piece that is there whole, or what is left of the text.
 

@@ -11,8 +11,9 @@ use Rattle.prelude.specs.Limits.{lineMax, uploadMax}
 use Rattle.prelude.specs.Pick.{pick}
 use Rattle.prelude.specs.Refusals.{tooLong, overLimit, ended}
 use Rattle.lines.specs.Records.{lineRecord, Fault, none, refuse, lineFault}
 use Rattle.upload.specs.declared.uploads.Upload.{Upload}
 use Rattle.upload.specs.declared.uploads.Answer.{Answer}
+use Rattle.upload.specs.Calls.{Lent, zeros}
 
 -- "It cuts the text at its LFs, which belong to no line": the lines that an LF ends, in order, and the open line
 pub record Cut : Type 0 where
@@ -50,24 +51,24 @@ faultBehind room before b =
     (pick (eqb b LF) (lineFault room (length (records (cut before .closed))) (cut before .openLine))
     (pick (eqb (length (cut before .openLine)) lineMax) (refuse tooLong lineMax) none))
 
-abbrev pub faultAt : ℕ → List ℕ → ℕ → Fault
-faultAt room text p = faultBehind room (take p text) (getD text p 0)
+abbrev pub faultOfByte : ℕ → List ℕ → ℕ → Fault
+faultOfByte room text p = faultBehind room (take p text) (getD text p 0)
 
--- "The refusal .. is the first in the text of these": its place in the text, and why; the text's length where there is none
-pub record Stop : Type 0 where
-  pub place : ℕ
+-- "The refusal .. is the first in the text of these": how many bytes stand before it, and why; all of them where there is none
+pub record FirstFault : Type 0 where
+  pub before : ℕ
   pub why : Fault
 
-abbrev pub orElse : ℕ → Fault → Stop → Stop
+abbrev pub orElse : ℕ → Fault → FirstFault → FirstFault
 orElse p none later = later
-orElse p (refuse number at) later = record { place = p; why = refuse number at }
+orElse p (refuse number at) later = record { before = p; why = refuse number at }
 
 -- the first at the n places from p on
-unfoldable pub firstFrom : ℕ → List ℕ → ℕ → ℕ → Stop
-firstFrom room text p zero = record { place = p; why = none }
-firstFrom room text p (suc n) = orElse p (faultAt room text p) (firstFrom room text (suc p) n)
+unfoldable pub firstFrom : ℕ → List ℕ → ℕ → ℕ → FirstFault
+firstFrom room text p zero = record { before = p; why = none }
+firstFrom room text p (suc n) = orElse p (faultOfByte room text p) (firstFrom room text (suc p) n)
 
-abbrev pub firstFault : ℕ → List ℕ → Stop
+abbrev pub firstFault : ℕ → List ℕ → FirstFault
 firstFault room text = firstFrom room text 0 (length text)
 
 -- "an open line that isn't empty is read likewise and may be refused"
@@ -100,28 +101,22 @@ lineBuffer ls o i [] = []
 lineBuffer ls o i (d ∷ ds) = getD o i (lastAt i d ls) ∷ lineBuffer ls o (suc i) ds
 
 -- "Where nothing is refused, the state's refusal, its line and its place are 0."
-abbrev pub numberOf : Fault → ℕ
-numberOf none = 0
-numberOf (refuse number at) = number
+abbrev pub faultNumber : Fault → ℕ
+faultNumber none = 0
+faultNumber (refuse number at) = number
 
-abbrev pub placeOf : Fault → ℕ
-placeOf none = 0
-placeOf (refuse number at) = at
+abbrev pub faultPlace : Fault → ℕ
+faultPlace none = 0
+faultPlace (refuse number at) = at
 
 -- "its line (LFs read plus 1)"
-abbrev pub lineOf : Fault → ℕ → ℕ
-lineOf none lfs = 0
-lineOf (refuse number at) lfs = lfs + 1
-
--- a state, and both buffers
-pub record Whole : Type 0 where
-  pub state : Upload
-  pub line : List ℕ
-  pub out : List ℕ
+abbrev pub faultLine : Fault → ℕ → ℕ
+faultLine none lfs = 0
+faultLine (refuse number at) lfs = lfs + 1
 
 -- What is left, by the bytes taken, the refusal behind them, whether the upload is ended, and both buffers as first lent: "Taken are the
 -- bytes before the refused one, or all. LFs read are the LFs among them." "used is their length", of the records.
-unfoldable pub left : List ℕ → Fault → Bool → List ℕ → List ℕ → Whole
+unfoldable pub left : List ℕ → Fault → Bool → List ℕ → List ℕ → Lent
 left taken why over line out =
     record {
       state =
@@ -131,35 +126,32 @@ left taken why over line out =
             held = heldOf over taken;
             used = length (recordsOf over taken);
             ended = over;
-            refusal = numberOf why;
-            line = lineOf why (countLF taken);
-            place = placeOf why;
+            refusal = faultNumber why;
+            line = faultLine why (countLF taken);
+            place = faultPlace why;
           };
       line = lineBuffer (cut taken .closed) (cut taken .openLine) 0 line;
       out = front (recordsOf over taken) out;
     }
 
 -- the open line's fault decides: "if nothing is refused, the upload is ended"
-abbrev pub endBy : Fault → List ℕ → List ℕ → List ℕ → Whole
+abbrev pub endBy : Fault → List ℕ → List ℕ → List ℕ → Lent
 endBy none taken line out = left taken none true line out
 endBy (refuse number at) taken line out = left taken (refuse number at) false line out
 
 -- "If there is none and a finish came"
-abbrev pub byFinish : Bool → Fault → List ℕ → List ℕ → List ℕ → Whole
+abbrev pub byFinish : Bool → Fault → List ℕ → List ℕ → List ℕ → Lent
 byFinish false why taken line out = left taken why false line out
 byFinish true (refuse number at) taken line out = left taken (refuse number at) false line out
 byFinish true none taken line out =
     endBy (openFault (length out) (length (records (cut taken .closed))) (cut taken .openLine)) taken line out
 
-abbrev pub byStop : Bool → Stop → List ℕ → List ℕ → List ℕ → Whole
-byStop finish stop text line out = byFinish finish (stop .why) (take (stop .place) text) line out
+abbrev pub byFirst : Bool → FirstFault → List ℕ → List ℕ → List ℕ → Lent
+byFirst finish first text line out = byFinish finish (first .why) (take (first .before) text) line out
 
 -- the J8 Lines definition: the state and both buffers
-unfoldable pub j8Lines : List ℕ → Bool → List ℕ → List ℕ → Whole
-j8Lines text finish line out = byStop finish (firstFault (length out) text) text line out
-
-abbrev pub zeros : Answer
-zeros = record { number = 0; line = 0; place = 0 }
+unfoldable pub j8Lines : List ℕ → Bool → List ℕ → List ℕ → Lent
+j8Lines text finish line out = byFirst finish (firstFault (length out) text) text line out
 
 -- "The answer is the refusal; if there is none, 18 after an earlier finish, else zeros."
 unfoldable pub j8Answer : Upload → Bool → Answer

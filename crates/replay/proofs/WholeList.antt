@@ -6,39 +6,35 @@ use mathlib.Core.Bool.{Bool, true, false}
 use mathlib.Core.List.{List, [], _∷_, _++_, append-assoc, append-nil}
 use mathlib.Core.Path.{_≡_, refl, sym, ap, _∙_}
 use native.Mathlib.Omega.{arith}
-use borrow.Author.Tests.{le-leb}
 use lib.Dec.{eqb, eqb·suc-zero}
 use lib.ListN.{length, take, length-append}
 use lib.Seq.{take-all}
+use Rattle.prelude.specs.Limits.{lineMax}
 use Rattle.prelude.specs.Pick.{pick}
 use Rattle.lines.specs.Line.{readLine, readStripped, strip, trimmed, leads}
 use Rattle.lines.specs.Records.{lineRecord, Fault, none, refuse, lineFault}
-use Rattle.upload.specs.Lines.{cut, countLF, records, firstFrom, firstFault, openFault, Whole, left, endBy, j8Lines, zeros, j8Answer}
-use Rattle.prelude.specs.Limits.{uploadMax, lineMax}
-use Rattle.upload.specs.Calls.{fresh, refused, heldLine, closing, feedByte, feedBytes, endFault, finishBy, finishAll, fitBy, fit, Called, keptAnswer, answerOf, stopBy, guarded, feed, finish, Call, feeds, finishes, call, run, began, joined, finished, earlier, defined}
-use Rattle.upload.proofs.Snoc.{buffer-none}
-use Rattle.upload.proofs.Step.{standing, state-path, whole-path, line-fits, NonZero, line-nonzero, front-put, front-length, Sound, held-open, stop-none, defined-none, defined-refused, Ok, nonzero-at, stays, step, put-length, ok-byte}
+use Rattle.upload.specs.Calls.{Lent, lent, fresh, keepsRefusal, closing, feedBytes, endFault, finishBy, finishAll, fitLent, Called, zeros, keptAnswer, answerOf, stopState, guarded, feed, finish}
+use Rattle.upload.proofs.Kept.{state-path, lent-path, NonZero, line-nonzero, Ok, ok-fit, ok-byte, ok-bytes, ok-finish}
+use Rattle.replay.specs.Lines.{cut, countLF, records, firstFrom, firstFault, openFault, left, endBy, j8Lines, j8Answer}
+use Rattle.replay.specs.Lists.{Call, feeds, finishes, call, run, began, joined, finished, earlier, defined}
+use Rattle.replay.proofs.Snoc.{buffer-none}
+use Rattle.replay.proofs.Step.{standing, front-put, front-length, Roomy, held-open, fault-none, defined-none, defined-refused, nonzero-at, stays, step}
 
 -- the start
-pub begun : (line out : List ℕ) → record { state = fresh; line = line; out = out } ≡ j8Lines [] false line out
+pub begun : (line out : List ℕ) → lent fresh line out ≡ j8Lines [] false line out
 unfolding j8Lines left firstFrom cut countLF records pick
-begun line out = whole-path _ _ refl (sym (buffer-none 0 line)) refl
+begun line out = lent-path _ _ refl (sym (buffer-none 0 line)) refl
 
-ok-fresh : (line out : List ℕ) → lineMax ≤ length line → Ok line out (record { state = fresh; line = line; out = out })
+ok-fresh : (line out : List ℕ) → lineMax ≤ length line → Ok line out (lent fresh line out)
 ok-fresh line out h =
     record { held = omega arith; taken = omega arith; lfs = omega arith; used = omega arith; room = refl; wide = refl; large = h }
 
 -- a piece
-pub ok-bytes : (line out : List ℕ) (m : Whole) (bs : List ℕ) → Ok line out m → Ok line out (feedBytes m bs)
-unfolding feedBytes pick
-ok-bytes line out m [] k = k
-ok-bytes line out m (b ∷ bs) k = ok-bytes line out (feedByte m b) bs (ok-byte line out m b k)
-
 steps : (t line out bs : List ℕ) → Ok line out (j8Lines t false line out) → feedBytes (j8Lines t false line out) bs ≡ j8Lines (t ++ bs) false line out
 unfolding feedBytes pick
 steps t line out [] k = rw (append-nil t)
 steps t line out (b ∷ bs) k =
-    rw (step t line out b k, steps (t ++ (b ∷ [])) line out bs (rw (step t line out b k) at (ok-byte line out (j8Lines t false line out) b k)), append-assoc t (b ∷ []) bs)
+    rw (step t line out b k, steps (t ++ (b ∷ [])) line out bs (rw (step t line out b k) at (ok-byte line out (j8Lines t false line out) k b)), append-assoc t (b ∷ []) bs)
 
 -- the definition's state is fit, at any text
 pub ok-defined : (t line out : List ℕ) → lineMax ≤ length line → Ok line out (j8Lines t false line out)
@@ -46,22 +42,17 @@ ok-defined t line out h =
     let k : Ok line out (j8Lines [] false line out) = rw (begun line out) at (ok-fresh line out h) in
     rw (steps [] line out t k) at (ok-bytes line out (j8Lines [] false line out) t k)
 
-pub ok-fit : (line out : List ℕ) (m : Whole) → Ok line out m → fit m ≡ true
-unfolding fitBy pick
-ok-fit line out m k =
-    rw (le-leb lineMax (length (m .line)) (omega (arith, k .wide, k .large)), le-leb (m .state .held) lineMax (k .held), le-leb (m .state .taken) uploadMax (k .taken), le-leb (m .state .lfs) (m .state .taken) (k .lfs), le-leb (m .state .used) (length (m .out)) (omega (arith, k .used, k .room)))
-
 -- a finish
 pub empty-record : lineRecord [] ≡ []
 unfolding lineRecord readLine readStripped strip trimmed leads
 empty-record = refl
 
-module _ (t line out : List ℕ) (s : Sound t line out) where
+module _ (t line out : List ℕ) (s : Roomy t line out) where
   closes : (r : List ℕ) → lineRecord (cut t .openLine) ≡ r → closing (standing t none line out) r ≡ left t none true line out
   unfolding left
   closes r e =
       rw e
-      (whole-path _ _
+      (lent-path _ _
       (state-path _ _ refl refl refl (omega (arith, length-append (records (cut t .closed)) r)) refl refl refl refl)
       refl
       (front-put (records (cut t .closed)) r out (s .room)))
@@ -74,7 +65,7 @@ module _ (t line out : List ℕ) (s : Sound t line out) where
   unfolding left pick
   held-is = refl
 
-  refuses : (n p : ℕ) → refused (standing t none line out) n p ≡ standing t (refuse n p) line out
+  refuses : (n p : ℕ) → keepsRefusal (standing t none line out) n p ≡ standing t (refuse n p) line out
   unfolding left pick
   refuses n p = refl
 
@@ -92,32 +83,6 @@ module _ (t line out : List ℕ) (s : Sound t line out) where
       let q : eqb (length (cut t .openLine)) 0 ≡ false = rw e (eqb·suc-zero (length bs)) in
       rw (end-fault, q, e) (ends-open (lineFault (length out) (length (records (cut t .closed))) (b ∷ bs)) q)
 
--- finishing keeps what is Ok
-module _ (line out : List ℕ) (m : Whole) (k : Ok line out m) where
-  ok-closing : (r : List ℕ) → m .state .used + length r ≤ length out → Ok line out (closing m r)
-  ok-closing r h =
-      record {
-        held = omega arith;
-        taken = k .taken;
-        lfs = k .lfs;
-        used = h;
-        room = put-length line out m 0 k r h;
-        wide = k .wide;
-        large = k .large;
-      }
-
-  ok-finish-by : (z : Bool) (f : Fault) → pick z none (lineFault (length (m .out)) (m .state .used) (heldLine m)) ≡ f → eqb (m .state .held) 0 ≡ z → Ok line out (finishBy f m)
-  unfolding pick
-  ok-finish-by true none e q = rw q (ok-closing [] (omega (arith, k .used)))
-  ok-finish-by false none e q =
-      rw q (ok-closing (lineRecord (heldLine m)) (omega (arith, line-fits (length (m .out)) (m .state .used) (heldLine m) (omega (arith, k .used, k .room)) e, k .room)))
-  ok-finish-by z (refuse n p) e q =
-      record { held = k .held; taken = k .taken; lfs = k .lfs; used = k .used; room = k .room; wide = k .wide; large = k .large }
-
-  ok-finish : Ok line out (finishAll m)
-  unfolding finishAll pick
-  ok-finish = ok-finish-by (eqb (m .state .held) 0) (endFault m) refl refl
-
 -- the answers
 answer-standing : (t : List ℕ) (f : Fault) (line out : List ℕ) → NonZero f → keptAnswer (standing t f line out .state) ≡ j8Answer (standing t f line out .state) false
 unfolding left j8Answer pick
@@ -126,7 +91,7 @@ answer-standing t (refuse n p) line out z = rw z
 
 -- What the definition says after the calls so far: the joined text, whether a finish came, and whether one came before the last call.
 abbrev pub says : List ℕ → Bool → Bool → List ℕ → List ℕ → Called
-says t fin e line out = record { whole = j8Lines t fin line out; answer = j8Answer (j8Lines t fin line out .state) e }
+says t fin e line out = record { lent = j8Lines t fin line out; answer = j8Answer (j8Lines t fin line out .state) e }
 
 stays-all : (t line out : List ℕ) (n p : ℕ) (bs : List ℕ) → eqb n 0 ≡ false → feedBytes (standing t (refuse n p) line out) bs ≡ standing t (refuse n p) line out
 unfolding feedBytes pick
@@ -134,12 +99,12 @@ stays-all t line out n p [] z = refl
 stays-all t line out n p (b ∷ bs) z = rw (stays t line out n p b z) (stays-all t line out n p bs z)
 
 -- a call with nothing refused so far, and one after a refusal
-guard-none : (t line out : List ℕ) (d : Whole) → fit (standing t none line out) ≡ true → guarded (standing t none line out) d ≡ record { whole = d; answer = j8Answer (d .state) false }
-unfolding left j8Answer answerOf stopBy pick
+guard-none : (t line out : List ℕ) (d : Lent) → fitLent (standing t none line out) ≡ true → guarded (standing t none line out) d ≡ record { lent = d; answer = j8Answer (d .state) false }
+unfolding left j8Answer answerOf stopState pick
 guard-none t line out d f = rw f
 
-guard-refused : (t line out : List ℕ) (n p : ℕ) (d : Whole) → eqb n 0 ≡ false → fit (standing t (refuse n p) line out) ≡ true → guarded (standing t (refuse n p) line out) d ≡ record { whole = standing t (refuse n p) line out; answer = keptAnswer (standing t (refuse n p) line out .state) }
-unfolding left stopBy pick
+guard-refused : (t line out : List ℕ) (n p : ℕ) (d : Lent) → eqb n 0 ≡ false → fitLent (standing t (refuse n p) line out) ≡ true → guarded (standing t (refuse n p) line out) d ≡ record { lent = standing t (refuse n p) line out; answer = keptAnswer (standing t (refuse n p) line out .state) }
+unfolding left stopState pick
 guard-refused t line out n p d z f = rw (f, z) (rw z)
 
 module _ (t line out : List ℕ) (h : lineMax ≤ length line) where
@@ -153,7 +118,7 @@ module _ (t line out : List ℕ) (h : lineMax ≤ length line) where
       let k = ok-defined t line out h in
       let q = defined-refused t line out n p e in
       let z = nonzero-at (length out) t n p e in
-      let T = take (firstFault (length out) t .place) t in
+      let T = take (firstFault (length out) t .before) t in
       let same : j8Lines (t ++ piece) false line out ≡ standing T (refuse n p) line out =
       sym (steps t line out piece k) ∙ ap (λ m. feedBytes m piece) q ∙ stays-all T line out n p piece z in
       rw (steps t line out piece k, q, same, guard-refused T line out n p (standing T (refuse n p) line out) z (rw q at (ok-fit line out _ k)), answer-standing T (refuse n p) line out z)
@@ -164,14 +129,14 @@ module _ (t line out : List ℕ) (h : lineMax ≤ length line) where
 -- the definition with a finish
 pub ended-none : (t line out : List ℕ) → firstFault (length out) t .why ≡ none → j8Lines t true line out ≡ endBy (openFault (length out) (length (records (cut t .closed))) (cut t .openLine)) t line out
 unfolding j8Lines pick
-ended-none t line out e = rw (stop-none (length out) t e, take-all (length t) t (omega arith))
+ended-none t line out e = rw (fault-none (length out) t e, take-all (length t) t (omega arith))
 
-pub ended-refused : (t line out : List ℕ) (n p : ℕ) → firstFault (length out) t .why ≡ refuse n p → j8Lines t true line out ≡ standing (take (firstFault (length out) t .place) t) (refuse n p) line out
+pub ended-refused : (t line out : List ℕ) (n p : ℕ) → firstFault (length out) t .why ≡ refuse n p → j8Lines t true line out ≡ standing (take (firstFault (length out) t .before) t) (refuse n p) line out
 unfolding j8Lines pick
 ended-refused t line out n p e = rw e
 
 -- After a finish: refused, or ended.
-abbrev pub Settled : Whole → Type 0
+abbrev pub Settled : Lent → Type 0
 Settled m = pick (eqb (m .state .refusal) 0) (m .state .ended) true ≡ true
 
 settled-over : (t line out : List ℕ) → Settled (left t none true line out)
@@ -193,8 +158,8 @@ open-nonzero room used (b ∷ bs) = line-nonzero room used (b ∷ bs)
 end-of : (t line out o : List ℕ) → Settled (endBy (openFault (length out) (length (records (cut t .closed))) o) t line out)
 end-of t line out o = end-by t line out (openFault (length out) (length (records (cut t .closed))) o) (open-nonzero (length out) (length (records (cut t .closed))) o)
 
-settled-guard : (m d : Whole) → fit m ≡ true → (k : Bool) → eqb (m .state .refusal) 0 ≡ k → pick k (m .state .ended) true ≡ true → guarded m d ≡ record { whole = m; answer = j8Answer (m .state) true }
-unfolding j8Answer stopBy pick
+settled-guard : (m d : Lent) → fitLent m ≡ true → (k : Bool) → eqb (m .state .refusal) 0 ≡ k → pick k (m .state .ended) true ≡ true → guarded m d ≡ record { lent = m; answer = j8Answer (m .state) true }
+unfolding j8Answer stopState pick
 settled-guard m d f true e s = rw (f, e, s)
 settled-guard m d f false e s = rw (f, e) (rw e)
 
@@ -205,7 +170,7 @@ module _ (t line out : List ℕ) (h : lineMax ≤ length line) where
       let k = ok-defined t line out h in
       let q = defined-none t line out e in
       let k′ : Ok line out (standing t none line out) = rw q at k in
-      let s : Sound t line out = record { room = unfold left in k′ .used; short = unfold left in k′ .held; large = k′ .large } in
+      let s : Roomy t line out = record { room = unfold left in k′ .used; short = unfold left in k′ .held; large = k′ .large } in
       let en = end-of t line out (cut t .openLine) in
       let done : finishAll (standing t none line out) ≡ endBy (openFault (length out) (length (records (cut t .closed))) (cut t .openLine)) t line out = ends t line out s (cut t .openLine) refl in (
         rw (q, ended-none t line out e, guard-none t line out (finishAll (standing t none line out)) (ok-fit line out _ k′), done),
@@ -216,7 +181,7 @@ module _ (t line out : List ℕ) (h : lineMax ≤ length line) where
       let q = defined-refused t line out n p e in
       let r = ended-refused t line out n p e in
       let z = nonzero-at (length out) t n p e in
-      let T = take (firstFault (length out) t .place) t in
+      let T = take (firstFault (length out) t .before) t in
       let k′ : Ok line out (standing T (refuse n p) line out) = rw q at k in
       let a = answer-standing T (refuse n p) line out z in (
         rw (q, r, guard-refused T line out n p (finishAll (standing T (refuse n p) line out)) z (ok-fit line out _ k′), a),
@@ -227,7 +192,7 @@ module _ (t line out : List ℕ) (h : lineMax ≤ length line) where
   finish-call = ended-by (firstFault (length out) t .why) refl .0
 
   -- after a finish every call changes nothing
-  after-guard : (d : Whole) → guarded (j8Lines t true line out) d ≡ says t true true line out
+  after-guard : (d : Lent) → guarded (j8Lines t true line out) d ≡ says t true true line out
   after-guard d =
       let x = ended-by (firstFault (length out) t .why) refl .1 in
       settled-guard (j8Lines t true line out) d (ok-fit line out _ (x .0)) (eqb (j8Lines t true line out .state .refusal) 0) refl (x .1)

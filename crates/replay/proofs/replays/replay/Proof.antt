@@ -1,24 +1,25 @@
 -- The invariant: running the calls still to come from here gives what the whole list gives; `whole-list` makes it the definition's.
 -- Assumes nothing.
-use Rattle.upload.proofs.replays.replay.Statement.{statement}
-use Rattle.upload.proofs.replays.replay.Tie as tie
+use Rattle.replay.proofs.replays.replay.Statement.{statement}
+use Rattle.replay.proofs.replays.replay.Tie as tie
 use Prim.Native.Nat.{_-_, _≤_}
 use mathlib.Core.Path.{_≡_, refl, _∙_}
 use native.Mathlib.Omega.{arith}
 use lib.ListN.{length, drop}
-use Rattle.upload.specs.Calls.{whole, run, began, decode}
-use Rattle.upload.proofs.WholeList.{whole-list}
-use Rattle.upload.proofs.Playing.{play-first, play-next, play-last}
+use Rattle.upload.specs.Calls.{lent}
+use Rattle.replay.specs.Lists.{run, began, decode}
+use Rattle.replay.proofs.WholeList.{whole-list}
+use Rattle.replay.proofs.Playing.{play-first, play-next, play-last}
 
 abbrev Inv-loop : tie.InvT-loop
-Inv-loop text cuts line₀ out₀ state₀ answer₀ at₀ i₀ line out state answer at i =
-    (i ≤ length cuts) × (at ≤ length text)
-    × (run (began line₀ out₀) (decode text cuts) ≡ run (record { whole = whole state line out; answer = answer }) (decode (drop at text) (drop i cuts)))
+Inv-loop text plan line₀ out₀ state₀ answer₀ at₀ i₀ line out state answer at i =
+    (i ≤ length plan) × (at ≤ length text)
+    × (run (began line₀ out₀) (decode text plan) ≡ run (record { lent = lent state line out; answer = answer }) (decode (drop at text) (drop i plan)))
     × (length line ≡ length line₀) × (length out ≡ length out₀)
 
 abbrev μ-loop : tie.MeasureT-loop
-μ-loop text cuts line₀ out₀ state₀ answer₀ at₀ i₀ line out state answer at i =
-    length cuts - i
+μ-loop text plan line₀ out₀ state₀ answer₀ at₀ i₀ line out state answer at i =
+    length plan - i
 
 fresh-requires : tie.Need-fresh-requires Inv-loop μ-loop
 fresh-requires c κs =
@@ -62,7 +63,7 @@ same-length-2 c =
 
 returns : tie.Need-returns Inv-loop μ-loop
 returns c =
-    let e = play-last _ _ (c .before .before .before .before .before .before .before .args .text .now) (c .before .before .before .before .before .before .before .args .cuts .now) (c .before .loop .at) (c .before .loop .i) (c .loop-test .left) (c .before .loop .inv .2) in
+    let e = play-last _ _ (c .before .before .before .before .before .before .before .args .text .now) (c .before .before .before .before .before .before .before .args .plan .now) (c .before .loop .at) (c .before .loop .i) (c .loop-test .left) (c .before .loop .inv .2) in
     (e, λ h. e ∙ whole-list _ _ _ h)
 
 pub replay-spec : {M : Type 1} → statement M

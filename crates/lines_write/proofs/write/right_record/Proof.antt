@@ -1,8 +1,8 @@
--- The two tests are those of `sound`, on the payload as a part of the records (LineTexts).
+-- The two tests are those of `rightRecord`, on the payload as a part of the records (LineTexts).
 -- Assumes nothing.
 use borrow.Author.Needs.{needs}
-use Rattle.lines_write.proofs.write.sound_at.Statement.{statement}
-use Rattle.lines_write.proofs.write.sound_at.Tie as tie
+use Rattle.lines_write.proofs.write.right_record.Statement.{statement}
+use Rattle.lines_write.proofs.write.right_record.Tie as tie
 use native.Mathlib.Omega.{arith}
 use denote.Ref.{now}
 use Rattle.lines_write.proofs.LineTexts.{cut-short, kind-told}
@@ -48,8 +48,8 @@ returns-2 : tie.Need-returns-2
 returns-2 c =
     kind-told (now (c .before .before .before .before .before .before .args .s)) _ _ (c .before .before .before .before .before .before .pre .1) (c .before .before .before .before .number-at .ensures .0) _ _ (omega arith) (c .before .kind-in .ensures) (c .number-at2 .ensures .0)
 
-pub sound-at-spec : {M : Type 1} → statement M
-sound-at-spec =
+pub right-record-spec : {M : Type 1} → statement M
+right-record-spec =
     tie.close
     (tie.spec
     number-at-requires

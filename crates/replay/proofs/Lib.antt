@@ -1,0 +1,4 @@
+pub mod Snoc
+pub mod Step
+pub mod WholeList
+pub mod Playing
