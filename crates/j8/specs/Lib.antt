@@ -1,3 +1,4 @@
 pub mod Results
 pub mod Uploads
 pub mod Tables
+pub mod Claims

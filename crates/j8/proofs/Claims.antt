@@ -1,0 +1,103 @@
+-- The claims of specs/Claims.antt: a struct's fields tell the cases apart, and each case has its own fields.
+-- Assumes nothing.
+use Prim.Native.Nat.{ℕ}
+use mathlib.Core.Bool.{Bool, true, false}
+use mathlib.Core.List.{List}
+use mathlib.Core.Path.{_≡_, refl, sym, ap, _∙_}
+use native.Mathlib.Omega.{arith}
+use lib.Dec.{eqb}
+use lib.ListN.{length}
+use Rattle.prelude.specs.Pick.{pick}
+use Rattle.prelude.proofs.Cases.{split, never}
+use Rattle.strings.specs.Read.{StringRead, accepted, refused}
+use Rattle.lines_write.specs.declared.write.WroteLines.{WroteLines}
+use Rattle.lines_write.specs.declared.write.WroteLines.the-variants as lines
+use Rattle.json8.specs.declared.answers.Parsed.{Parsed}
+use Rattle.json8.specs.declared.answers.Parsed.the-variants as parsed
+use Rattle.json8_show.specs.declared.show.Shown.{Shown}
+use Rattle.json8_show.specs.declared.show.Shown.the-variants.{InText, InStore, Nowhere}
+use Rattle.json8_write.specs.declared.answers.WroteTable.{WroteTable}
+use Rattle.json8_write.specs.declared.answers.WroteTable.the-variants as tables
+use Rattle.upload.specs.declared.uploads.Upload.{Upload}
+use Rattle.upload.specs.declared.uploads.Answer.{Answer}
+use Rattle.upload.specs.declared.uploads.Fed.{Fed}
+use Rattle.j8.specs.declared.J8Result.{J8Result}
+use Rattle.j8.specs.declared.tables.J8Nodes.{J8Nodes}
+use Rattle.j8.specs.declared.tables.J8Shown.{J8Shown}
+use Rattle.j8.specs.declared.uploads.J8Upload.{J8Upload}
+use Rattle.j8.specs.declared.uploads.J8Fed.{J8Fed}
+use Rattle.j8.specs.Results.{readResult, linesResult}
+use Rattle.j8.specs.Uploads.{isEnded, endedNumber, stateWith, stateOf, uploadWith, uploadOf, answerOf, fedFrom}
+use Rattle.j8.specs.Tables.{nodesResult, shownResult, tableResult}
+use Rattle.j8.specs.Claims.{States-Return, Structs-Return, Fed-Tells-All, ReadNumbered, LinesNumbered, NodesNumbered, TableNumbered, SameRead, Results-Tell-All}
+
+-- whether an upload is ended, there and back
+over-back : (b : Bool) → isEnded (endedNumber b) ≡ b
+unfolding isEnded endedNumber pick
+over-back true = refl
+over-back false = refl
+
+number-back : (n : ℕ) → endedNumber (isEnded n) ≡ pick (eqb n 0) 0 1
+unfolding isEnded endedNumber pick
+number-back n = split (eqb n 0) (λ e. rw e) (λ e. rw e)
+
+pub states-return : States-Return
+states-return s = ap (stateWith (uploadOf s)) (over-back (s .ended))
+
+pub structs-return : Structs-Return
+structs-return u = ap (uploadWith (stateOf u)) (number-back (u .ended))
+
+pub fed-tells-all : Fed-Tells-All
+fed-tells-all f g e =
+    let s : f .state ≡ g .state =
+    sym (states-return (f .state)) ∙ ap (λ (r : J8Fed). stateOf (r .upload)) e ∙ states-return (g .state) in
+    let n : f .answer .number ≡ g .answer .number = ap (λ (r : J8Fed). r .answer .number) e in
+    let l : f .answer .line ≡ g .answer .line = ap (λ (r : J8Fed). r .answer .line) e in
+    let p : f .answer .place ≡ g .answer .place = ap (λ (r : J8Fed). r .answer .place) e in
+    λ i. record { state = s i; answer = record { number = n i; line = l i; place = p i } }
+
+-- strings
+read-tells : (v w : StringRead) → ReadNumbered v → ReadNumbered w → readResult v ≡ readResult w → SameRead v w
+read-tells (accepted bs e) (accepted cs f) x y p = ap (λ (r : J8Result). r .length) p
+read-tells (accepted bs e) (refused number at) x y p = y (sym (ap (λ (r : J8Result). r .number) p))
+read-tells (refused number at) (accepted bs e) x y p = x (ap (λ (r : J8Result). r .number) p)
+read-tells (refused number at) (refused other place) x y p = (ap (λ (r : J8Result). r .number) p, ap (λ (r : J8Result). r .place) p)
+
+-- lines
+lines-tells : (v w : WroteLines) → LinesNumbered v → LinesNumbered w → linesResult v ≡ linesResult w → v ≡ w
+lines-tells (lines.Wrote n) (lines.Wrote m) x y p = ap lines.Wrote (ap (λ (r : J8Result). r .length) p)
+lines-tells (lines.Wrote n) (lines.Refused number) x y p = absurd (y (sym (ap (λ (r : J8Result). r .number) p)))
+lines-tells (lines.Refused number) (lines.Wrote n) x y p = absurd (x (ap (λ (r : J8Result). r .number) p))
+lines-tells (lines.Refused number) (lines.Refused other) x y p = ap lines.Refused (ap (λ (r : J8Result). r .number) p)
+
+-- tables
+nodes-tells : (v w : Parsed) → NodesNumbered v → NodesNumbered w → nodesResult v ≡ nodesResult w → v ≡ w
+nodes-tells (parsed.Done n m) (parsed.Done k l) x y p =
+    let a : n ≡ k = ap (λ (r : J8Nodes). r .nodes) p in let b : m ≡ l = ap (λ (r : J8Nodes). r .stored) p in λ i. parsed.Done (a i) (b i)
+nodes-tells (parsed.Done n m) (parsed.Refused number place) x y p = absurd (y (sym (ap (λ (r : J8Nodes). r .number) p)))
+nodes-tells (parsed.Refused number place) (parsed.Done n m) x y p = absurd (x (ap (λ (r : J8Nodes). r .number) p))
+nodes-tells (parsed.Refused number place) (parsed.Refused other q) x y p =
+    let a : number ≡ other = ap (λ (r : J8Nodes). r .number) p in
+    let b : place ≡ q = ap (λ (r : J8Nodes). r .place) p in λ i. parsed.Refused (a i) (b i)
+
+table-tells : (v w : WroteTable) → TableNumbered v → TableNumbered w → tableResult v ≡ tableResult w → v ≡ w
+table-tells (tables.Wrote n) (tables.Wrote m) x y p = ap tables.Wrote (ap (λ (r : J8Result). r .length) p)
+table-tells (tables.Wrote n) (tables.Refused number) x y p = absurd (y (sym (ap (λ (r : J8Result). r .number) p)))
+table-tells (tables.Refused number) (tables.Wrote n) x y p = absurd (x (ap (λ (r : J8Result). r .number) p))
+table-tells (tables.Refused number) (tables.Refused other) x y p = ap tables.Refused (ap (λ (r : J8Result). r .number) p)
+
+shown-tells : (v w : Shown) → shownResult v ≡ shownResult w → v ≡ w
+shown-tells (InText a b) (InText c d) p =
+    let x : a ≡ c = ap (λ (r : J8Shown). r .place) p in let y : b ≡ d = ap (λ (r : J8Shown). r .length) p in λ i. InText (x i) (y i)
+shown-tells (InStore a b) (InStore c d) p =
+    let x : a ≡ c = ap (λ (r : J8Shown). r .place) p in let y : b ≡ d = ap (λ (r : J8Shown). r .length) p in λ i. InStore (x i) (y i)
+shown-tells Nowhere Nowhere p = refl
+shown-tells (InText a b) (InStore c d) p = let z : _≡_ {A = ℕ} 0 1 = ap (λ (r : J8Shown). r .stored) p in absurd (omega arith)
+shown-tells (InStore a b) (InText c d) p = let z : _≡_ {A = ℕ} 1 0 = ap (λ (r : J8Shown). r .stored) p in absurd (omega arith)
+shown-tells (InText a b) Nowhere p = let z : _≡_ {A = ℕ} 0 1 = ap (λ (r : J8Shown). r .number) p in absurd (omega arith)
+shown-tells (InStore a b) Nowhere p = let z : _≡_ {A = ℕ} 0 1 = ap (λ (r : J8Shown). r .number) p in absurd (omega arith)
+shown-tells Nowhere (InText a b) p = let z : _≡_ {A = ℕ} 1 0 = ap (λ (r : J8Shown). r .number) p in absurd (omega arith)
+shown-tells Nowhere (InStore a b) p = let z : _≡_ {A = ℕ} 1 0 = ap (λ (r : J8Shown). r .number) p in absurd (omega arith)
+
+pub results-tell-all : Results-Tell-All
+results-tell-all = (read-tells, lines-tells, nodes-tells, table-tells, shown-tells)
