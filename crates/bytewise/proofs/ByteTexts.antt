@@ -14,7 +14,7 @@ use lib.ListN.{length, getD, take, drop, set, length-append, length-drop, length
 use Rattle.prelude.proofs.Tables.{allBelow, at-below}
 use lib.Seq.{sets, length-sets, set-set, drop-cons, drop-drop, take-add, take-suc, length-take-le, getD-drop}
 use Rattle.prelude.specs.Pick.{pick}
-use Rattle.prelude.proofs.Cases.{split, never}
+use Rattle.prelude.proofs.Cases.{split, never, or-left, or-right}
 use Rattle.prelude.proofs.Picks.{pick-case}
 use Rattle.prelude.proofs.Stores.{sets-append, copied}
 use Rattle.utf8.specs.Class.{classOf}
@@ -26,14 +26,6 @@ use Rattle.bytewise.specs.inner.Bytewise.{byteText, bytesText, textOf, U
 
 pub or-none : (a b : Bool) → a ≡ false → b ≡ false → a || b ≡ false
 or-none a b e f = rw (e, f)
-
-or-left : (a b : Bool) → a || b ≡ false → a ≡ false
-or-left true b e = e
-or-left false b e = refl
-
-or-right : (a b : Bool) → a || b ≡ false → b ≡ false
-or-right true b e = let z : _≡_ {A = Bool} true false = e in cc
-or-right false b e = e
 
 -- one byte
 

@@ -12,7 +12,7 @@ use lib.Seq.{drop-cons, getD-drop}
 use borrow.Author.Count.{below-more}
 use borrow.Author.Tests.{ltb-true, ltb-false, leb-true, leb-false, eqb-false, le-ltb, lt-ltb, ne-eqb, le-leb, lt-leb}
 use Rattle.prelude.specs.Pick.{pick}
-use Rattle.prelude.proofs.Cases.{split, never}
+use Rattle.prelude.proofs.Cases.{split, or-left, or-right, never}
 use Rattle.utf8.specs.Class.{classOf}
 use Rattle.utf8.specs.Utf8.{tail, twoBytes, longLen, lenBy, charLen}
 use Rattle.utf8.proofs.Characters.{ascii-len}
@@ -23,14 +23,6 @@ use Rattle.units.specs.Units.{literalLen}
 use Rattle.runs.specs.inner.Blocks.{Running, Alone, Paired, AllAlone, AllPaired, taken}
 use Rattle.units.proofs.LiteralClasses.{two-bytes}
 use Rattle.runs.proofs.LiteralRuns.{here, moved}
-
-pub or-left : (a b : Bool) → a || b ≡ false → a ≡ false
-or-left true b e = e
-or-left false b e = refl
-
-pub or-right : (a b : Bool) → a || b ≡ false → b ≡ false
-or-right true b e = let z : _≡_ {A = Bool} true false = e in cc
-or-right false b e = e
 
 pub same-test : (a b : Bool) → not (Bool·beq a b) ≡ false → a ≡ b
 same-test true true e = refl
@@ -236,6 +228,21 @@ module _ (st : Style) (s : List ℕ) (from : ℕ) (q : ℕ) (eq : q ≡ quote st
 
   pub over-byte : from < length s → Alone q (getD s from 0) → Running st s from (from + 1)
   over-byte h a = over-one from (here st s from (omega arith)) h a
+
+-- two blocks of n bytes that hold all of a text in `""` from a place on but its last byte, for each n
+module _ (n : ℕ) {s : List ℕ} {from : ℕ} (h : (from + n < length s) × (length s ≤ from + (n + n + 1))) where
+  pub two-alone : {a b : Bool} → (a ≡ false → AllAlone 34 s from n) → (b ≡ false → AllAlone 34 s (length s - 1 - n) n) → a || b ≡ false
+      → Running Json s from (length s - 1)
+  two-alone {a} {b} f g e =
+      over-two Json s from 34 refl from (length s - 1 - n) n (length s - 1) (omega (arith, h)) (omega (arith, h)) (omega arith) (omega (arith, h)) (omega arith)
+      (f (or-left a b e)) (g (or-right a b e))
+
+  pub two-paired : {t a b : Bool} {r : ℕ} → t ≡ tail (getD s from 0) → t ≡ false
+      → (a ≡ false → AllPaired 34 s from n) → (b ≡ false → AllPaired 34 s (length s - 1 - n) n) → a || b ≡ false
+      → r ≡ length s - 1 + taken (tail (getD s (length s - 1) 0)) → Running Json s from r
+  two-paired {t} {a} {b} {r} u v f g e w =
+      over-two-pairs Json s from 34 refl from (length s - 1 - n) n (length s - 1) (omega (arith, h)) (omega (arith, h)) (omega arith) (omega (arith, h)) r t (omega (arith, h)) u v
+      (f (or-left a b e)) (g (or-right a b e)) w
 
 -- a lead of two bytes and a continuation
 pub over-lead : (st : Style) (s : List ℕ) (from at : ℕ) → Running st s from at → at < length s → 0xc2 ≤ getD s at 0 → getD s at 0 < 0xe0

@@ -11,7 +11,7 @@ use lib.ListN.{length, getD, drop}
 use lib.Seq.{getD-drop}
 use borrow.Author.Tests.{ltb-true, ltb-false, leb-true, leb-false, eqb-true, eqb-false, le-ltb, lt-ltb, ne-eqb, le-leb, lt-leb}
 use Rattle.prelude.specs.Pick.{pick}
-use Rattle.prelude.proofs.Cases.{split, never, and-left, and-right}
+use Rattle.prelude.proofs.Cases.{split, never, and-left, and-right, or-left, or-right}
 use Rattle.utf8.specs.Class.{classOf}
 use Rattle.utf8.specs.Utf8.{tail, lowOf, highOf, threeBytes, longLen, lenBy, charLen}
 use Rattle.units.specs.declared.styles.Style.{Style}
@@ -19,7 +19,7 @@ use Rattle.units.specs.Styles.{quote}
 use Rattle.units.specs.Units.{literalLen}
 use Rattle.runs.specs.inner.Blocks.{Running, Tripled, AllTripled, Begun, owed}
 use Rattle.runs.proofs.LiteralRuns.{moved}
-use Rattle.runs.proofs.BlockLaws.{or-left, or-right, same-test, tail-ascii, tail-is, tail-lead, two-len, char-at, one-char}
+use Rattle.runs.proofs.BlockLaws.{same-test, tail-ascii, tail-is, tail-lead, two-len, char-at, one-char}
 
 -- the tests
 

@@ -43,7 +43,7 @@ fn singles(s: &[u8], from: usize, style: Style) -> usize
 }
 
 // Two blocks of eight with characters of two bytes.
-fn paired_eights(s: &[u8], from: usize) -> usize
+fn two_paired_eights(s: &[u8], from: usize) -> usize
     requires { ⌜ (from + 8 < length (now s)) × (length (now s) ≤ from + 17) ⌝ }
     ensures { λ r. ⌜ Running Json (now (s .entry)) from r ⌝ }
 {
@@ -58,19 +58,19 @@ fn paired_eights(s: &[u8], from: usize) -> usize
 }
 
 // Two blocks of eight; ASCII is cheapest, so it comes first.
-fn eights(s: &[u8], from: usize) -> usize
+fn two_eights(s: &[u8], from: usize) -> usize
     requires { ⌜ (from + 8 < length (now s)) × (length (now s) ≤ from + 17) ⌝ }
     ensures { λ r. ⌜ Running Json (now (s .entry)) from r ⌝ }
 {
     let last = s.len() - 1;
     if blocks::any_odd(34, s, from, 8) | blocks::any_odd(34, s, last - 8, 8) {
-        return paired_eights(s, from);
+        return two_paired_eights(s, from);
     }
     last
 }
 
 // The same by two blocks of sixteen.
-fn paired_sixteens(s: &[u8], from: usize) -> usize
+fn two_paired_sixteens(s: &[u8], from: usize) -> usize
     requires { ⌜ (from + 16 < length (now s)) × (length (now s) ≤ from + 33) ⌝ }
     ensures { λ r. ⌜ Running Json (now (s .entry)) from r ⌝ }
 {
@@ -84,13 +84,13 @@ fn paired_sixteens(s: &[u8], from: usize) -> usize
     blocks::behind(s, last)
 }
 
-fn sixteens(s: &[u8], from: usize) -> usize
+fn two_sixteens(s: &[u8], from: usize) -> usize
     requires { ⌜ (from + 16 < length (now s)) × (length (now s) ≤ from + 33) ⌝ }
     ensures { λ r. ⌜ Running Json (now (s .entry)) from r ⌝ }
 {
     let last = s.len() - 1;
     if blocks::any_odd(34, s, from, 16) | blocks::any_odd(34, s, last - 16, 16) {
-        return paired_sixteens(s, from);
+        return two_paired_sixteens(s, from);
     }
     last
 }
@@ -105,9 +105,9 @@ fn json(s: &[u8], from: usize) -> usize
         return singles(s, from, Style::Json);
     }
     if n < 18 {
-        return eights(s, from);
+        return two_eights(s, from);
     }
-    sixteens(s, from)
+    two_sixteens(s, from)
 }
 
 // A place behind literal characters only, where up to 33 bytes are left.

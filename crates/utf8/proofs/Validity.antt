@@ -6,24 +6,17 @@ use mathlib.Core.List.{List}
 use Prim.Native.Nat.{ℕ, zero, suc, _+_, _-_, _≤_, _<_}
 use native.Mathlib.Omega.{arith}
 use borrow.Author.Count.{below-more}
-use borrow.Author.Tests.{leb-false, ltb-true, ltb-false}
-use lib.Dec.{leb, ltb}
+use borrow.Author.Tests.{leb-false}
+use lib.Dec.{leb}
 use lib.ListN.{length, getD, drop, length-drop, drop-of-length-le}
 use lib.Seq.{drop-drop, drop-cons}
-use Rattle.prelude.proofs.Cases.{split}
+use Rattle.prelude.proofs.Cases.{or-left, or-right}
+use Rattle.prelude.proofs.Rest.{advances}
 use Rattle.utf8.specs.Class.{classOf}
 use Rattle.utf8.specs.Utf8.{longLen, charLen, validFrom}
 use Rattle.utf8.specs.inner.Checks.{AllAscii, Checked, CheckedUntil}
 use Rattle.utf8.proofs.CharSteps.{one-byte, lone-tail, long-char}
 use Rattle.utf8.proofs.Characters.{char-le, valid-step, valid-stuck, ascii-len}
-
-or-left : (a b : Bool) → a || b ≡ false → a ≡ false
-or-left true b e = e
-or-left false b e = refl
-
-or-right : (a b : Bool) → a || b ≡ false → b ≡ false
-or-right true b e = let z : _≡_ {A = Bool} true false = e in cc
-or-right false b e = e
 
 -- one byte more of a block of ASCII
 pub ascii-more : (s : List ℕ) (at n : ℕ) (a : Bool) → (a ≡ false → AllAscii s at n) → a || leb 0x7f (getD s (at + n) 0) ≡ false → AllAscii s at (n + 1)
@@ -84,14 +77,24 @@ all-on s from end at k h = record { checked = k; stop = λ l. absurd (omega arit
 
 -- the whole check
 module _ (s : List ℕ) (at : ℕ) (k : Checked s 0 at) where
-  pub stuck : at < length s → charLen (drop at s) ≡ 0 → false ≡ validFrom 0 s
+  stuck : at < length s → charLen (drop at s) ≡ 0 → false ≡ validFrom 0 s
   stuck h e = sym (sym (k .same) ∙ valid-stuck (drop at s) (rw (length-drop at s) (omega arith)) e)
 
   pub ended : length s ≤ at → true ≡ validFrom 0 s
   unfolding validFrom
   ended h = sym (sym (k .same) ∙ ap (validFrom 0) (drop-of-length-le s h))
 
--- a turn brings less to do
-pub advances : (n at mid end next : ℕ) → at < n → at ≤ mid → (mid < n → mid < end) → mid ≤ next → end ≤ next → next ≤ n → n - next < n - at
-advances n at mid end next a b c d e f =
-    split (ltb mid n) (λ l. omega (arith, c (ltb-true mid n l))) (λ l. omega (arith, ltb-false mid n l))
+-- a turn of its loop, whatever the blocks' width: blocks of ASCII up to mid, and then the characters that begin before end
+module _ {s : List ℕ} {at mid end next : ℕ} (k : Checked s 0 at) (a : Checked s at mid)
+    (b : (end ≤ length s) × (mid < length s → mid < end)) (u : CheckedUntil s mid end next) where
+  turned : Checked s 0 next
+  turned = further s 0 mid next (further s 0 at mid k a) (u .checked)
+
+  pub turn-stuck : next < end → false ≡ validFrom 0 s
+  turn-stuck h = stuck s next turned (omega (arith, b .0)) (u .stop h)
+
+  pub turn-on : end ≤ next → Checked s 0 next
+  turn-on h = turned
+
+  pub turn-less : at < length s → end ≤ next → length s - next < length s - at
+  turn-less l h = advances (length s) at mid end next l (a .onward) (b .1) (u .checked .onward) h (u .checked .inside)

@@ -212,17 +212,6 @@ fn chars_until(t: &[u8; 256], s: &[u8], from: usize, end: usize) -> usize
     at
 }
 
-// A place k bytes on, or the end.
-fn block_on(n: usize, at: usize, k: usize) -> usize
-    requires { ⌜ (at ≤ n) × (0 < k) ⌝ }
-    ensures { λ r. ⌜ (r ≤ n) × (at < n → at < r) ⌝ }
-{
-    if n - at < k {
-        return n;
-    }
-    at + k
-}
-
 // Whether a text is valid UTF-8, with the table lent. What ends the blocks is passed one by one, and then they are tried again.
 pub fn valid_in(t: &[u8; 256], s: &[u8]) -> bool
     requires { ⌜ IsTable (now t) ⌝ }
@@ -231,7 +220,7 @@ pub fn valid_in(t: &[u8; 256], s: &[u8]) -> bool
     let mut at = 0;
     while at < s.len() {
         let mid = ascii_blocks(s, at, 16);
-        let end = block_on(s.len(), mid, 16);
+        let end = slices::soon(s.len(), mid, 16);
         let next = chars_until(t, s, mid, end);
         if next < end {
             return false;
@@ -250,7 +239,7 @@ pub fn valid_near(t: &[u8; 256], s: &[u8]) -> bool
     let mut at = 0;
     while at < s.len() {
         let mid = ascii_blocks(s, at, 8);
-        let end = block_on(s.len(), mid, 8);
+        let end = slices::soon(s.len(), mid, 8);
         let next = chars_until(t, s, mid, end);
         if next < end {
             return false;
