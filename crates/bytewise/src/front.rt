@@ -25,7 +25,7 @@ fn put_blocks(s: &[u8], out: &mut [u8]) -> usize
 {
     let mut at = 0;
     while 16 <= s.len() - at {
-        if blocks::any_odd(34, s, at, 16) {
+        if blocks::any_odd(b'"', s, at, 16) {
             return at;
         }
         put_sixteen(s, at, out);
@@ -46,7 +46,7 @@ fn put_last(s: &[u8], at: usize, out: &mut [u8]) -> usize
     if 16 <= n - at {
         return at;
     }
-    if blocks::any_odd(34, s, n - 16, 16) {
+    if blocks::any_odd(b'"', s, n - 16, 16) {
         return at;
     }
     put_sixteen(s, n - 16, out);
@@ -59,7 +59,7 @@ fn put_fours(s: &[u8], out: &mut [u8]) -> usize
     ensures { λ r. ⌜ (r ≤ length (now (s .entry))) × Onward (now (s .entry)) 0 r (now (out .entry)) (now (out .exit)) ⌝ }
 {
     let p = s.len() - 4;
-    if blocks::any_odd(34, s, 0, 4) | blocks::any_odd(34, s, p, 4) {
+    if blocks::any_odd(b'"', s, 0, 4) | blocks::any_odd(b'"', s, p, 4) {
         return 0;
     }
     texts::copy_four(s, 0, 1, out);
@@ -73,7 +73,7 @@ fn put_eights(s: &[u8], out: &mut [u8]) -> usize
     ensures { λ r. ⌜ (r ≤ length (now (s .entry))) × Onward (now (s .entry)) 0 r (now (out .entry)) (now (out .exit)) ⌝ }
 {
     let p = s.len() - 8;
-    if blocks::any_odd(34, s, 0, 8) | blocks::any_odd(34, s, p, 8) {
+    if blocks::any_odd(b'"', s, 0, 8) | blocks::any_odd(b'"', s, p, 8) {
         return 0;
     }
     texts::copy_eight(s, 0, 1, out);
@@ -108,7 +108,7 @@ fn put_singles(s: &[u8], from: usize, out: &mut [u8]) -> usize
     let mut at = from;
     while at < s.len() {
         let b = s[at];
-        if blocks::odd(34, b) {
+        if blocks::odd(b'"', b) {
             return at;
         }
         out[at + 1] = b;
@@ -150,7 +150,7 @@ fn put_threes(s: &[u8], from: usize, out: &mut [u8]) -> usize
 {
     let mut at = from;
     while 18 <= s.len() - at {
-        if !blocks::any_odd(34, s, at, 16) {
+        if !blocks::any_odd(b'"', s, at, 16) {
             put_sixteen(s, at, out);
             at += 16;
             continue;
@@ -161,7 +161,7 @@ fn put_threes(s: &[u8], from: usize, out: &mut [u8]) -> usize
         if !threes::begins(s[at], s[at + 1]) {
             return at;
         }
-        if threes::any_odd_three(34, s, at) {
+        if threes::any_odd_three(b'"', s, at) {
             return at;
         }
         at = put_through(s, at, out);
@@ -187,7 +187,7 @@ fn put_last_threes(s: &[u8], at: usize, out: &mut [u8]) -> usize
     if !threes::begins(s[at], s[at + 1]) {
         return at;
     }
-    if threes::any_odd_three(34, s, n - 18) {
+    if threes::any_odd_three(b'"', s, n - 18) {
         return at;
     }
     put_through(s, n - 18, out)
@@ -223,6 +223,6 @@ pub fn put_front(s: &[u8], out: &mut [u8]) -> usize
     requires { ⌜ length (now s) + 2 ≤ length (now out) ⌝ }
     ensures { λ r. ⌜ Fronted (now (s .entry)) (now (out .entry)) r (now (out .exit)) ⌝ }
 {
-    out[0] = 34;
+    out[0] = b'"';
     put_ascii(s, out)
 }

@@ -31,7 +31,7 @@ fn any_control(s: &[u8], at: usize) -> bool
 fn slashed(b: u8) -> bool
     ensures { λ r. ⌜ (r ≡ false → 32 ≤ b → byteText b ≡ b ∷ []) ⌝ }
 {
-    (b == 34) | (b == 92)
+    (b == b'"') | (b == b'\\')
 }
 
 // Whether one of eight bytes is a quote or a backslash. A test of its own, so that the compiler shares no comparison with the controls'.
@@ -102,7 +102,7 @@ fn put_slashed(t: &[u8; 256], b: u8, o: usize, out: &mut [u8]) -> usize
     ensures { λ r. ⌜ (r ≡ o + length (byteText b)) × (now (out .exit) ≡ sets (now (out .entry)) o (byteText b)) ⌝ }
 {
     let e = o + slashes(classes::class_in(t, b));
-    out[o] = 92;
+    out[o] = b'\\';
     out[e] = b;
     e + 1
 }

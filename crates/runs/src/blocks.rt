@@ -15,7 +15,7 @@ use units::styles::Style;
 pub fn odd(q: u8, b: u8) -> bool
     ensures { λ r. ⌜ (r ≡ false → Alone q b) ⌝ }
 {
-    (b < 32) | ((b >= 128) | ((b == 92) | (b == q)))
+    (b < 32) | ((b >= 128) | ((b == b'\\') | (b == q)))
 }
 
 // A continuation byte.
@@ -31,7 +31,7 @@ fn odd_pair(q: u8, b: u8, c: u8) -> bool
 {
     (b < 32)
         | ((b >= 0xe0)
-            | ((b == 92)
+            | ((b == b'\\')
                 | ((b == q) | ((b == 0xc0) | ((b == 0xc1) | (continues(c) != (b >= 0xc0)))))))
 }
 
@@ -154,7 +154,7 @@ pub fn ends(s: &[u8], at: usize, style: Style) -> bool
         return false;
     }
     let b = s[at];
-    (b < 32) | ((b == 92) | (b == styles::quote_of(style)))
+    (b < 32) | ((b == b'\\') | (b == styles::quote_of(style)))
 }
 
 // Blocks of ASCII and characters of two bytes.

@@ -51,7 +51,7 @@ fn two_paired_eights(s: &[u8], from: usize) -> usize
     if blocks::continues(s[from]) {
         return from;
     }
-    if blocks::any_odd_pair(34, s, from, 8) | blocks::any_odd_pair(34, s, last - 8, 8) {
+    if blocks::any_odd_pair(b'"', s, from, 8) | blocks::any_odd_pair(b'"', s, last - 8, 8) {
         return from;
     }
     blocks::behind(s, last)
@@ -63,7 +63,7 @@ fn two_eights(s: &[u8], from: usize) -> usize
     ensures { λ r. ⌜ Running Json (now (s .entry)) from r ⌝ }
 {
     let last = s.len() - 1;
-    if blocks::any_odd(34, s, from, 8) | blocks::any_odd(34, s, last - 8, 8) {
+    if blocks::any_odd(b'"', s, from, 8) | blocks::any_odd(b'"', s, last - 8, 8) {
         return two_paired_eights(s, from);
     }
     last
@@ -78,7 +78,7 @@ fn two_paired_sixteens(s: &[u8], from: usize) -> usize
     if blocks::continues(s[from]) {
         return from;
     }
-    if blocks::any_odd_pair(34, s, from, 16) | blocks::any_odd_pair(34, s, last - 16, 16) {
+    if blocks::any_odd_pair(b'"', s, from, 16) | blocks::any_odd_pair(b'"', s, last - 16, 16) {
         return from;
     }
     blocks::behind(s, last)
@@ -89,7 +89,7 @@ fn two_sixteens(s: &[u8], from: usize) -> usize
     ensures { λ r. ⌜ Running Json (now (s .entry)) from r ⌝ }
 {
     let last = s.len() - 1;
-    if blocks::any_odd(34, s, from, 16) | blocks::any_odd(34, s, last - 16, 16) {
+    if blocks::any_odd(b'"', s, from, 16) | blocks::any_odd(b'"', s, last - 16, 16) {
         return two_paired_sixteens(s, from);
     }
     last

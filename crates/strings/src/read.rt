@@ -42,19 +42,19 @@ pub fn mark_at(s: &[u8]) -> Mark
     ensures { λ r. ⌜ openingOf r ≡ opening (now (s .entry)) ⌝ }
 {
     let a = slices::byte_at(s, 0, 0);
-    if a == 34 {
+    if a == b'"' {
         return Mark::Opens(Style::Json, 1);
     }
-    if a == 39 {
+    if a == b'\'' {
         return Mark::Opens(Style::Unicode, 1);
     }
-    if slices::byte_at(s, 0, 1) != 39 {
+    if slices::byte_at(s, 0, 1) != b'\'' {
         return Mark::Unopened;
     }
-    if a == 117 {
+    if a == b'u' {
         return Mark::Opens(Style::Unicode, 2);
     }
-    if a == 98 {
+    if a == b'b' {
         return Mark::Opens(Style::Bytes, 2);
     }
     Mark::Unopened

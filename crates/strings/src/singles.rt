@@ -40,7 +40,7 @@ fn singles_before(
             count += 1;
             continue;
         }
-        if b != 92 {
+        if b != b'\\' {
             return Moved { at, count };
         }
         let unit = singles::escaped(s, at + 1, style);

@@ -1,9 +1,11 @@
 -- Writing a J8 string: "one form for each byte string".
 -- Assumes nothing.
 use Prim.Native.Nat.{ℕ, zero, suc, pred}
+use Prim.Native.Char.{code}
 use mathlib.Core.List.{List, [], _∷_, _++_}
 use lib.Dec.{leb}
 use lib.ListN.{length, drop}
+use Rattle.prelude.specs.Bytes.{doubleQuote, singleQuote}
 use Rattle.prelude.specs.Pick.{pick}
 use Rattle.prelude.specs.Refusals.{noRoom}
 use Rattle.utf8.specs.Utf8.{charLen, validUtf8}
@@ -22,9 +24,9 @@ writeUnits st (suc k) (x ∷ r) = writeUnits st k r
 
 -- the mark that the writer puts before a style's units
 abbrev pub mark : Style → List ℕ
-mark Json = 34 ∷ []
-mark Unicode = 117 ∷ 39 ∷ []
-mark Bytes = 98 ∷ 39 ∷ []
+mark Json = doubleQuote ∷ []
+mark Unicode = code "u" ∷ singleQuote ∷ []
+mark Bytes = code "b" ∷ singleQuote ∷ []
 
 -- the text of a byte string in a style
 unfoldable pub quoted : Style → List ℕ → List ℕ

@@ -32,16 +32,16 @@ fn put_mark(style: Style, out: &mut [u8]) -> usize
 {
     match style {
         Style::Json => {
-            slices::put(34, 0, out);
+            slices::put(b'"', 0, out);
             1
         }
         Style::Unicode => {
-            let text = [117u8, 39];
+            let text = [b'u', b'\''];
             slices::copy_run(&text, 0, 2, 0, out);
             2
         }
         Style::Bytes => {
-            let text = [98u8, 39];
+            let text = [b'b', b'\''];
             slices::copy_run(&text, 0, 2, 0, out);
             2
         }
@@ -106,9 +106,9 @@ fn literal_part(s: &[u8], room: usize, out: &mut [u8]) -> usize
     if room < size + 2 {
         return 0;
     }
-    slices::put(34, 0, out);
+    slices::put(b'"', 0, out);
     slices::copy_run(s, 0, size, 1, out);
-    slices::put(34, size + 1, out);
+    slices::put(b'"', size + 1, out);
     size + 2
 }
 
@@ -173,12 +173,12 @@ fn write_behind(t: &[u8; 256], s: &[u8], at: usize, room: usize, out: &mut [u8])
 {
     let j = judge(t, s, at, out);
     if j.at == s.len() {
-        out[j.at + 1] = 34;
+        out[j.at + 1] = b'"';
         return j.at + 2;
     }
     if j.valid {
         let o = texts::put_rest(t, s, j.at, j.at + 1, out);
-        out[o] = 34;
+        out[o] = b'"';
         return o + 1;
     }
     pass(t, Style::Bytes, s, room, out)
@@ -194,7 +194,7 @@ pub fn write_run(t: &[u8; 256], s: &[u8], room: usize, out: &mut [u8]) -> usize
     }
     let e = front::put_front(s, out);
     if e == s.len() {
-        out[e + 1] = 34;
+        out[e + 1] = b'"';
         return e + 2;
     }
     write_behind(t, s, e, room, out)
@@ -243,9 +243,9 @@ fn write_literal(s: &[u8], out: &mut [u8]) -> Written
     if out.len() < n + 2 {
         return Written::Full(refusals::NO_ROOM);
     }
-    slices::put(34, 0, out);
+    slices::put(b'"', 0, out);
     slices::copy_run(s, 0, n, 1, out);
-    slices::put(34, n + 1, out);
+    slices::put(b'"', n + 1, out);
     Written::Wrote(n + 2)
 }
 

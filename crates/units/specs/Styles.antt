@@ -2,6 +2,7 @@
 -- Assumes nothing.
 use Prim.Native.Nat.{ℕ, _≤_}
 use mathlib.Core.List.{List}
+use Rattle.prelude.specs.Bytes.{doubleQuote, singleQuote}
 use Rattle.utf8.specs.Utf8.{fewOf}
 use Rattle.units.specs.declared.styles.Style.{Style}
 use Rattle.units.specs.declared.styles.Style.the-variants.{Json, Unicode, Bytes}
@@ -10,9 +11,9 @@ use Rattle.units.specs.declared.styles.Unit.the-variants.{Close, Took, F
 
 -- the closing quote
 abbrev pub quote : Style → ℕ
-quote Json = 34
-quote Unicode = 39
-quote Bytes = 39
+quote Json = doubleQuote
+quote Unicode = singleQuote
+quote Bytes = singleQuote
 
 -- the class of the quote that may stand bare: "In single-quoted styles `"` may stand bare, in `""` a `'` may."
 abbrev pub bareClass : Style → ℕ

@@ -21,13 +21,13 @@ pub struct Single {
 fn ascii(s: &[u8], at: usize) -> Single
     ensures { λ r. ⌜ (0 < r .len → fourDigits (drop at (now (s .entry))) ≡ took (r .len) (r .byte ∷ [])) ⌝ }
 {
-    if slices::byte_at(s, at, 0) != 48 {
+    if slices::byte_at(s, at, 0) != b'0' {
         return Single { len: 0, byte: 0 };
     }
-    if slices::byte_at(s, at, 1) != 48 {
+    if slices::byte_at(s, at, 1) != b'0' {
         return Single { len: 0, byte: 0 };
     }
-    if 55 < slices::byte_at(s, at, 2) {
+    if b'7' < slices::byte_at(s, at, 2) {
         return Single { len: 0, byte: 0 };
     }
     let d = hex::digits_at(s, at, 4);
@@ -67,23 +67,29 @@ fn special(c: u8, s: &[u8], at: usize, style: Style) -> Single
 {
     match style {
         Style::Json => {
-            if c == 117 {
+            if c == b'u' {
                 return ascii(s, at);
             }
             Single { len: 0, byte: 0 }
         }
         Style::Unicode => {
-            if c == 39 {
-                return Single { len: 2, byte: 39 };
+            if c == b'\'' {
+                return Single {
+                    len: 2,
+                    byte: b'\'',
+                };
             }
             Single { len: 0, byte: 0 }
         }
         Style::Bytes => {
-            if c == 121 {
+            if c == b'y' {
                 return raw(s, at);
             }
-            if c == 39 {
-                return Single { len: 2, byte: 39 };
+            if c == b'\'' {
+                return Single {
+                    len: 2,
+                    byte: b'\'',
+                };
             }
             Single { len: 0, byte: 0 }
         }

@@ -22,8 +22,8 @@ pub fn quote_of(style: Style) -> u8
     ensures { λ r. ⌜ r ≡ quote style ⌝ }
 {
     match style {
-        Style::Json => 34,
-        Style::Unicode => 39,
-        Style::Bytes => 39,
+        Style::Json => b'"',
+        Style::Unicode => b'\'',
+        Style::Bytes => b'\'',
     }
 }

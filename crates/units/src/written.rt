@@ -15,9 +15,9 @@ fn hex_digit(d: u8) -> u8
     ensures { λ r. ⌜ r ≡ hexDigit d ⌝ }
 {
     if d < 10 {
-        return 48 + d;
+        return b'0' + d;
     }
-    87 + d
+    b'a' + (d - 10)
 }
 
 // What follows the backslash of a byte's two-byte escape, 0 where it has none.
@@ -28,23 +28,23 @@ fn letter_of(style: Style, x: u8) -> u8
     if x == q {
         return q;
     }
-    if x == 92 {
-        return 92;
+    if x == b'\\' {
+        return b'\\';
     }
-    if x == 8 {
-        return 98;
+    if x == b'\x08' {
+        return b'b';
     }
-    if x == 12 {
-        return 102;
+    if x == b'\x0c' {
+        return b'f';
     }
-    if x == 10 {
-        return 110;
+    if x == b'\n' {
+        return b'n';
     }
-    if x == 13 {
-        return 114;
+    if x == b'\r' {
+        return b'r';
     }
-    if x == 9 {
-        return 116;
+    if x == b'\t' {
+        return b't';
     }
     0
 }
@@ -82,15 +82,15 @@ fn put_number(style: Style, x: u8, o: usize, out: &mut [u8])
     let l = hex_digit(x % 16);
     match style {
         Style::Json => {
-            let text = [92u8, 117, 48, 48, h, l];
+            let text = [b'\\', b'u', b'0', b'0', h, l];
             slices::copy_run(&text, 0, 6, o, out);
         }
         Style::Unicode => {
-            let text = [92u8, 117, 123, h, l, 125];
+            let text = [b'\\', b'u', b'{', h, l, b'}'];
             slices::copy_run(&text, 0, 6, o, out);
         }
         Style::Bytes => {
-            let text = [92u8, 121, h, l];
+            let text = [b'\\', b'y', h, l];
             slices::copy_run(&text, 0, 4, o, out);
         }
     }
@@ -112,7 +112,7 @@ pub fn put_escape(style: Style, x: u8, o: usize, out: &mut [u8])
 {
     let k = letter_of(style, x);
     if k != 0 {
-        put_two(92, k, o, out);
+        put_two(b'\\', k, o, out);
         return;
     }
     put_number(style, x, o, out);

@@ -6,6 +6,7 @@ use mathlib.Core.List.{List}
 use mathlib.Core.Path.{_≡_}
 use lib.Dec.{leb}
 use lib.ListN.{length, getD, drop}
+use Rattle.prelude.specs.Bytes.{backslash}
 use Rattle.utf8.specs.Utf8.{tail}
 use Rattle.units.specs.declared.styles.Style.{Style}
 use Rattle.units.specs.Units.{literalLen, literalRun}
@@ -25,14 +26,14 @@ pub record Ran (st : Style) (s : List ℕ) (from end at : ℕ) : Type 0 where
 pub record Alone (q b : ℕ) : Type 0 where
   pub printed : 32 ≤ b
   pub ascii : b < 128
-  pub no-slash : b ≡ 92 → ⊥
+  pub no-slash : b ≡ backslash → ⊥
   pub no-quote : b ≡ q → ⊥
 
 -- a byte of a literal character of one or two bytes, and the byte behind it: a continuation behind a lead and nowhere else
 pub record Paired (q b c : ℕ) : Type 0 where
   pub printed : 32 ≤ b
   pub short : b < 0xe0
-  pub no-slash : b ≡ 92 → ⊥
+  pub no-slash : b ≡ backslash → ⊥
   pub no-quote : b ≡ q → ⊥
   pub lead : 0xc0 ≤ b → 0xc2 ≤ b
   pub behind-lead : 0xc0 ≤ b → tail c ≡ true
@@ -43,7 +44,7 @@ pub record Paired (q b c : ℕ) : Type 0 where
 pub record Tripled (q b c d : ℕ) : Type 0 where
   pub printed : 32 ≤ b
   pub short : b < 0xf0
-  pub no-slash : b ≡ 92 → ⊥
+  pub no-slash : b ≡ backslash → ⊥
   pub no-quote : b ≡ q → ⊥
   pub lead : 0xc0 ≤ b → 0xc2 ≤ b
   pub after-e0 : b ≡ 0xe0 → 0xa0 ≤ c
