@@ -19,7 +19,7 @@ use Rattle.prelude.proofs.Picks.{pick-case}
 use Rattle.prelude.proofs.Stores.{sets-append, copied}
 use Rattle.utf8.specs.Class.{classOf}
 use Rattle.utf8.proofs.ByteClasses.{by-byte}
-use Rattle.units.specs.declared.styles.Style.the-variants.{Json}
+use Rattle.units.specs.declared.styles.Form.the-variants.{AsJson}
 use Rattle.units.specs.Escapes.{lookup}
 use Rattle.units.specs.Written.{escapeByte, byNumber, escaped}
 use Rattle.bytewise.specs.inner.Bytewise.{byteText, bytesText, textOf, Unmarked, Texted}
@@ -32,10 +32,10 @@ or-none a b e f = rw (e, f)
 abbrev Short : List ℕ → Type 0
 Short l = length l ≤ 6
 
-pub escape-short : (x : ℕ) → length (escapeByte Json x) ≤ 6
+pub escape-short : (x : ℕ) → length (escapeByte AsJson x) ≤ 6
 unfolding escapeByte byNumber
 escape-short x =
-    pick-case Short (eqb (lookup x (escaped Json)) 0) (byNumber Json x) (92 ∷ lookup x (escaped Json) ∷ [])
+    pick-case Short (eqb (lookup x (escaped AsJson)) 0) (byNumber AsJson x) (92 ∷ lookup x (escaped AsJson) ∷ [])
     (λ a. lit≤ tt) (λ a. lit≤ tt)
 
 -- a byte that stands as it is unless it is a control
@@ -140,7 +140,7 @@ unfolding pick
 slash-within true n e = omega arith
 slash-within false n e = omega arith
 
-pub control-text : (b : ℕ) → b < 32 → escapeByte Json b ≡ byteText b
+pub control-text : (b : ℕ) → b < 32 → escapeByte AsJson b ≡ byteText b
 unfolding byteText pick
 control-text b h = rw (lt-ltb b 32 h)
 
@@ -189,7 +189,7 @@ bytes-one x = append-nil (byteText x)
 byte-length : (x : ℕ) → length (byteText x) ≤ 6
 unfolding byteText
 byte-length x =
-    pick-case Short (ltb x 32) (escapeByte Json x) _ (λ a. escape-short x)
+    pick-case Short (ltb x 32) (escapeByte AsJson x) _ (λ a. escape-short x)
     (λ a. pick-case Short (eqb x 34 || eqb x 92) (92 ∷ x ∷ []) (x ∷ []) (λ b. lit≤ tt) (λ b. lit≤ tt))
 
 bytes-length : (s : List ℕ) → length (bytesText s) ≤ 6 * length s

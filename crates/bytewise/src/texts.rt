@@ -9,7 +9,7 @@ ghost use lib.Seq.{sets};
 ghost use Rattle.prelude.specs.Pick.{pick};
 ghost use Rattle.utf8.specs.Class.{IsTable};
 ghost use Rattle.bytewise.specs.inner.Bytewise.{byteText, NoControl, Unmarked, Texted};
-use units::styles::Style;
+use units::styles::Form;
 use units::written;
 use utf8::classes;
 
@@ -112,8 +112,8 @@ fn put_control(b: u8, o: usize, out: &mut [u8]) -> usize
     requires { ⌜ (b < 32) × (o + 6 ≤ length (now out)) ⌝ }
     ensures { λ r. ⌜ (r ≡ o + length (byteText b)) × (now (out .exit) ≡ sets (now (out .entry)) o (byteText b)) ⌝ }
 {
-    written::put_escape(Style::Json, b, o, out);
-    o + written::escape_len(Style::Json, b)
+    written::put_escape(Form::AsJson, b, o, out);
+    o + written::escape_len(Form::AsJson, b)
 }
 
 // The same of any byte.

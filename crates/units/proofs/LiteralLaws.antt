@@ -17,7 +17,8 @@ use Rattle.utf8.specs.Utf8.{charLen, validFrom}
 use Rattle.utf8.proofs.Characters.{char-le, char-length, char-take, valid-char, valid-step}
 use Rattle.units.specs.declared.styles.Style.{Style}
 use Rattle.units.specs.declared.styles.Style.the-variants.{Json, Unicode, Bytes}
-use Rattle.units.specs.Styles.{quote, took}
+use Rattle.units.specs.declared.styles.Form.{Form}
+use Rattle.units.specs.Styles.{quote, took, styleOf}
 use Rattle.units.specs.Escapes.{lookup}
 use Rattle.units.specs.Units.{unitAt, literalLen, literalRun, onward}
 use Rattle.units.specs.Written.{escaped, written}
@@ -61,17 +62,17 @@ literal-unit st [] n e = absurd (omega (arith, literal-nil st))
 literal-unit st (x ∷ r) n e = let l = literal-is st x r n e in simp (l .no-quote, l .no-slash, l .no-control, l .size)
 
 -- as it is written
-no-escape : (st : Style) (x : ℕ) → eqb x (quote st) ≡ false → eqb x 92 ≡ false → ltb x 32 ≡ false → lookup x (escaped st) ≡ 0
+no-escape : (form : Form) (x : ℕ) → eqb x (quote (styleOf form)) ≡ false → eqb x 92 ≡ false → ltb x 32 ≡ false → lookup x (escaped form) ≡ 0
 unfolding lookup pick
-no-escape st x q b c =
+no-escape form x q b c =
     let h : 32 ≤ x = ltb-false x 32 c in
     simp (q, b, ne-eqb x 8 (λ z. omega arith), ne-eqb x 12 (λ z. omega arith), ne-eqb x 10 (λ z. omega arith), ne-eqb x 13 (λ z. omega arith), ne-eqb x 9 (λ z. omega arith))
 
-pub literal-written : (st : Style) (x : ℕ) (r : List ℕ) (n : ℕ) → literalLen st (x ∷ r) ≡ suc n → written st (charLen (x ∷ r)) x r ≡ x ∷ take n r
+pub literal-written : (form : Form) (x : ℕ) (r : List ℕ) (n : ℕ) → literalLen (styleOf form) (x ∷ r) ≡ suc n → written form (charLen (x ∷ r)) x r ≡ x ∷ take n r
 unfolding written pick
-literal-written st x r n e =
-    let l = literal-is st x r n e in
-    simp (l .size, no-escape st x (l .no-quote) (l .no-slash) (l .no-control), l .no-control)
+literal-written form x r n e =
+    let l = literal-is (styleOf form) x r n e in
+    simp (l .size, no-escape form x (l .no-quote) (l .no-slash) (l .no-control), l .no-control)
 
 -- what holds of no bytes where no literal character stands, and of a literal character and a run behind it, holds of every run
 pub run-skip : (st : Style) (k : ℕ) (s : List ℕ) → k ≤ length s → literalRun st k s ≡ k + literalRun st 0 (drop k s)

@@ -7,7 +7,7 @@ ghost use lib.Seq.{sets};
 ghost use Rattle.units.specs.Escapes.{lookup};
 ghost use Rattle.units.specs.Written.{hexDigit, byNumber, escaped, escapeByte};
 use crate::styles;
-use crate::styles::Style;
+use crate::styles::Form;
 use prelude::slices;
 
 fn hex_digit(d: u8) -> u8
@@ -21,10 +21,10 @@ fn hex_digit(d: u8) -> u8
 }
 
 // What follows the backslash of a byte's two-byte escape, 0 where it has none.
-fn letter_of(style: Style, x: u8) -> u8
-    ensures { λ r. ⌜ r ≡ lookup x (escaped style) ⌝ }
+fn letter_of(form: Form, x: u8) -> u8
+    ensures { λ r. ⌜ r ≡ lookup x (escaped form) ⌝ }
 {
-    let q = styles::quote_of(style);
+    let q = styles::quote_in(form);
     if x == q {
         return q;
     }
@@ -49,13 +49,12 @@ fn letter_of(style: Style, x: u8) -> u8
     0
 }
 
-fn number_len(style: Style, x: u8) -> usize
-    ensures { λ r. ⌜ r ≡ length (byNumber style x) ⌝ }
+fn number_len(form: Form, x: u8) -> usize
+    ensures { λ r. ⌜ r ≡ length (byNumber form x) ⌝ }
 {
-    match style {
-        Style::Json => 6,
-        Style::Unicode => 6,
-        Style::Bytes => 4,
+    match form {
+        Form::AsJson => 6,
+        Form::AsBytes => 4,
     }
 }
 
@@ -75,21 +74,17 @@ fn put_two(a: u8, b: u8, o: usize, out: &mut [u8])
 }
 
 // Stores a byte by its number, each digit if there is room for it.
-fn put_number(style: Style, x: u8, o: usize, out: &mut [u8])
-    ensures { λ r. ⌜ now (out .exit) ≡ sets (now (out .entry)) o (byNumber style x) ⌝ }
+fn put_number(form: Form, x: u8, o: usize, out: &mut [u8])
+    ensures { λ r. ⌜ now (out .exit) ≡ sets (now (out .entry)) o (byNumber form x) ⌝ }
 {
     let h = hex_digit(x / 16);
     let l = hex_digit(x % 16);
-    match style {
-        Style::Json => {
+    match form {
+        Form::AsJson => {
             let text = [b'\\', b'u', b'0', b'0', h, l];
             slices::copy_run(&text, 0, 6, o, out);
         }
-        Style::Unicode => {
-            let text = [b'\\', b'u', b'{', h, l, b'}'];
-            slices::copy_run(&text, 0, 6, o, out);
-        }
-        Style::Bytes => {
+        Form::AsBytes => {
             let text = [b'\\', b'y', h, l];
             slices::copy_run(&text, 0, 4, o, out);
         }
@@ -97,23 +92,23 @@ fn put_number(style: Style, x: u8, o: usize, out: &mut [u8])
 }
 
 // How long the escape of a byte is.
-pub fn escape_len(style: Style, x: u8) -> usize
-    ensures { λ r. ⌜ r ≡ length (escapeByte style x) ⌝ }
+pub fn escape_len(form: Form, x: u8) -> usize
+    ensures { λ r. ⌜ r ≡ length (escapeByte form x) ⌝ }
 {
-    if letter_of(style, x) != 0 {
+    if letter_of(form, x) != 0 {
         return 2;
     }
-    number_len(style, x)
+    number_len(form, x)
 }
 
 // Stores the escape of a byte, as far as there is room.
-pub fn put_escape(style: Style, x: u8, o: usize, out: &mut [u8])
-    ensures { λ r. ⌜ now (out .exit) ≡ sets (now (out .entry)) o (escapeByte style x) ⌝ }
+pub fn put_escape(form: Form, x: u8, o: usize, out: &mut [u8])
+    ensures { λ r. ⌜ now (out .exit) ≡ sets (now (out .entry)) o (escapeByte form x) ⌝ }
 {
-    let k = letter_of(style, x);
+    let k = letter_of(form, x);
     if k != 0 {
         put_two(b'\\', k, o, out);
         return;
     }
-    put_number(style, x, o, out);
+    put_number(form, x, o, out);
 }

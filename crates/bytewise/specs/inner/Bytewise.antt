@@ -10,13 +10,14 @@ use lib.Seq.{sets}
 use Rattle.prelude.specs.Bytes.{doubleQuote, backslash}
 use Rattle.prelude.specs.Pick.{pick}
 use Rattle.units.specs.declared.styles.Style.the-variants.{Json}
+use Rattle.units.specs.declared.styles.Form.the-variants.{AsJson}
 use Rattle.utf8.specs.Utf8.{tail}
 use Rattle.runs.specs.inner.Blocks.{Running, owed}
 use Rattle.units.specs.Written.{escapeByte}
 
 -- a byte of valid data in `""`: by its escape where it is a control, the quote or the backslash, or else as it is
 unfoldable pub byteText : ℕ → List ℕ
-byteText x = pick (ltb x 32) (escapeByte Json x) (pick (eqb x doubleQuote || eqb x backslash) (backslash ∷ x ∷ []) (x ∷ []))
+byteText x = pick (ltb x 32) (escapeByte AsJson x) (pick (eqb x doubleQuote || eqb x backslash) (backslash ∷ x ∷ []) (x ∷ []))
 
 unfoldable pub bytesText : List ℕ → List ℕ
 bytesText [] = []
