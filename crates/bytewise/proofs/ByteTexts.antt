@@ -11,6 +11,7 @@ use borrow.Author.Tests.{lt-ltb, le-ltb, ne-eqb, ltb-true, ltb-false, eqb-true}
 use lib.Bits.{bitAnd}
 use lib.Dec.{ltb, eqb, lit≤}
 use lib.ListN.{length, getD, take, drop, set, length-append, length-drop, length-take}
+use Rattle.prelude.specs.Bytes.{doubleQuote, backslash}
 use Rattle.prelude.proofs.Tables.{allBelow, at-below}
 use lib.Seq.{sets, length-sets, set-set, drop-cons, drop-drop, take-add, take-suc, length-take-le, getD-drop}
 use Rattle.prelude.specs.Pick.{pick}
@@ -35,14 +36,14 @@ Short l = length l ≤ 6
 pub escape-short : (x : ℕ) → length (escapeByte AsJson x) ≤ 6
 unfolding escapeByte byNumber
 escape-short x =
-    pick-case Short (eqb (lookup x (escaped AsJson)) 0) (byNumber AsJson x) (92 ∷ lookup x (escaped AsJson) ∷ [])
+    pick-case Short (eqb (lookup x (escaped AsJson)) 0) (byNumber AsJson x) (backslash ∷ lookup x (escaped AsJson) ∷ [])
     (λ a. lit≤ tt) (λ a. lit≤ tt)
 
 -- a byte that stands as it is unless it is a control
-abbrev pub Alike : ℕ → Type 0
-Alike b = 32 ≤ b → byteText b ≡ b ∷ []
+abbrev pub AsItIs : ℕ → Type 0
+AsItIs b = 32 ≤ b → byteText b ≡ b ∷ []
 
-pub unslashed : (b : ℕ) → eqb b 34 || eqb b 92 ≡ false → Alike b
+pub unslashed : (b : ℕ) → eqb b doubleQuote || eqb b backslash ≡ false → AsItIs b
 unfolding byteText pick
 unslashed b e h = rw (le-ltb b 32 h, e)
 
@@ -52,13 +53,13 @@ pub one-more : (P : ℕ → Type 0) (a b : Bool) (n : ℕ) → (a ≡ false → 
 one-more P a b n f g e = below-more P n (f (or-left a b e)) (g (or-right a b e))
 
 -- a byte that is no control, stored over a backslash or behind it
-pub text-stored : (b n o : ℕ) (out : List ℕ) → 32 ≤ b → n ≡ pick (eqb b 34 || eqb b 92) 1 0
-    → (o + n + 1 ≡ o + length (byteText b)) × (set (set out o 92) (o + n) b ≡ sets out o (byteText b))
+pub text-stored : (b n o : ℕ) (out : List ℕ) → 32 ≤ b → n ≡ pick (eqb b doubleQuote || eqb b backslash) 1 0
+    → (o + n + 1 ≡ o + length (byteText b)) × (set (set out o backslash) (o + n) b ≡ sets out o (byteText b))
 unfolding byteText pick
 text-stored b n o out h e =
-    split (eqb b 34 || eqb b 92)
+    split (eqb b doubleQuote || eqb b backslash)
     (λ t. let m : n ≡ 1 = e ∙ rw t in let a : o + 1 ≡ suc o = omega arith in simp (le-ltb b 32 h, t) (rw m (omega arith), rw (m, a) refl))
-    (λ t. let m : n ≡ 0 = e ∙ rw t in simp (le-ltb b 32 h, t) (rw m (omega arith), rw (m, add-zero o) (set-set out o 92 b)))
+    (λ t. let m : n ≡ 0 = e ∙ rw t in simp (le-ltb b 32 h, t) (rw m (omega arith), rw (m, add-zero o) (set-set out o backslash b)))
 
 -- by the class of the byte
 
@@ -66,7 +67,7 @@ abbrev slashOf : ℕ → ℕ
 slashOf k = pick (eqb k 2 || eqb k 4) 1 0
 
 abbrev slashBy : ℕ → ℕ
-slashBy b = pick (eqb b 34 || eqb b 92) 1 0
+slashBy b = pick (eqb b doubleQuote || eqb b backslash) 1 0
 
 abbrev shifted : ℕ → ℕ
 shifted k = bitAnd (20 / 2 ^ k) 1
@@ -86,7 +87,7 @@ pub slash-class : (b k n : ℕ) → k ≡ classOf b → n ≡ slashOf k → n �
 unfolding pick
 slash-class b k n e f =
     f ∙ ap slashOf e
-    ∙ by-byte slashOf slashBy slash-test (λ a h. let z : slashOf 13 ≡ slashBy a = rw (ne-eqb a 34 (λ z. omega arith), ne-eqb a 92 (λ z. omega arith)) refl in z) b
+    ∙ by-byte slashOf slashBy slash-test (λ a h. let z : slashOf 13 ≡ slashBy a = rw (ne-eqb a doubleQuote (λ z. omega arith), ne-eqb a backslash (λ z. omega arith)) refl in z) b
 
 abbrev oneOf : ℕ → ℕ
 oneOf k = pick (eqb k 1) 1 0
@@ -190,7 +191,7 @@ byte-length : (x : ℕ) → length (byteText x) ≤ 6
 unfolding byteText
 byte-length x =
     pick-case Short (ltb x 32) (escapeByte AsJson x) _ (λ a. escape-short x)
-    (λ a. pick-case Short (eqb x 34 || eqb x 92) (92 ∷ x ∷ []) (x ∷ []) (λ b. lit≤ tt) (λ b. lit≤ tt))
+    (λ a. pick-case Short (eqb x doubleQuote || eqb x backslash) (backslash ∷ x ∷ []) (x ∷ []) (λ b. lit≤ tt) (λ b. lit≤ tt))
 
 bytes-length : (s : List ℕ) → length (bytesText s) ≤ 6 * length s
 unfolding bytesText

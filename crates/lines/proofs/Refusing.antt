@@ -17,9 +17,9 @@ use Rattle.units.specs.declared.styles.Style.{Style}
 use Rattle.units.specs.declared.styles.Style.the-variants.{Json, Unicode, Bytes}
 use Rattle.units.specs.Styles.{quote, StringUnit, close, took, fault}
 use Rattle.units.specs.Hex.{hexRun}
-use Rattle.units.specs.Escapes.{lookup, lettersOf, high, codeUnit, fourDigits, scalar, isBraced, braced, codePoint, rawByte, short, escape}
+use Rattle.units.specs.Escapes.{lookup, lettersOf, high, codeUnit, fourDigits, scalar, isBraced, braced, codePoint, rawByte, letterEscape as short, escape}
 use Rattle.units.specs.Units.{literal, unitAt}
-use Rattle.strings.specs.Read.{StringRead, accepted, refused, more, after, whole, readUnits, Opening, opens, unopened, opening, readFrom, readToken, readString}
+use Rattle.strings.specs.Read.{StringRead, accepted, refused, more, after, nothingBehind as whole, readUnits, Opening, opens, unopened, opening, readFrom, readToken, readString}
 use Rattle.strings.proofs.Steps.{read-skip}
 use Rattle.strings.proofs.Places.{Inside, string-inside}
 use Rattle.lines.specs.declared.bare.Checked.{Checked}

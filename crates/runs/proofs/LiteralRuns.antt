@@ -18,7 +18,7 @@ use Rattle.utf8.specs.Class.{classOf, plainRun}
 use Rattle.utf8.proofs.PlainRuns.{run-plain, run-stop, after-eights}
 use Rattle.utf8.proofs.Characters.{char-le}
 use Rattle.units.specs.declared.styles.Style.{Style}
-use Rattle.units.specs.Units.{literalLen, onward, literalRun}
+use Rattle.units.specs.Units.{literalLen, orStop, literalRun}
 use Rattle.runs.specs.inner.Blocks.{Running, Ran}
 use Rattle.units.proofs.LiteralClasses.{literal-class}
 use Rattle.units.proofs.LiteralLaws.{literal-char, run-skip, run-fits, run-ends}
@@ -36,20 +36,20 @@ module _ (st : Style) where
   nil-run zero = refl
   nil-run (suc k) = refl
 
-  cons-run : (x : ℕ) (r : List ℕ) → literalRun st 0 (x ∷ r) ≡ onward (literalLen st (x ∷ r)) (λ m. literalRun st m r)
+  cons-run : (x : ℕ) (r : List ℕ) → literalRun st 0 (x ∷ r) ≡ orStop (literalLen st (x ∷ r)) (λ m. literalRun st m r)
   unfolding literalRun
   cons-run x r = refl
 
   pub run-stop-at : (s : List ℕ) → literalLen st s ≡ 0 → literalRun st 0 s ≡ 0
   run-stop-at [] e = nil-run 0
-  run-stop-at (x ∷ r) e = cons-run x r ∙ ap (λ (n : ℕ). onward n (λ m. literalRun st m r)) e
+  run-stop-at (x ∷ r) e = cons-run x r ∙ ap (λ (n : ℕ). orStop n (λ m. literalRun st m r)) e
 
   pub run-on : (n : ℕ) (s : List ℕ) → literalLen st s ≡ n → literalRun st 0 s ≡ n + literalRun st 0 (drop n s)
   run-on zero s e = omega arith
   run-on (suc n) [] e = absurd (let f : suc n ≤ 0 = rw e at (literal-fits []) in not-suc-le-zero f)
   run-on (suc n) (x ∷ r) e =
       let f : suc n ≤ suc (length r) = rw e at (literal-fits (x ∷ r)) in
-      cons-run x r ∙ ap (λ (k : ℕ). onward k (λ m. literalRun st m r)) e
+      cons-run x r ∙ ap (λ (k : ℕ). orStop k (λ m. literalRun st m r)) e
       ∙ (let i : literalRun st n r ≡ n + literalRun st 0 (drop n r) = run-skip st n r (omega arith) in omega arith)
 
   plain-one : (x : ℕ) (r : List ℕ) → eqb (classOf x) 0 ≡ true → literalLen st (x ∷ r) ≡ 1

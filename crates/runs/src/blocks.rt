@@ -5,7 +5,7 @@ ghost use Prim.Native.Nat.{ℕ, _+_, _<_, _≤_};
 ghost use lib.ListN.{length, getD, drop};
 ghost use Rattle.utf8.specs.Utf8.{tail};
 ghost use Rattle.units.specs.Units.{literalLen};
-ghost use Rattle.runs.specs.inner.Blocks.{Alone, Paired, AllAlone, AllPaired, Running, taken};
+ghost use Rattle.runs.specs.inner.Blocks.{Alone, Paired, AllAlone, AllPaired, Running, continued};
 use crate::shorts;
 use prelude::slices;
 use units::styles;
@@ -106,7 +106,7 @@ pub fn any_odd_pair(q: u8, s: &[u8], at: usize, n: usize) -> bool
 // A place, or the next one where the byte there is a continuation.
 pub fn behind(s: &[u8], e: usize) -> usize
     requires { ⌜ e < length (now s) ⌝ }
-    ensures { λ r. ⌜ r ≡ e + taken (tail (getD (now (s .entry)) e 0)) ⌝ }
+    ensures { λ r. ⌜ r ≡ e + continued (tail (getD (now (s .entry)) e 0)) ⌝ }
 {
     if continues(s[e]) {
         return e + 1;

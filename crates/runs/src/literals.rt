@@ -123,7 +123,7 @@ fn several(t: &[u8; 256], s: &[u8], from: usize, style: Style) -> usize
     ensures { λ r. ⌜ Running style (now (s .entry)) from r ⌝ }
 {
     if s.len() - from < 33 {
-        return classes::eights(t, s, from);
+        return classes::plain_eights(t, s, from);
     }
     blocks::strides(s, from, style)
 }

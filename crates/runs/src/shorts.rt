@@ -19,7 +19,7 @@ fn leads(b: u8) -> bool
 }
 
 // ASCII and characters of two bytes one by one.
-fn singles(s: &[u8], from: usize, style: Style) -> usize
+fn one_by_one(s: &[u8], from: usize, style: Style) -> usize
     requires { ⌜ from ≤ length (now s) ⌝ }
     ensures { λ r. ⌜ Running style (now (s .entry)) from r ⌝ }
 {
@@ -102,7 +102,7 @@ fn json(s: &[u8], from: usize) -> usize
 {
     let n = s.len() - from;
     if n < 9 {
-        return singles(s, from, Style::Json);
+        return one_by_one(s, from, Style::Json);
     }
     if n < 18 {
         return two_eights(s, from);
@@ -117,7 +117,7 @@ pub fn short(s: &[u8], from: usize, style: Style) -> usize
 {
     match style {
         Style::Json => json(s, from),
-        Style::Unicode => singles(s, from, style),
-        Style::Bytes => singles(s, from, style),
+        Style::Unicode => one_by_one(s, from, style),
+        Style::Bytes => one_by_one(s, from, style),
     }
 }

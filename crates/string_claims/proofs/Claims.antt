@@ -18,7 +18,7 @@ use Rattle.string_claims.proofs.Ends.{token-cut}
 use Rattle.string_claims.proofs.RoundTrip.{quoted-back, token-back, text-back, write-injective}
 use Rattle.strings.proofs.Places.{string-inside, text-inside}
 use Rattle.strings.proofs.Utf8Denoted.{unicode-valid}
-use Rattle.string_claims.proofs.Plain.{quoted-plain, write-plain, plain-at}
+use Rattle.string_claims.proofs.Printed.{quoted-printed, write-printed, printed-at}
 use Rattle.strings.proofs.Lengths.{string-length}
 use Rattle.strings_write.proofs.WriteLengths.{write-length}
 
@@ -48,10 +48,10 @@ pub writer-is-injective : Writer-Is-Injective
 writer-is-injective = write-injective
 
 pub written-is-one-line : Written-Is-One-Line
-written-is-one-line s = plain-at (writeString s) (write-plain s)
+written-is-one-line s = printed-at (writeString s) (write-printed s)
 
 pub bytes-form-is-one-line : Bytes-Form-Is-One-Line
-bytes-form-is-one-line s = plain-at (writeBytes s) (quoted-plain AsBytes s)
+bytes-form-is-one-line s = printed-at (writeBytes s) (quoted-printed AsBytes s)
 
 pub places-inside : Places-Inside
 places-inside room s number at r = (rw r at (text-inside room s)) .0 .1

@@ -64,13 +64,13 @@ unfoldable pub readToken : List ℕ → StringRead
 readToken s = readFrom (opening s) s
 
 -- "bytes after the closing quote", in a text of n bytes
-abbrev pub whole : ℕ → StringRead → StringRead
-whole n (accepted bs e) = pick (eqb e n) (accepted bs e) (refused trailing e)
-whole n (refused number at) = refused number at
+abbrev pub nothingBehind : ℕ → StringRead → StringRead
+nothingBehind n (accepted bs e) = pick (eqb e n) (accepted bs e) (refused trailing e)
+nothingBehind n (refused number at) = refused number at
 
 -- the string that a text is
 unfoldable pub readString : List ℕ → StringRead
-readString s = whole (length s) (readToken s)
+readString s = nothingBehind (length s) (readToken s)
 
 -- "all else is right, and the result is longer than the room"
 abbrev pub fitted : ℕ → StringRead → StringRead

@@ -8,6 +8,7 @@ use native.Mathlib.Omega.{arith}
 use borrow.Author.Tests.{eqb-true, ltb-true, ltb-false, ne-eqb, leb-true}
 use lib.Dec.{ltb, leb, eqb, lit≤}
 use lib.ListN.{take, drop}
+use Rattle.prelude.specs.Bytes.{doubleQuote, backslash}
 use Rattle.prelude.specs.Pick.{pick}
 use Rattle.prelude.proofs.Cases.{split, and-left, and-right, never}
 use Rattle.prelude.proofs.Suffix.{by-suffix}
@@ -28,13 +29,13 @@ use Rattle.strings_write.proofs.WriteSteps.{write-skip}
 -- a byte from 0x80 up
 high-text : (b : ℕ) → 0x80 ≤ b → byteText b ≡ b ∷ []
 high-text b h =
-    unslashed b (or-none _ _ (ne-eqb b 34 (λ z. omega arith)) (ne-eqb b 92 (λ z. omega arith))) (omega arith)
+    unslashed b (or-none _ _ (ne-eqb b doubleQuote (λ z. omega arith)) (ne-eqb b backslash (λ z. omega arith))) (omega arith)
 
-quote-text : 92 ∷ 34 ∷ [] ≡ escapeByte AsJson 34
+quote-text : backslash ∷ doubleQuote ∷ [] ≡ escapeByte AsJson doubleQuote
 unfolding escapeByte pick lookup
 quote-text = refl
 
-slash-text : 92 ∷ 92 ∷ [] ≡ escapeByte AsJson 92
+slash-text : backslash ∷ backslash ∷ [] ≡ escapeByte AsJson backslash
 unfolding escapeByte pick lookup
 slash-text = refl
 
@@ -43,10 +44,10 @@ marked-text : (x : ℕ) (r : List ℕ) → positive (charLen (x ∷ r)) ≡ true
 unfolding byteText pick literalLen
 marked-text x r c l =
     split (ltb x 32) (λ a. rw a)
-    (λ a. split (eqb x 34)
-    (λ q. let e : x ≡ 34 = eqb-true x 34 q in rw e quote-text)
-    (λ q. split (eqb x 92)
-    (λ b. let e : x ≡ 92 = eqb-true x 92 b in rw e slash-text)
+    (λ a. split (eqb x doubleQuote)
+    (λ q. let e : x ≡ doubleQuote = eqb-true x doubleQuote q in rw e quote-text)
+    (λ q. split (eqb x backslash)
+    (λ b. let e : x ≡ backslash = eqb-true x backslash b in rw e slash-text)
     (λ b. let z : charLen (x ∷ r) ≡ 0 = simp (a, q, b) at l in
     let y : _≡_ {A = Bool} false true = ap positive (sym z) ∙ c in never cc)))
 
@@ -55,12 +56,12 @@ literal-text : (x : ℕ) (r : List ℕ) (n : ℕ) → literalLen Json (x ∷ r) 
 unfolding literalLen pick
 literal-text x r n l =
     split (ltb x 32)
-    (λ a. let q : eqb x 34 ≡ false = ne-eqb x 34 (λ z. omega (arith, ltb-true x 32 a)) in
-    let b : eqb x 92 ≡ false = ne-eqb x 92 (λ z. omega (arith, ltb-true x 32 a)) in
+    (λ a. let q : eqb x doubleQuote ≡ false = ne-eqb x doubleQuote (λ z. omega (arith, ltb-true x 32 a)) in
+    let b : eqb x backslash ≡ false = ne-eqb x backslash (λ z. omega (arith, ltb-true x 32 a)) in
     let y : _≡_ {A = ℕ} 0 (suc n) = simp (a, q, b) at l in absurd (omega arith))
-    (λ a. split (eqb x 34)
+    (λ a. split (eqb x doubleQuote)
     (λ q. let y : _≡_ {A = ℕ} 0 (suc n) = simp q at l in absurd (omega arith))
-    (λ q. split (eqb x 92)
+    (λ q. split (eqb x backslash)
     (λ b. let y : _≡_ {A = ℕ} 0 (suc n) = simp (q, b) at l in absurd (omega arith))
     (λ b. unslashed x (or-none _ _ q b) (ltb-false x 32 a))))
 

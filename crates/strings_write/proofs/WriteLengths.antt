@@ -9,6 +9,7 @@ use borrow.Author.Tests.{eqb-false, ltb-true}
 use lib.Dec.{ltb, eqb, lit≤}
 use lib.ListN.{length, take, drop, length-append, length-drop}
 use lib.Seq.{length-take-le}
+use Rattle.prelude.specs.Bytes.{backslash}
 use Rattle.prelude.specs.Pick.{pick}
 use Rattle.prelude.proofs.Picks.{pick-case}
 use Rattle.prelude.proofs.Suffix.{by-suffix}
@@ -74,7 +75,7 @@ unfolding written
 written-least form zero x r c = number-some form x
 written-least form (suc n) x r c =
     let one : x < 128 → n ≡ 0 = λ h. omega (arith, ascii-len x r h) in
-    pick-case (AtLeast (suc n)) (eqb (lookup x (escaped form)) 0) (pick (ltb x 32) (byNumber form x) (x ∷ take n r)) (92 ∷ lookup x (escaped form) ∷ [])
+    pick-case (AtLeast (suc n)) (eqb (lookup x (escaped form)) 0) (pick (ltb x 32) (byNumber form x) (x ∷ take n r)) (backslash ∷ lookup x (escaped form) ∷ [])
     (λ e. pick-case (AtLeast (suc n)) (ltb x 32) (byNumber form x) (x ∷ take n r)
     (λ l. omega (arith, one (let h : x < 32 = ltb-true x 32 l in omega arith), number-some form x))
     (λ l. omega (arith, length-take-le n r (char-length x r n c))))

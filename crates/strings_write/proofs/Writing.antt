@@ -10,6 +10,7 @@ use borrow.Author.Tests.{le-leb, lt-leb, leb-true, leb-false}
 use lib.Dec.{leb}
 use lib.ListN.{length, getD, take, drop, set, length-drop, length-append, drop-of-length-le}
 use lib.Seq.{sets, length-sets, length-take-le, take-length, drop-drop, drop-cons}
+use Rattle.prelude.specs.Bytes.{doubleQuote}
 use Rattle.prelude.specs.Pick.{pick}
 use Rattle.prelude.proofs.Cases.{split}
 use Rattle.prelude.proofs.Stores.{sets-append, sets-over, empty-front}
@@ -212,7 +213,7 @@ unfolding writeString pick
 valid-text s e = rw e
 
 -- data that is one run of literal characters
-pub literal-text : (s : List ℕ) → literalRun Json 0 s ≡ length s → quoted AsJson s ≡ 34 ∷ (s ++ (34 ∷ []))
+pub literal-text : (s : List ℕ) → literalRun Json 0 s ≡ length s → quoted AsJson s ≡ doubleQuote ∷ (s ++ (doubleQuote ∷ []))
 unfolding quoted writeUnits
 literal-text s e =
     let u : writeUnits AsJson 0 s ≡ s =
@@ -221,18 +222,18 @@ literal-text s e =
 
 module _ (s out : List ℕ) (e : literalRun Json 0 s ≡ length s) where
   text-length : length (quoted AsJson s) ≡ length s + 2
-  text-length = ap length (literal-text s e) ∙ (let l : length (s ++ (34 ∷ [])) ≡ length s + 1 = length-append s (34 ∷ []) in omega arith)
+  text-length = ap length (literal-text s e) ∙ (let l : length (s ++ (doubleQuote ∷ [])) ≡ length s + 1 = length-append s (doubleQuote ∷ []) in omega arith)
 
   -- what the stores of a quote, the data and a quote leave
-  literal-stored : {o1 o2 o3 : List ℕ} → o1 ≡ set out 0 34 → o2 ≡ sets o1 1 (take (length s) s) → o3 ≡ set o2 (length s + 1) 34 → o3 ≡ sets out 0 (quoted AsJson s)
+  literal-stored : {o1 o2 o3 : List ℕ} → o1 ≡ set out 0 doubleQuote → o2 ≡ sets o1 1 (take (length s) s) → o3 ≡ set o2 (length s + 1) doubleQuote → o3 ≡ sets out 0 (quoted AsJson s)
   literal-stored {o1} {o2} {o3} p q r =
-      r ∙ ap (λ (x : List ℕ). set x (length s + 1) 34) (q ∙ (λ i. sets (p i) 1 (take-length s i)))
-      ∙ sets-append s (34 ∷ []) (set out 0 34) 1 (length s + 1) (omega arith) ∙ ap (sets out 0) (sym (literal-text s e))
+      r ∙ ap (λ (x : List ℕ). set x (length s + 1) doubleQuote) (q ∙ (λ i. sets (p i) 1 (take-length s i)))
+      ∙ sets-append s (doubleQuote ∷ []) (set out 0 doubleQuote) 1 (length s + 1) (omega arith) ∙ ap (sets out 0) (sym (literal-text s e))
 
   pub literal-full : length out < length s + 2 → Wrote-It (quoted AsJson s) out (Full 12) out
   literal-full h = full (quoted AsJson s) out (omega (arith, text-length))
 
-  pub literal-wrote : {o1 o2 o3 : List ℕ} → length s + 2 ≤ length out → o1 ≡ set out 0 34 → o2 ≡ sets o1 1 (take (length s) s) → o3 ≡ set o2 (length s + 1) 34
+  pub literal-wrote : {o1 o2 o3 : List ℕ} → length s + 2 ≤ length out → o1 ≡ set out 0 doubleQuote → o2 ≡ sets o1 1 (take (length s) s) → o3 ≡ set o2 (length s + 1) doubleQuote
       → Wrote-It (quoted AsJson s) out (Wrote (length s + 2)) o3
   literal-wrote {o1} {o2} {o3} h p q r = wrote (quoted AsJson s) out (length s + 2) o3 (omega (arith, text-length)) (sym text-length) (literal-stored p q r)
 
@@ -240,7 +241,7 @@ module _ (s out : List ℕ) (e : literalRun Json 0 s ≡ length s) where
   pub literal-over : {room : ℕ} {new : List ℕ} → room < length s + 2 → Passed (writeString s) room 0 out new
   literal-over h = rw (valid-text s (all-literal Json s e)) (stopped (omega (arith, text-length)))
 
-  pub literal-part : {room : ℕ} {o1 o2 o3 : List ℕ} → length s + 2 ≤ room → o1 ≡ set out 0 34 → o2 ≡ sets o1 1 (take (length s) s) → o3 ≡ set o2 (length s + 1) 34
+  pub literal-part : {room : ℕ} {o1 o2 o3 : List ℕ} → length s + 2 ≤ room → o1 ≡ set out 0 doubleQuote → o2 ≡ sets o1 1 (take (length s) s) → o3 ≡ set o2 (length s + 1) doubleQuote
       → Passed (writeString s) room (length s + 2) out o3
   literal-part h p q r = rw (valid-text s (all-literal Json s e)) (finished (omega (arith, text-length)) text-length (literal-stored p q r))
 

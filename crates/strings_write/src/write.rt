@@ -16,7 +16,7 @@ ghost use Rattle.strings_write.specs.inner.Passes.{Passed};
 ghost use Rattle.bytewise.specs.inner.Bytewise.{Fronted, Onward};
 use crate::answers::Written;
 use bytewise::front;
-use bytewise::texts;
+use bytewise::rest;
 use prelude::refusals;
 use prelude::slices;
 use runs::blocks;
@@ -175,7 +175,7 @@ fn write_behind(t: &[u8; 256], s: &[u8], at: usize, room: usize, out: &mut [u8])
         return j.at + 2;
     }
     if j.valid {
-        let o = texts::put_rest(t, s, j.at, j.at + 1, out);
+        let o = rest::put_rest(t, s, j.at, j.at + 1, out);
         out[o] = b'"';
         return o + 1;
     }

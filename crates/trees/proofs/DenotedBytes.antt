@@ -17,7 +17,7 @@ use Rattle.units.specs.declared.styles.Style.{Style}
 use Rattle.units.specs.declared.styles.Style.the-variants.{Json, Unicode, Bytes}
 use Rattle.units.specs.Styles.{quote, StringUnit, close, took, fault}
 use Rattle.units.specs.Hex.{hexVal, hexDigits, hexFrom, hexRun, hexNumber}
-use Rattle.units.specs.Escapes.{lookup, letters, lettersOf, high, isLow, lowHalf, codeUnit, fourDigits, scalar, isBraced, braced, codePoint, rawByte, short, escape}
+use Rattle.units.specs.Escapes.{lookup, letters, lettersOf, high, isLow, lowHalf, codeUnit, fourDigits, scalar, isBraced, braced, codePoint, rawByte, letterEscape as short, escape}
 use Rattle.units.specs.Units.{literal, unitAt}
 use Rattle.units.proofs.WrittenBack.{Each, lookup-each}
 use Rattle.prelude.specs.Bytes.{IsBytes}

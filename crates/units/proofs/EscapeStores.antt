@@ -4,12 +4,14 @@ use mathlib.Core.Path.{_≡_, refl, sym, ap, _∙_}
 use mathlib.Core.Bool.{Bool, true, false}
 use mathlib.Core.List.{List, [], _∷_}
 use Prim.Native.Nat.{ℕ, zero, suc, pred, _+_, _-_, _/_, _%_, _≤_, _<_}
+use Prim.Native.Char.{code}
 use native.Mathlib.Numerals.{add-one}
 use native.Mathlib.Omega.{arith}
 use borrow.Author.Tests.{eq-eqb, ne-eqb, eqb-true, eqb-false, ltb-true}
 use lib.Dec.{ltb, eqb}
 use lib.ListN.{length, set, length-set}
 use lib.Seq.{sets, set-out}
+use Rattle.prelude.specs.Bytes.{backslash}
 use Rattle.prelude.specs.Pick.{pick}
 use Rattle.prelude.proofs.Cases.{split}
 use Rattle.prelude.proofs.Stores.{sets-out}
@@ -25,11 +27,11 @@ use Rattle.units.proofs.WrittenBack.{escaped-ascii, unescaped}
 
 module _ (form : Form) (x : ℕ) where
   module _ (h l : ℕ) (eh : h ≡ hexDigit (x / 16)) (el : l ≡ hexDigit (x % 16)) where
-    pub json-number : form ≡ AsJson → 92 ∷ 117 ∷ 48 ∷ 48 ∷ h ∷ l ∷ [] ≡ byNumber form x
+    pub json-number : form ≡ AsJson → backslash ∷ code "u" ∷ code "0" ∷ code "0" ∷ h ∷ l ∷ [] ≡ byNumber form x
     unfolding byNumber
     json-number e = rw (e, eh, el)
 
-    pub bytes-number : form ≡ AsBytes → 92 ∷ 121 ∷ h ∷ l ∷ [] ≡ byNumber form x
+    pub bytes-number : form ≡ AsBytes → backslash ∷ code "y" ∷ h ∷ l ∷ [] ≡ byNumber form x
     unfolding byNumber
     bytes-number e = rw (e, eh, el)
 
@@ -42,7 +44,7 @@ module _ (form : Form) (x : ℕ) where
   bytes-length e = rw e
 
   module _ (k : ℕ) (ek : k ≡ lookup x (escaped form)) where
-    pub by-letter : (k ≡ 0 → ⊥) → 92 ∷ k ∷ [] ≡ escapeByte form x
+    pub by-letter : (k ≡ 0 → ⊥) → backslash ∷ k ∷ [] ≡ escapeByte form x
     unfolding escapeByte pick
     by-letter h = rw (← ek, ne-eqb k 0 h)
 

@@ -10,6 +10,7 @@ use lib.Dec.{ltb, eqb, lit<, lit≤}
 use lib.ListN.{length, getD, take, drop, length-drop, drop-of-length-le}
 use lib.Seq.{drop-drop, take-add, length-take-le}
 use borrow.Author.Tests.{ltb-false, ne-eqb}
+use Rattle.prelude.specs.Bytes.{backslash}
 use Rattle.prelude.specs.Pick.{pick}
 use Rattle.prelude.proofs.Cases.{split}
 use Rattle.prelude.proofs.Suffix.{by-suffix}
@@ -20,7 +21,7 @@ use Rattle.units.specs.declared.styles.Style.the-variants.{Json, Unicode
 use Rattle.units.specs.declared.styles.Form.{Form}
 use Rattle.units.specs.Styles.{quote, took, styleOf}
 use Rattle.units.specs.Escapes.{lookup}
-use Rattle.units.specs.Units.{unitAt, literalLen, literalRun, onward}
+use Rattle.units.specs.Units.{unitAt, literalLen, literalRun, orStop}
 use Rattle.units.specs.Written.{escaped, written}
 
 pub quote-ascii : (st : Style) → (32 ≤ quote st) × (quote st < 128)
@@ -31,7 +32,7 @@ quote-ascii Bytes = (lit≤ tt, lit< tt)
 -- the first byte of a literal character
 record Literal (st : Style) (x : ℕ) (r : List ℕ) (n : ℕ) : Type 0 where
   no-quote : eqb x (quote st) ≡ false
-  no-slash : eqb x 92 ≡ false
+  no-slash : eqb x backslash ≡ false
   no-control : ltb x 32 ≡ false
   size : charLen (x ∷ r) ≡ suc n
 
@@ -39,7 +40,7 @@ literal-is : (st : Style) (x : ℕ) (r : List ℕ) (n : ℕ) → literalLen st (
 unfolding literalLen pick
 literal-is st x r n e =
     split (eqb x (quote st)) (λ a. absurd (omega (arith, rw a at e)))
-    (λ a. split (eqb x 92) (λ b. absurd (omega (arith, simp (a, b) at e)))
+    (λ a. split (eqb x backslash) (λ b. absurd (omega (arith, simp (a, b) at e)))
     (λ b. split (ltb x 32) (λ c. absurd (omega (arith, simp (a, b, c) at e)))
     (λ c. record { no-quote = a; no-slash = b; no-control = c; size = simp (a, b, c) at e })))
 
@@ -62,7 +63,7 @@ literal-unit st [] n e = absurd (omega (arith, literal-nil st))
 literal-unit st (x ∷ r) n e = let l = literal-is st x r n e in simp (l .no-quote, l .no-slash, l .no-control, l .size)
 
 -- as it is written
-no-escape : (form : Form) (x : ℕ) → eqb x (quote (styleOf form)) ≡ false → eqb x 92 ≡ false → ltb x 32 ≡ false → lookup x (escaped form) ≡ 0
+no-escape : (form : Form) (x : ℕ) → eqb x (quote (styleOf form)) ≡ false → eqb x backslash ≡ false → ltb x 32 ≡ false → lookup x (escaped form) ≡ 0
 unfolding lookup pick
 no-escape form x q b c =
     let h : 32 ≤ x = ltb-false x 32 c in
@@ -87,7 +88,7 @@ module _ (st : Style) (P : List ℕ → ℕ → Type 0) (stop : (s : List ℕ) �
   unfolding literalRun
   one x r ih = go (literalLen st (x ∷ r)) refl
     where
-      go : (n : ℕ) → literalLen st (x ∷ r) ≡ n → P (x ∷ r) (onward n (λ m. literalRun st m r))
+      go : (n : ℕ) → literalLen st (x ∷ r) ≡ n → P (x ∷ r) (orStop n (λ m. literalRun st m r))
       go zero e = stop (x ∷ r) e
       go (suc n) e =
           let f : suc n ≤ suc (length r) = rw (literal-char st (x ∷ r) n e) at (char-le (x ∷ r)) in

@@ -1,6 +1,7 @@
 -- One unit written is one unit read, whatever follows it: hex digits read back by a table of sixteen, letters by a table of pairs,
 -- and a character as it is.
 -- Assumes nothing.
+use Prim.Native.Char.{code}
 use Prim.Native.Nat.{ℕ, zero, suc, pred, _+_, _*_, _/_, _%_, _<_}
 use mathlib.Core.Bool.{true, false}
 use mathlib.Core.List.{List, [], _∷_, _++_}
@@ -10,6 +11,7 @@ use lib.Dec.{ltb, eqb, lit<}
 use lib.ListN.{length, take}
 use lib.Seq.{take-at, length-take-le}
 use borrow.Author.Tests.{eqb-true, eqb-false, lt-ltb, lt-leb, ltb-true, le-ltb}
+use Rattle.prelude.specs.Bytes.{backslash}
 use Rattle.prelude.specs.Pick.{pick}
 use Rattle.prelude.proofs.Cases.{split}
 use Rattle.prelude.proofs.Tables.{at-below}
@@ -28,7 +30,7 @@ pub digit-back : (d : ℕ) → d < 16 → hexVal (hexDigit d) ≡ d
 unfolding hexDigit hexVal pick
 digit-back d h = eqb-true (hexVal (hexDigit d)) d (at-below (λ (k : ℕ). eqb (hexVal (hexDigit k)) k) 16 refl d h)
 
-zero-digit : hexVal 48 ≡ 0
+zero-digit : hexVal (code "0") ≡ 0
 unfolding hexVal pick
 zero-digit = refl
 
@@ -77,11 +79,11 @@ lookup-each P (e ∷ t) h x ne =
     (λ q. rw (q, eqb-true x (e .0) q) (h .0))
     (λ q. rw q (lookup-each P t (h .1) x (rw q at ne)))
 
-pub letter-back : (form : Form) (t : List ℕ) (x : ℕ) → (lookup x (escaped form) ≡ 0 → ⊥) → unitAt (styleOf form) (92 ∷ lookup x (escaped form) ∷ t) ≡ took 2 (x ∷ [])
+pub letter-back : (form : Form) (t : List ℕ) (x : ℕ) → (lookup x (escaped form) ≡ 0 → ⊥) → unitAt (styleOf form) (backslash ∷ lookup x (escaped form) ∷ t) ≡ took 2 (x ∷ [])
 unfolding unitAt escape lookup pick
-letter-back form t = lookup-each (λ k v. unitAt (styleOf form) (92 ∷ v ∷ t) ≡ took 2 (k ∷ [])) (escaped form) (each form)
+letter-back form t = lookup-each (λ k v. unitAt (styleOf form) (backslash ∷ v ∷ t) ≡ took 2 (k ∷ [])) (escaped form) (each form)
   where
-    each : (form : Form) → Each (λ k v. unitAt (styleOf form) (92 ∷ v ∷ t) ≡ took 2 (k ∷ [])) (escaped form)
+    each : (form : Form) → Each (λ k v. unitAt (styleOf form) (backslash ∷ v ∷ t) ≡ took 2 (k ∷ [])) (escaped form)
     each AsJson = (refl, (refl, (refl, (refl, (refl, (refl, (refl, tt)))))))
     each AsBytes = (refl, (refl, (refl, (refl, (refl, (refl, (refl, tt)))))))
 
@@ -89,11 +91,11 @@ pub escaped-ascii : (form : Form) (x : ℕ) → (lookup x (escaped form) ≡ 0 �
 escaped-ascii form = lookup-each (λ k v. k < 128) (escaped form) (quote-ascii (styleOf form) .1, (lit< tt, (lit< tt, (lit< tt, (lit< tt, (lit< tt, (lit< tt, tt)))))))
 
 -- a byte without an escape is neither the quote nor a backslash
-pub unescaped : (form : Form) (x : ℕ) → lookup x (escaped form) ≡ 0 → (eqb x (quote (styleOf form)) ≡ false) × (eqb x 92 ≡ false)
+pub unescaped : (form : Form) (x : ℕ) → lookup x (escaped form) ≡ 0 → (eqb x (quote (styleOf form)) ≡ false) × (eqb x backslash ≡ false)
 unfolding lookup pick
 unescaped form x e =
     split (eqb x (quote (styleOf form))) (λ q. absurd (omega (arith, rw q at e, quote-ascii (styleOf form) .0)))
-    (λ q. (q, split (eqb x 92) (λ p. absurd (omega (arith, simp (q, p) at e))) (λ p. p)))
+    (λ q. (q, split (eqb x backslash) (λ p. absurd (omega (arith, simp (q, p) at e))) (λ p. p)))
 
 ascii-one : (x : ℕ) (r : List ℕ) (n : ℕ) → x < 128 → charLen (x ∷ r) ≡ suc n → n ≡ 0
 ascii-one x r n h e = omega (arith, ascii-len x r h)

@@ -23,43 +23,43 @@ use Rattle.units.proofs.LiteralLaws.{quote-ascii}
 use Rattle.units.proofs.WrittenBack.{lookup-each}
 
 -- every byte is 0x20 or above
-abbrev pub Plain : List ℕ → Type 0
-Plain [] = Unit
-Plain (x ∷ r) = (32 ≤ x) × Plain r
+abbrev pub Printed : List ℕ → Type 0
+Printed [] = Unit
+Printed (x ∷ r) = (32 ≤ x) × Printed r
 
-pub plain-append : (s t : List ℕ) → Plain s → Plain t → Plain (s ++ t)
-plain-append [] t h g = g
-plain-append (x ∷ s) t h g = (h .0, plain-append s t (h .1) g)
+pub printed-append : (s t : List ℕ) → Printed s → Printed t → Printed (s ++ t)
+printed-append [] t h g = g
+printed-append (x ∷ s) t h g = (h .0, printed-append s t (h .1) g)
 
-digit-plain : (d : ℕ) → 32 ≤ hexDigit d
+digit-printed : (d : ℕ) → 32 ≤ hexDigit d
 unfolding hexDigit
-digit-plain d = pick-case (λ v. 32 ≤ v) (ltb d 10) _ _ (λ e. omega arith) (λ e. omega arith)
+digit-printed d = pick-case (λ v. 32 ≤ v) (ltb d 10) _ _ (λ e. omega arith) (λ e. omega arith)
 
-number-plain : (form : Form) (x : ℕ) → Plain (byNumber form x)
+number-printed : (form : Form) (x : ℕ) → Printed (byNumber form x)
 unfolding byNumber
-number-plain AsJson x = (lit≤ tt, (lit≤ tt, (lit≤ tt, (lit≤ tt, (digit-plain _, (digit-plain _, tt))))))
-number-plain AsBytes x = (lit≤ tt, (lit≤ tt, (digit-plain _, (digit-plain _, tt))))
+number-printed AsJson x = (lit≤ tt, (lit≤ tt, (lit≤ tt, (lit≤ tt, (digit-printed _, (digit-printed _, tt))))))
+number-printed AsBytes x = (lit≤ tt, (lit≤ tt, (digit-printed _, (digit-printed _, tt))))
 
-letter-plain : (form : Form) (x : ℕ) → (lookup x (escaped form) ≡ 0 → ⊥) → 32 ≤ lookup x (escaped form)
-letter-plain form =
+letter-printed : (form : Form) (x : ℕ) → (lookup x (escaped form) ≡ 0 → ⊥) → 32 ≤ lookup x (escaped form)
+letter-printed form =
     lookup-each (λ k v. 32 ≤ v) (escaped form) (quote-ascii (styleOf form) .0, (lit≤ tt, (lit≤ tt, (lit≤ tt, (lit≤ tt, (lit≤ tt, (lit≤ tt, tt)))))))
 
-tails-plain : (low high n : ℕ) (r : List ℕ) → 0x80 ≤ low → tails low high n r ≡ true → Plain (take n r)
+tails-printed : (low high n : ℕ) (r : List ℕ) → 0x80 ≤ low → tails low high n r ≡ true → Printed (take n r)
 unfolding tails
-tails-plain low high zero r h e = tt
-tails-plain low high (suc n) [] h e = tt
-tails-plain low high (suc n) (b ∷ r) h e = (
+tails-printed low high zero r h e = tt
+tails-printed low high (suc n) [] h e = tt
+tails-printed low high (suc n) (b ∷ r) h e = (
   omega (arith, leb-true low b (and-left (leb low b) _ (and-left (between low high b) _ e))),
-  tails-plain 0x80 0xbf n r (lit≤ tt) (and-right (between low high b) _ e),
+  tails-printed 0x80 0xbf n r (lit≤ tt) (and-right (between low high b) _ e),
 )
 
-pub written-plain : (form : Form) (n x : ℕ) (r : List ℕ) → charLen (x ∷ r) ≡ n → Plain (written form n x r)
+pub written-printed : (form : Form) (n x : ℕ) (r : List ℕ) → charLen (x ∷ r) ≡ n → Printed (written form n x r)
 unfolding written
-written-plain form zero x r c = number-plain form x
-written-plain form (suc n) x r c =
-    pick-case Plain (eqb (lookup x (escaped form)) 0) _ _
-    (λ e. pick-case Plain (ltb x 32) _ _ (λ l. number-plain form x) (λ l. (ltb-false x 32 l, tails-plain _ _ n r (low-bound _) (char-tails x r n c .1))))
-    (λ e. (lit≤ tt, (letter-plain form x (eqb-false _ 0 e), tt)))
+written-printed form zero x r c = number-printed form x
+written-printed form (suc n) x r c =
+    pick-case Printed (eqb (lookup x (escaped form)) 0) _ _
+    (λ e. pick-case Printed (ltb x 32) _ _ (λ l. number-printed form x) (λ l. (ltb-false x 32 l, tails-printed _ _ n r (low-bound _) (char-tails x r n c .1))))
+    (λ e. (lit≤ tt, (letter-printed form x (eqb-false _ 0 e), tt)))
 
 -- the longest escape that a form writes
 abbrev pub widest : Form → ℕ

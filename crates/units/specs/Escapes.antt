@@ -83,9 +83,9 @@ rawByte Unicode r = fault byteEscape
 rawByte Bytes r = pick (eqb (hexRun 2 r) 2) (took 4 (hexNumber 2 r ∷ [])) (fault badEscape)
 
 -- a two-byte escape for the byte b; 0 stands for no such escape
-abbrev pub short : ℕ → StringUnit
-short zero = fault badEscape
-short (suc b) = took 2 (suc b ∷ [])
+abbrev pub letterEscape : ℕ → StringUnit
+letterEscape zero = fault badEscape
+letterEscape (suc b) = took 2 (suc b ∷ [])
 
 -- an escape; the argument follows its backslash
 unfoldable pub escape : Style → List ℕ → StringUnit
@@ -93,4 +93,4 @@ escape st [] = fault badEscape
 escape st (c ∷ r) =
     pick (eqb c (code "u")) (codePoint st r)
     (pick (eqb c (code "y")) (rawByte st r)
-    (short (lookup c (lettersOf st))))
+    (letterEscape (lookup c (lettersOf st))))

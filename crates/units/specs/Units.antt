@@ -33,12 +33,12 @@ unfoldable pub literalLen : Style → List ℕ → ℕ
 literalLen st [] = 0
 literalLen st (x ∷ r) = pick (eqb x (quote st)) 0 (pick (eqb x backslash) 0 (pick (ltb x 32) 0 (charLen (x ∷ r))))
 
-abbrev pub onward : ℕ → (ℕ → ℕ) → ℕ
-onward zero next = 0
-onward (suc n) next = suc (next n)
+abbrev pub orStop : ℕ → (ℕ → ℕ) → ℕ
+orStop zero next = 0
+orStop (suc n) next = suc (next n)
 
 -- how many bytes at the front belong to literal characters; the first k belong to one already
 unfoldable pub literalRun : Style → ℕ → List ℕ → ℕ
 literalRun st k [] = 0
-literalRun st zero (x ∷ r) = onward (literalLen st (x ∷ r)) (λ m. literalRun st m r)
+literalRun st zero (x ∷ r) = orStop (literalLen st (x ∷ r)) (λ m. literalRun st m r)
 literalRun st (suc k) (x ∷ r) = suc (literalRun st k r)

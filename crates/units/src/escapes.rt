@@ -6,7 +6,7 @@ ghost use lib.ListN.{length, drop};
 ghost use Rattle.utf8.specs.Utf8.{encode};
 ghost use Rattle.units.specs.Styles.{took, unitOf, FewOf};
 ghost use Rattle.units.specs.declared.styles.Style.the-variants.{Unicode, Bytes};
-ghost use Rattle.units.specs.Escapes.{lookup, letters, lettersOf, lowHalf, codeUnit, fourDigits, scalar, braced, codePoint, rawByte, short, escape};
+ghost use Rattle.units.specs.Escapes.{lookup, letters, lettersOf, lowHalf, codeUnit, fourDigits, scalar, braced, codePoint, rawByte, letterEscape, escape};
 use crate::hex;
 use crate::styles::Style;
 use crate::styles::Unit;
@@ -47,7 +47,7 @@ pub fn common(c: u8) -> u8
 }
 
 // In the single-quoted styles `'` is a letter too.
-fn single(c: u8) -> u8
+fn single_quoted(c: u8) -> u8
     ensures { λ r. ⌜ r ≡ lookup c (lettersOf Unicode) ⌝ }
 {
     if c == b'\'' {
@@ -56,13 +56,13 @@ fn single(c: u8) -> u8
     common(c)
 }
 
-fn letter(c: u8, style: Style) -> u8
+fn byte_of(c: u8, style: Style) -> u8
     ensures { λ r. ⌜ r ≡ lookup c (lettersOf style) ⌝ }
 {
     match style {
         Style::Json => common(c),
-        Style::Unicode => single(c),
-        Style::Bytes => single(c),
+        Style::Unicode => single_quoted(c),
+        Style::Bytes => single_quoted(c),
     }
 }
 
@@ -235,8 +235,8 @@ fn raw_byte(s: &[u8], at: usize, style: Style) -> Unit
 }
 
 // A backslash and one letter, which denotes the byte b, or nothing where b is 0.
-fn short(b: u8) -> Unit
-    ensures is { λ r. ⌜ unitOf r ≡ short b ⌝ }
+fn letter_escape(b: u8) -> Unit
+    ensures is { λ r. ⌜ unitOf r ≡ letterEscape b ⌝ }
     ensures few { λ r. ⌜ FewOf r ⌝ }
 {
     if b == 0 {
@@ -258,5 +258,5 @@ pub fn escape_at(s: &[u8], at: usize, style: Style) -> Unit
     if c == b'y' {
         return raw_byte(s, at + 1, style);
     }
-    short(letter(c, style))
+    letter_escape(byte_of(c, style))
 }

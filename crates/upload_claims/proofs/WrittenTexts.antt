@@ -10,11 +10,11 @@ use lib.Dec.{eqb}
 use lib.ListN.{length, take, drop, length-append, take-append-drop}
 use lib.Seq.{append-snoc, length-take-le}
 use Rattle.prelude.specs.Pick.{pick}
-use Rattle.units.proofs.WrittenUnits.{Plain}
+use Rattle.units.proofs.WrittenUnits.{Printed as Plain}
 use Rattle.strings_write.specs.Write.{writeString}
 use Rattle.prelude.specs.Bytes.{IsBytes, LF}
 use Rattle.string_claims.proofs.RoundTrip.{bytes-drop}
-use Rattle.string_claims.proofs.Plain.{write-plain}
+use Rattle.string_claims.proofs.Printed.{write-printed as write-plain}
 use Rattle.lines.specs.Records.{headSize, lineRecord, none, lineFault}
 use Rattle.lines_write.specs.Write.{sizeAt, payloadAt, sound, soundFrom, linesFrom, writeQuoted}
 use Rattle.lines_write.specs.inner.Passes.{lineAt}

@@ -66,9 +66,9 @@ abbrev pub AllTripled : ℕ → List ℕ → ℕ → ℕ → Type 0
 AllTripled q s at n = (k : ℕ) → k < n → Tripled q (getD s (at + k) 0) (getD s (at + k + 1) 0) (getD s (at + k + 2) 0)
 
 -- how many bytes at a place belong to the character before it, by whether the first is a continuation
-abbrev pub taken : Bool → ℕ
-taken true = 1
-taken false = 0
+abbrev pub continued : Bool → ℕ
+continued true = 1
+continued false = 0
 
 -- the same of up to two bytes, by whether each is a continuation
 abbrev pub owed : Bool → Bool → ℕ
