@@ -11,15 +11,16 @@ use borrow.Author.Tests.{lt-ltb, le-ltb, ne-eqb, ltb-true, ltb-false, eqb-true}
 use lib.Bits.{bitAnd}
 use lib.Dec.{ltb, eqb, lit≤}
 use lib.ListN.{length, getD, take, drop, set, length-append, length-drop, length-take}
+use Rattle.prelude.specs.Bytes.{doubleQuote, backslash}
 use Rattle.prelude.proofs.Tables.{allBelow, at-below}
 use lib.Seq.{sets, length-sets, set-set, drop-cons, drop-drop, take-add, take-suc, length-take-le, getD-drop}
 use Rattle.prelude.specs.Pick.{pick}
-use Rattle.prelude.proofs.Cases.{split, never}
+use Rattle.prelude.proofs.Cases.{split, never, or-left, or-right}
 use Rattle.prelude.proofs.Picks.{pick-case}
 use Rattle.prelude.proofs.Stores.{sets-append, copied}
 use Rattle.utf8.specs.Class.{classOf}
 use Rattle.utf8.proofs.ByteClasses.{by-byte}
-use Rattle.units.specs.declared.styles.Style.the-variants.{Json}
+use Rattle.units.specs.declared.styles.Form.the-variants.{AsJson}
 use Rattle.units.specs.Escapes.{lookup}
 use Rattle.units.specs.Written.{escapeByte, byNumber, escaped}
 use Rattle.bytewise.specs.inner.Bytewise.{byteText, bytesText, textOf, Unmarked, Texted}
@@ -27,30 +28,22 @@ use Rattle.bytewise.specs.inner.Bytewise.{byteText, bytesText, textOf, U
 pub or-none : (a b : Bool) → a ≡ false → b ≡ false → a || b ≡ false
 or-none a b e f = rw (e, f)
 
-or-left : (a b : Bool) → a || b ≡ false → a ≡ false
-or-left true b e = e
-or-left false b e = refl
-
-or-right : (a b : Bool) → a || b ≡ false → b ≡ false
-or-right true b e = let z : _≡_ {A = Bool} true false = e in cc
-or-right false b e = e
-
 -- one byte
 
 abbrev Short : List ℕ → Type 0
 Short l = length l ≤ 6
 
-pub escape-short : (x : ℕ) → length (escapeByte Json x) ≤ 6
+pub escape-short : (x : ℕ) → length (escapeByte AsJson x) ≤ 6
 unfolding escapeByte byNumber
 escape-short x =
-    pick-case Short (eqb (lookup x (escaped Json)) 0) (byNumber Json x) (92 ∷ lookup x (escaped Json) ∷ [])
+    pick-case Short (eqb (lookup x (escaped AsJson)) 0) (byNumber AsJson x) (backslash ∷ lookup x (escaped AsJson) ∷ [])
     (λ a. lit≤ tt) (λ a. lit≤ tt)
 
 -- a byte that stands as it is unless it is a control
-abbrev pub Alike : ℕ → Type 0
-Alike b = 32 ≤ b → byteText b ≡ b ∷ []
+abbrev pub AsItIs : ℕ → Type 0
+AsItIs b = 32 ≤ b → byteText b ≡ b ∷ []
 
-pub unslashed : (b : ℕ) → eqb b 34 || eqb b 92 ≡ false → Alike b
+pub unslashed : (b : ℕ) → eqb b doubleQuote || eqb b backslash ≡ false → AsItIs b
 unfolding byteText pick
 unslashed b e h = rw (le-ltb b 32 h, e)
 
@@ -60,13 +53,13 @@ pub one-more : (P : ℕ → Type 0) (a b : Bool) (n : ℕ) → (a ≡ false → 
 one-more P a b n f g e = below-more P n (f (or-left a b e)) (g (or-right a b e))
 
 -- a byte that is no control, stored over a backslash or behind it
-pub text-stored : (b n o : ℕ) (out : List ℕ) → 32 ≤ b → n ≡ pick (eqb b 34 || eqb b 92) 1 0
-    → (o + n + 1 ≡ o + length (byteText b)) × (set (set out o 92) (o + n) b ≡ sets out o (byteText b))
+pub text-stored : (b n o : ℕ) (out : List ℕ) → 32 ≤ b → n ≡ pick (eqb b doubleQuote || eqb b backslash) 1 0
+    → (o + n + 1 ≡ o + length (byteText b)) × (set (set out o backslash) (o + n) b ≡ sets out o (byteText b))
 unfolding byteText pick
 text-stored b n o out h e =
-    split (eqb b 34 || eqb b 92)
+    split (eqb b doubleQuote || eqb b backslash)
     (λ t. let m : n ≡ 1 = e ∙ rw t in let a : o + 1 ≡ suc o = omega arith in simp (le-ltb b 32 h, t) (rw m (omega arith), rw (m, a) refl))
-    (λ t. let m : n ≡ 0 = e ∙ rw t in simp (le-ltb b 32 h, t) (rw m (omega arith), rw (m, add-zero o) (set-set out o 92 b)))
+    (λ t. let m : n ≡ 0 = e ∙ rw t in simp (le-ltb b 32 h, t) (rw m (omega arith), rw (m, add-zero o) (set-set out o backslash b)))
 
 -- by the class of the byte
 
@@ -74,7 +67,7 @@ abbrev slashOf : ℕ → ℕ
 slashOf k = pick (eqb k 2 || eqb k 4) 1 0
 
 abbrev slashBy : ℕ → ℕ
-slashBy b = pick (eqb b 34 || eqb b 92) 1 0
+slashBy b = pick (eqb b doubleQuote || eqb b backslash) 1 0
 
 abbrev shifted : ℕ → ℕ
 shifted k = bitAnd (20 / 2 ^ k) 1
@@ -94,7 +87,7 @@ pub slash-class : (b k n : ℕ) → k ≡ classOf b → n ≡ slashOf k → n �
 unfolding pick
 slash-class b k n e f =
     f ∙ ap slashOf e
-    ∙ by-byte slashOf slashBy slash-test (λ a h. let z : slashOf 13 ≡ slashBy a = rw (ne-eqb a 34 (λ z. omega arith), ne-eqb a 92 (λ z. omega arith)) refl in z) b
+    ∙ by-byte slashOf slashBy slash-test (λ a h. let z : slashOf 13 ≡ slashBy a = rw (ne-eqb a doubleQuote (λ z. omega arith), ne-eqb a backslash (λ z. omega arith)) refl in z) b
 
 abbrev oneOf : ℕ → ℕ
 oneOf k = pick (eqb k 1) 1 0
@@ -148,7 +141,7 @@ unfolding pick
 slash-within true n e = omega arith
 slash-within false n e = omega arith
 
-pub control-text : (b : ℕ) → b < 32 → escapeByte Json b ≡ byteText b
+pub control-text : (b : ℕ) → b < 32 → escapeByte AsJson b ≡ byteText b
 unfolding byteText pick
 control-text b h = rw (lt-ltb b 32 h)
 
@@ -197,8 +190,8 @@ bytes-one x = append-nil (byteText x)
 byte-length : (x : ℕ) → length (byteText x) ≤ 6
 unfolding byteText
 byte-length x =
-    pick-case Short (ltb x 32) (escapeByte Json x) _ (λ a. escape-short x)
-    (λ a. pick-case Short (eqb x 34 || eqb x 92) (92 ∷ x ∷ []) (x ∷ []) (λ b. lit≤ tt) (λ b. lit≤ tt))
+    pick-case Short (ltb x 32) (escapeByte AsJson x) _ (λ a. escape-short x)
+    (λ a. pick-case Short (eqb x doubleQuote || eqb x backslash) (backslash ∷ x ∷ []) (x ∷ []) (λ b. lit≤ tt) (λ b. lit≤ tt))
 
 bytes-length : (s : List ℕ) → length (bytesText s) ≤ 6 * length s
 unfolding bytesText

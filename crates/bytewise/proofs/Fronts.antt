@@ -10,6 +10,7 @@ use borrow.Author.Tests.{not-true, not-false}
 use lib.Dec.{lit≤}
 use lib.ListN.{length, getD, take, drop, set, length-drop}
 use lib.Seq.{sets, set-set, set-comm, drop-cons, drop-drop, take-add, length-take-le}
+use Rattle.prelude.specs.Bytes.{doubleQuote}
 use Rattle.prelude.proofs.Stores.{sets-append, copied}
 use Rattle.units.specs.declared.styles.Style.the-variants.{Json}
 use Rattle.utf8.specs.Utf8.{tail}
@@ -44,57 +45,57 @@ sixteen-stored s out o1 o2 at h e f =
 
 module _ (s : List ℕ) where
   -- n bytes more, the first of which may be stored already
-  over : (p at n : ℕ) (o out new : List ℕ) → p ≤ at → at ≤ p + n → p + n ≤ length s → out ≡ sets o 0 (34 ∷ take at s)
-      → new ≡ sets out (p + 1) (take n (drop p s)) → new ≡ sets o 0 (34 ∷ take (p + n) s)
+  over : (p at n : ℕ) (o out new : List ℕ) → p ≤ at → at ≤ p + n → p + n ≤ length s → out ≡ sets o 0 (doubleQuote ∷ take at s)
+      → new ≡ sets out (p + 1) (take n (drop p s)) → new ≡ sets o 0 (doubleQuote ∷ take (p + n) s)
   over p at n o out new h l g e f =
-      let t : List ℕ = sets (set o 0 34) 1 (take p s) in
+      let t : List ℕ = sets (set o 0 doubleQuote) 1 (take p s) in
       let b : List ℕ = take (at - p) (drop p s) in
       let d : List ℕ = take n (drop p s) in
       let m : p + (at - p) ≡ at = omega arith in
       let q : 1 + length (take p s) ≡ p + 1 = omega (arith, length-take-le p s (omega arith)) in
       let u : take at s ≡ take p s ++ b = ap (λ (i : ℕ). take i s) (sym m) ∙ take-add p (at - p) s in
-      let v : sets (set o 0 34) 1 (take at s) ≡ sets t (p + 1) b = ap (sets (set o 0 34) 1) u ∙ sym (sets-append (take p s) b (set o 0 34) 1 (p + 1) q) in
+      let v : sets (set o 0 doubleQuote) 1 (take at s) ≡ sets t (p + 1) b = ap (sets (set o 0 doubleQuote) 1) u ∙ sym (sets-append (take p s) b (set o 0 doubleQuote) 1 (p + 1) q) in
       let k : length b ≤ length d = omega (arith, length-take-le (at - p) (drop p s) (rw (length-drop p s) (omega arith)), length-take-le n (drop p s) (rw (length-drop p s) (omega arith))) in
       f ∙ ap (λ (x : List ℕ). sets x (p + 1) d) (e ∙ v) ∙ sets-again b d t (p + 1) k
-      ∙ sets-append (take p s) d (set o 0 34) 1 (p + 1) q ∙ ap (sets (set o 0 34) 1) (sym (take-add p n s))
+      ∙ sets-append (take p s) d (set o 0 doubleQuote) 1 (p + 1) q ∙ ap (sets (set o 0 doubleQuote) 1) (sym (take-add p n s))
 
-  pub front-none : (o : List ℕ) → Fronted s o 0 (set o 0 34)
+  pub front-none : (o : List ℕ) → Fronted s o 0 (set o 0 doubleQuote)
   front-none o = record { run = here Json s 0 (omega arith); stored = refl }
 
-  pub front-block : (at n : ℕ) (out new : List ℕ) → at + n ≤ length s → AllAlone 34 s at n → new ≡ sets out (at + 1) (take n (drop at s)) → Onward s at (at + n) out new
+  pub front-block : (at n : ℕ) (out new : List ℕ) → at + n ≤ length s → AllAlone doubleQuote s at n → new ≡ sets out (at + 1) (take n (drop at s)) → Onward s at (at + n) out new
   front-block at n out new h a w o f = record {
-    run = over-block Json s 0 34 refl n at (f .run) h a;
+    run = over-block Json s 0 doubleQuote refl n at (f .run) h a;
     stored = over at at n o out new (omega arith) (omega arith) h (f .stored) w;
   }
 
-  pub front-one : (at : ℕ) (out : List ℕ) → at < length s → Alone 34 (getD s at 0) → Onward s at (at + 1) out (set out (at + 1) (getD s at 0))
+  pub front-one : (at : ℕ) (out : List ℕ) → at < length s → Alone doubleQuote (getD s at 0) → Onward s at (at + 1) out (set out (at + 1) (getD s at 0))
   front-one at out h a =
-      front-block at 1 out _ (omega arith) (λ k l. subst (λ (i : ℕ). Alone 34 (getD s i 0)) (let z : at ≡ at + k = omega arith in z) a)
+      front-block at 1 out _ (omega arith) (λ k l. subst (λ (i : ℕ). Alone doubleQuote (getD s i 0)) (let z : at ≡ at + k = omega arith in z) a)
       (rw (drop-cons s at 0 h) refl)
 
-  pub front-last : (p at n : ℕ) (out new : List ℕ) → p ≤ at → at ≤ p + n → p + n ≡ length s → AllAlone 34 s p n → new ≡ sets out (p + 1) (take n (drop p s))
+  pub front-last : (p at n : ℕ) (out new : List ℕ) → p ≤ at → at ≤ p + n → p + n ≡ length s → AllAlone doubleQuote s p n → new ≡ sets out (p + 1) (take n (drop p s))
       → Onward s at (length s) out new
   front-last p at n out new h l g a w o f =
       let m : at + (p + n - at) ≡ length s = omega arith in
-      let b : AllAlone 34 s at (p + n - at) = λ k i. subst (λ (j : ℕ). Alone 34 (getD s j 0)) (let z : p + (at - p + k) ≡ at + k = omega arith in z) (a (at - p + k) (omega arith)) in
+      let b : AllAlone doubleQuote s at (p + n - at) = λ k i. subst (λ (j : ℕ). Alone doubleQuote (getD s j 0)) (let z : p + (at - p + k) ≡ at + k = omega arith in z) (a (at - p + k) (omega arith)) in
       record {
-        run = subst (Running Json s 0) m (over-block Json s 0 34 refl (p + n - at) at (f .run) (omega arith) b);
-        stored = over p at n o out new h l (omega arith) (f .stored) w ∙ ap (λ (i : ℕ). sets o 0 (34 ∷ take i s)) g;
+        run = subst (Running Json s 0) m (over-block Json s 0 doubleQuote refl (p + n - at) at (f .run) (omega arith) b);
+        stored = over p at n o out new h l (omega arith) (f .stored) w ∙ ap (λ (i : ℕ). sets o 0 (doubleQuote ∷ take i s)) g;
       }
 
   pub onward-then : (a b c : ℕ) (x y z : List ℕ) → Onward s a b x y → Onward s b c y z → Onward s a c x z
   onward-then a b c x y z f g = λ o h. g o (f o h)
 
   -- a block from p on that holds the place where the front ends, with what belongs to its last byte
-  pub front-threes : (p at e : ℕ) (out new : List ℕ) → p ≤ at → at ≤ p + 16 → p + 18 ≤ length s → Begun (getD s at 0) (getD s (at + 1) 0) → AllTripled 34 s p 16
+  pub front-threes : (p at e : ℕ) (out new : List ℕ) → p ≤ at → at ≤ p + 16 → p + 18 ≤ length s → Begun (getD s at 0) (getD s (at + 1) 0) → AllTripled doubleQuote s p 16
       → (e ≡ p + 16 + owedAt s (p + 16)) × (new ≡ sets out (p + 1) (take (e - p) (drop p s))) → Onward s at e out new
   front-threes p at e out new h l g b a w o f =
-      let r : Running Json s 0 e = over-threes Json s 0 34 refl p at e (f .run) h l (omega arith) b a (w .0 ∙ ap (λ (j : ℕ). p + 16 + owed (tail (getD s (p + 16) 0)) (tail (getD s j 0))) (let z : p + 16 + 1 ≡ p + 17 = omega arith in z)) in
+      let r : Running Json s 0 e = over-threes Json s 0 doubleQuote refl p at e (f .run) h l (omega arith) b a (w .0 ∙ ap (λ (j : ℕ). p + 16 + owed (tail (getD s (p + 16) 0)) (tail (getD s j 0))) (let z : p + 16 + 1 ≡ p + 17 = omega arith in z)) in
       let i : e ≤ length s = r .inside in
       let m : p + (e - p) ≡ e = omega (arith, w .0) in
       record {
         run = r;
-        stored = over p at (e - p) o out new h (omega (arith, w .0)) (omega (arith, w .0)) (f .stored) (w .1) ∙ ap (λ (j : ℕ). sets o 0 (34 ∷ take j s)) m;
+        stored = over p at (e - p) o out new h (omega (arith, w .0)) (omega (arith, w .0)) (f .stored) (w .1) ∙ ap (λ (j : ℕ). sets o 0 (doubleQuote ∷ take j s)) m;
       }
 
 -- continuations stored one by one, by whether each is one

@@ -4,7 +4,7 @@ ghost use mathlib.Core.Path.{_≡_};
 ghost use lib.ListN.{length, take, drop};
 ghost use lib.Seq.{sets};
 ghost use Rattle.bytewise.specs.inner.Bytewise.{Fronted, Onward, owedAt};
-use crate::texts;
+use crate::copies;
 use runs::blocks;
 use runs::threes;
 use utf8::chars;
@@ -14,8 +14,8 @@ fn put_sixteen(s: &[u8], at: usize, out: &mut [u8])
     requires { ⌜ (at + 16 ≤ length (now s)) × (at + 17 ≤ length (now out)) ⌝ }
     ensures { λ r. ⌜ now (out .exit) ≡ sets (now (out .entry)) (at + 1) (take 16 (drop at (now (s .entry)))) ⌝ }
 {
-    texts::copy_eight(s, at, at + 1, out);
-    texts::copy_eight(s, at + 8, at + 9, out);
+    copies::copy_eight(s, at, at + 1, out);
+    copies::copy_eight(s, at + 8, at + 9, out);
 }
 
 // Whole blocks of ASCII.
@@ -25,7 +25,7 @@ fn put_blocks(s: &[u8], out: &mut [u8]) -> usize
 {
     let mut at = 0;
     while 16 <= s.len() - at {
-        if blocks::any_odd(34, s, at, 16) {
+        if blocks::any_odd(b'"', s, at, 16) {
             return at;
         }
         put_sixteen(s, at, out);
@@ -46,7 +46,7 @@ fn put_last(s: &[u8], at: usize, out: &mut [u8]) -> usize
     if 16 <= n - at {
         return at;
     }
-    if blocks::any_odd(34, s, n - 16, 16) {
+    if blocks::any_odd(b'"', s, n - 16, 16) {
         return at;
     }
     put_sixteen(s, n - 16, out);
@@ -54,30 +54,30 @@ fn put_last(s: &[u8], at: usize, out: &mut [u8]) -> usize
 }
 
 // Four to eight bytes of ASCII, by two fours that may overlap.
-fn put_fours(s: &[u8], out: &mut [u8]) -> usize
+fn put_two_fours(s: &[u8], out: &mut [u8]) -> usize
     requires { ⌜ (4 ≤ length (now s)) × (length (now s) ≤ 8) × (length (now s) + 2 ≤ length (now out)) ⌝ }
     ensures { λ r. ⌜ (r ≤ length (now (s .entry))) × Onward (now (s .entry)) 0 r (now (out .entry)) (now (out .exit)) ⌝ }
 {
     let p = s.len() - 4;
-    if blocks::any_odd(34, s, 0, 4) | blocks::any_odd(34, s, p, 4) {
+    if blocks::any_odd(b'"', s, 0, 4) | blocks::any_odd(b'"', s, p, 4) {
         return 0;
     }
-    texts::copy_four(s, 0, 1, out);
-    texts::copy_four(s, p, p + 1, out);
+    copies::copy_four(s, 0, 1, out);
+    copies::copy_four(s, p, p + 1, out);
     s.len()
 }
 
 // Eight to sixteen bytes of ASCII, by two eights that may overlap.
-fn put_eights(s: &[u8], out: &mut [u8]) -> usize
+fn put_two_eights(s: &[u8], out: &mut [u8]) -> usize
     requires { ⌜ (8 ≤ length (now s)) × (length (now s) ≤ 16) × (length (now s) + 2 ≤ length (now out)) ⌝ }
     ensures { λ r. ⌜ (r ≤ length (now (s .entry))) × Onward (now (s .entry)) 0 r (now (out .entry)) (now (out .exit)) ⌝ }
 {
     let p = s.len() - 8;
-    if blocks::any_odd(34, s, 0, 8) | blocks::any_odd(34, s, p, 8) {
+    if blocks::any_odd(b'"', s, 0, 8) | blocks::any_odd(b'"', s, p, 8) {
         return 0;
     }
-    texts::copy_eight(s, 0, 1, out);
-    texts::copy_eight(s, p, p + 1, out);
+    copies::copy_eight(s, 0, 1, out);
+    copies::copy_eight(s, p, p + 1, out);
     s.len()
 }
 
@@ -91,24 +91,24 @@ fn put_ascii(s: &[u8], out: &mut [u8]) -> usize
         return 0;
     }
     if n < 8 {
-        return put_fours(s, out);
+        return put_two_fours(s, out);
     }
     if n < 16 {
-        return put_eights(s, out);
+        return put_two_eights(s, out);
     }
     let a = put_blocks(s, out);
     put_last(s, a, out)
 }
 
 // Single bytes of ASCII.
-fn put_singles(s: &[u8], from: usize, out: &mut [u8]) -> usize
+fn put_one_by_one(s: &[u8], from: usize, out: &mut [u8]) -> usize
     requires { ⌜ (from ≤ length (now s)) × (length (now s) + 2 ≤ length (now out)) ⌝ }
     ensures { λ r. ⌜ (r ≤ length (now (s .entry))) × Onward (now (s .entry)) from r (now (out .entry)) (now (out .exit)) ⌝ }
 {
     let mut at = from;
     while at < s.len() {
         let b = s[at];
-        if blocks::odd(34, b) {
+        if blocks::odd(b'"', b) {
             return at;
         }
         out[at + 1] = b;
@@ -150,7 +150,7 @@ fn put_threes(s: &[u8], from: usize, out: &mut [u8]) -> usize
 {
     let mut at = from;
     while 18 <= s.len() - at {
-        if !blocks::any_odd(34, s, at, 16) {
+        if !blocks::any_odd(b'"', s, at, 16) {
             put_sixteen(s, at, out);
             at += 16;
             continue;
@@ -161,7 +161,7 @@ fn put_threes(s: &[u8], from: usize, out: &mut [u8]) -> usize
         if !threes::begins(s[at], s[at + 1]) {
             return at;
         }
-        if threes::any_odd_three(34, s, at) {
+        if threes::any_odd_three(b'"', s, at) {
             return at;
         }
         at = put_through(s, at, out);
@@ -187,7 +187,7 @@ fn put_last_threes(s: &[u8], at: usize, out: &mut [u8]) -> usize
     if !threes::begins(s[at], s[at + 1]) {
         return at;
     }
-    if threes::any_odd_three(34, s, n - 18) {
+    if threes::any_odd_three(b'"', s, n - 18) {
         return at;
     }
     put_through(s, n - 18, out)
@@ -206,7 +206,7 @@ fn put_wide(s: &[u8], from: usize, out: &mut [u8]) -> usize
     }
     let a = put_threes(s, from, out);
     let b = put_last_threes(s, a, out);
-    put_singles(s, b, out)
+    put_one_by_one(s, b, out)
 }
 
 // The same from any byte on.
@@ -214,7 +214,7 @@ pub fn put_onward(s: &[u8], from: usize, out: &mut [u8]) -> usize
     requires { ⌜ (from ≤ length (now s)) × (length (now s) + 2 ≤ length (now out)) ⌝ }
     ensures { λ r. ⌜ (r ≤ length (now (s .entry))) × Onward (now (s .entry)) from r (now (out .entry)) (now (out .exit)) ⌝ }
 {
-    let a = put_singles(s, from, out);
+    let a = put_one_by_one(s, from, out);
     put_wide(s, a, out)
 }
 
@@ -223,6 +223,6 @@ pub fn put_front(s: &[u8], out: &mut [u8]) -> usize
     requires { ⌜ length (now s) + 2 ≤ length (now out) ⌝ }
     ensures { λ r. ⌜ Fronted (now (s .entry)) (now (out .entry)) r (now (out .exit)) ⌝ }
 {
-    out[0] = 34;
+    out[0] = b'"';
     put_ascii(s, out)
 }

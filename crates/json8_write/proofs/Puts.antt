@@ -16,7 +16,7 @@ use Rattle.prelude.proofs.Picks.{pick-true, pick-false, pick-case}
 use Rattle.prelude.proofs.Stores.{sets-append, sets-part}
 use Rattle.prelude.specs.Pick.{pick}
 use Rattle.utf8.specs.Utf8.{validUtf8}
-use Rattle.units.specs.declared.styles.Style.the-variants.{Json, Bytes}
+use Rattle.units.specs.declared.styles.Form.the-variants.{AsJson, AsBytes}
 use Rattle.strings_write.specs.Write.{quoted, writeString}
 use Rattle.strings_write.specs.inner.Passes.{Passed}
 use Rattle.strings_write.proofs.Writing.{quoted-positive}
@@ -66,7 +66,7 @@ module _ (s : List ℕ) (at n : ℕ) (h : at + n ≤ length s) {room o : ℕ} {o
 -- a string, as one pass of its writer puts it into the part from o on, or nowhere where o is past the end
 string-some : (s : List ℕ) → 0 < length (writeString s)
 unfolding writeString
-string-some s = pick-case (λ (x : List ℕ). 0 < length x) (validUtf8 s) (quoted Json s) (quoted Bytes s) (λ e. quoted-positive Json s) (λ e. quoted-positive Bytes s)
+string-some s = pick-case (λ (x : List ℕ). 0 < length x) (validUtf8 s) (quoted AsJson s) (quoted AsBytes s) (λ e. quoted-positive AsJson s) (λ e. quoted-positive AsBytes s)
 
 module _ (s out : List ℕ) (room o b m : ℕ) (part : List ℕ) (h : o ≤ room)
     (p : Passed (writeString s) (room - o) m (take (length out - b) (drop b out)) part) where

@@ -16,9 +16,9 @@ use Rattle.units.specs.declared.styles.Style.{Style}
 use Rattle.units.specs.declared.styles.Style.the-variants.{Json, Unicode, Bytes}
 use Rattle.units.specs.Styles.{quote, StringUnit, close, took, fault}
 use Rattle.units.specs.Hex.{hexRun}
-use Rattle.units.specs.Escapes.{lookup, lettersOf, codeUnit, fourDigits, scalar, isBraced, braced, codePoint, rawByte, short, escape}
+use Rattle.units.specs.Escapes.{lookup, lettersOf, codeUnit, fourDigits, scalar, isBraced, braced, codePoint, rawByte, letterEscape, escape}
 use Rattle.units.specs.Units.{literal, unitAt}
-use Rattle.strings.specs.Read.{StringRead, accepted, refused, more, after, whole, readUnits, Opening, opens, unopened, opening, readFrom, readToken, readString}
+use Rattle.strings.specs.Read.{StringRead, accepted, refused, more, after, nothingBehind, readUnits, Opening, opens, unopened, opening, readFrom, readToken, readString}
 use Rattle.strings.proofs.Steps.{read-skip}
 use Rattle.strings.proofs.Places.{Inside, string-inside}
 use Rattle.lines.specs.declared.bare.Checked.{Checked}
@@ -63,7 +63,7 @@ raw-fault Json r = (lit< tt, lit< tt)
 raw-fault Unicode r = (lit< tt, lit< tt)
 raw-fault Bytes r = pick-case UnitFault (eqb (hexRun 2 r) 2) _ _ (λ e. tt) (λ e. (lit< tt, lit< tt))
 
-short-fault : (b : ℕ) → UnitFault (short b)
+short-fault : (b : ℕ) → UnitFault (letterEscape b)
 short-fault zero = (lit< tt, lit< tt)
 short-fault (suc b) = tt
 
@@ -116,7 +116,7 @@ from-fault : (o : Opening) (s : List ℕ) → StringFault (readFrom o s)
 from-fault (opens st n) s = rw (read-skip st n n s) (by-suffix (UnitsFault st) (fault-none st) (fault-one st) (drop n s) n)
 from-fault unopened s = (lit< tt, lit< tt)
 
-whole-fault : (m : ℕ) (r : StringRead) → StringFault r → StringFault (whole m r)
+whole-fault : (m : ℕ) (r : StringRead) → StringFault r → StringFault (nothingBehind m r)
 whole-fault m (accepted bs e) h = pick-case StringFault (eqb e m) _ _ (λ q. tt) (λ q. (lit< tt, lit< tt))
 whole-fault m (refused number at) h = h
 

@@ -5,7 +5,7 @@ use mathlib.Core.Bool.{Bool, true}
 use mathlib.Core.List.{List, [], _∷_}
 use lib.Dec.{ltb, eqb}
 use lib.ListN.{drop}
-use Rattle.prelude.specs.Bytes.{space, tab, CR}
+use Rattle.prelude.specs.Bytes.{space, TAB, CR}
 use Rattle.prelude.specs.Pick.{pick}
 use Rattle.prelude.specs.Refusals.{control}
 use Rattle.utf8.specs.declared.chars.Char.{Char}
@@ -17,7 +17,7 @@ use Rattle.lines.specs.declared.bare.Checked.the-variants.{Fine, Faulty}
 
 -- "Space, tab and CR"
 unfoldable pub blank : ℕ → Bool
-blank x = pick (eqb x space) true (pick (eqb x tab) true (eqb x CR))
+blank x = pick (eqb x space) true (pick (eqb x TAB) true (eqb x CR))
 
 -- how many blanks stand first
 unfoldable pub leads : List ℕ → ℕ
@@ -44,7 +44,7 @@ badChar (Bad number) = number
 
 -- "valid UTF-8, with no control but tab": the fault of the character c that x begins, 0 where there is none
 unfoldable pub bareFault : ℕ → Char → ℕ
-bareFault x c = pick (ltb x 0x20) (pick (eqb x tab) 0 control) (badChar c)
+bareFault x c = pick (ltb x 0x20) (pick (eqb x TAB) 0 control) (badChar c)
 
 abbrev pub unless : ℕ → ℕ → Checked → Checked
 unless p zero go = go

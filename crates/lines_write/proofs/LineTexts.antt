@@ -18,7 +18,7 @@ use Rattle.prelude.proofs.Cases.{split, never, and-left, and-right}
 use Rattle.prelude.proofs.Picks.{pick-case}
 use Rattle.prelude.proofs.Stores.{sets-append, sets-over, empty-front, sets-part}
 use Rattle.utf8.specs.Utf8.{validUtf8}
-use Rattle.units.specs.declared.styles.Style.the-variants.{Json, Bytes}
+use Rattle.units.specs.declared.styles.Form.the-variants.{AsJson, AsBytes}
 use Rattle.strings_write.specs.Write.{writeString}
 use Rattle.strings_write.specs.inner.Passes.{Passed}
 use Rattle.strings_write.proofs.Writing.{quoted-positive}
@@ -126,7 +126,7 @@ module _ (s : List ℕ) (at : ℕ) (i : Judged s at) where
 text-some : (bs : List ℕ) → 0 < length (writeString bs)
 unfolding writeString
 text-some bs =
-    pick-case (λ (t : List ℕ). 0 < length t) (validUtf8 bs) _ _ (λ e. quoted-positive Json bs) (λ e. quoted-positive Bytes bs)
+    pick-case (λ (t : List ℕ). 0 < length t) (validUtf8 bs) _ _ (λ e. quoted-positive AsJson bs) (λ e. quoted-positive AsBytes bs)
 
 -- a line put, and all lines
 abbrev Line-Placed : List ℕ → ℕ → ℕ → ℕ → List ℕ → List ℕ → Type 0

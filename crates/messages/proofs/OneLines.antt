@@ -11,9 +11,9 @@ use lib.Dec.{eqb, leb, ltb}
 use Rattle.prelude.proofs.Cases.{and-left, and-right}
 use Rattle.prelude.proofs.Picks.{pick-case}
 use Rattle.prelude.specs.Pick.{pick}
-use Rattle.units.proofs.WrittenUnits.{Plain, plain-append}
+use Rattle.units.proofs.WrittenUnits.{Printed as Plain, printed-append as plain-append}
 use Rattle.strings_write.specs.Write.{writeString}
-use Rattle.string_claims.proofs.Plain.{write-plain}
+use Rattle.string_claims.proofs.Printed.{write-printed as write-plain}
 use Rattle.messages.specs.declared.messages.Message.{Message}
 use Rattle.messages.specs.declared.messages.Message.the-variants.{Line, Text, Quoted, Verdict, Failed, Empty, Long}
 use Rattle.messages.specs.Texts.{words, decimalIn, decimal}

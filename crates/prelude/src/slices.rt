@@ -1,6 +1,6 @@
 // Reads that answer past the end, and stores that stop at the room: index arithmetic ends here.
 ghost use mathlib.Core.Path.{_≡_};
-ghost use Prim.Native.Nat.{_+_, _-_, _≤_};
+ghost use Prim.Native.Nat.{_+_, _-_, _<_, _≤_};
 ghost use lib.ListN.{length, getD, take, drop, set};
 ghost use lib.Seq.{sets};
 
@@ -29,6 +29,17 @@ pub fn least(a: usize, b: usize) -> usize
     ensures { λ r. ⌜ (r ≤ a) × (r ≤ b) × (a ≤ b → r ≡ a) × (b ≤ a → r ≡ b) ⌝ }
 {
     if a < b { a } else { b }
+}
+
+// An end for a scan: n bytes on, or where a text of that length ends.
+pub fn soon(length: usize, at: usize, n: usize) -> usize
+    requires { ⌜ (at ≤ length) × (0 < n) ⌝ }
+    ensures { λ r. ⌜ (r ≤ length) × (at < length → at < r) ⌝ }
+{
+    if length - at < n {
+        return length;
+    }
+    at + n
 }
 
 fn left(length: usize, o: usize) -> usize

@@ -11,8 +11,9 @@ use lib.ListN.{length, getD, drop}
 use lib.Seq.{drop-cons, getD-drop}
 use borrow.Author.Count.{below-more}
 use borrow.Author.Tests.{ltb-true, ltb-false, leb-true, leb-false, eqb-false, le-ltb, lt-ltb, ne-eqb, le-leb, lt-leb}
+use Rattle.prelude.specs.Bytes.{doubleQuote, backslash}
 use Rattle.prelude.specs.Pick.{pick}
-use Rattle.prelude.proofs.Cases.{split, never}
+use Rattle.prelude.proofs.Cases.{split, or-left, or-right, never}
 use Rattle.utf8.specs.Class.{classOf}
 use Rattle.utf8.specs.Utf8.{tail, twoBytes, longLen, lenBy, charLen}
 use Rattle.utf8.proofs.Characters.{ascii-len}
@@ -20,17 +21,9 @@ use Rattle.units.specs.declared.styles.Style.{Style}
 use Rattle.units.specs.declared.styles.Style.the-variants.{Json}
 use Rattle.units.specs.Styles.{quote}
 use Rattle.units.specs.Units.{literalLen}
-use Rattle.runs.specs.inner.Blocks.{Running, Alone, Paired, AllAlone, AllPaired, taken}
+use Rattle.runs.specs.inner.Blocks.{Running, Alone, Paired, AllAlone, AllPaired, continued}
 use Rattle.units.proofs.LiteralClasses.{two-bytes}
 use Rattle.runs.proofs.LiteralRuns.{here, moved}
-
-pub or-left : (a b : Bool) → a || b ≡ false → a ≡ false
-or-left true b e = e
-or-left false b e = refl
-
-pub or-right : (a b : Bool) → a || b ≡ false → b ≡ false
-or-right true b e = let z : _≡_ {A = Bool} true false = e in cc
-or-right false b e = e
 
 pub same-test : (a b : Bool) → not (Bool·beq a b) ≡ false → a ≡ b
 same-test true true e = refl
@@ -38,24 +31,24 @@ same-test true false e = e
 same-test false true e = sym e
 same-test false false e = refl
 
-pub alone : (q b : ℕ) → ltb b 32 || (leb 128 b || (eqb b 92 || eqb b q)) ≡ false → Alone q b
+pub alone : (q b : ℕ) → ltb b 32 || (leb 128 b || (eqb b backslash || eqb b q)) ≡ false → Alone q b
 alone q b e =
     let f = or-right (ltb b 32) _ e in
     let g = or-right (leb 128 b) _ f in
     record {
       printed = ltb-false b 32 (or-left _ _ e);
       ascii = leb-false 128 b (or-left _ _ f);
-      no-slash = eqb-false b 92 (or-left _ _ g);
-      no-quote = eqb-false b q (or-right (eqb b 92) _ g);
+      no-slash = eqb-false b backslash (or-left _ _ g);
+      no-quote = eqb-false b q (or-right (eqb b backslash) _ g);
     }
 
 pub paired : (q b c : ℕ) (t : Bool) → t ≡ tail c
-    → ltb b 32 || (leb 224 b || (eqb b 92 || (eqb b q || (eqb b 192 || (eqb b 193 || not (Bool·beq t (leb 192 b))))))) ≡ false
+    → ltb b 32 || (leb 224 b || (eqb b backslash || (eqb b q || (eqb b 192 || (eqb b 193 || not (Bool·beq t (leb 192 b))))))) ≡ false
     → Paired q b c
 paired q b c t et e =
     let f = or-right (ltb b 32) _ e in
     let g = or-right (leb 224 b) _ f in
-    let h = or-right (eqb b 92) _ g in
+    let h = or-right (eqb b backslash) _ g in
     let i = or-right (eqb b q) _ h in
     let j = or-right (eqb b 192) _ i in
     let m : t ≡ leb 192 b = same-test t (leb 192 b) (or-right (eqb b 193) _ j) in
@@ -64,7 +57,7 @@ paired q b c t et e =
     record {
       printed = ltb-false b 32 (or-left _ _ e);
       short = leb-false 224 b (or-left _ _ f);
-      no-slash = eqb-false b 92 (or-left _ _ g);
+      no-slash = eqb-false b backslash (or-left _ _ g);
       no-quote = eqb-false b q (or-left _ _ h);
       lead = λ l. omega arith;
       behind-lead = λ l. sym et ∙ m ∙ le-leb 192 b l;
@@ -122,21 +115,21 @@ unfolding charLen lenBy longLen twoBytes pick
 two-len b r h g e = rw (class-two b h g, e) refl
 
 module _ (st : Style) (s : List ℕ) where
-  pub char-at : (at : ℕ) → at < length s → 32 ≤ getD s at 0 → (getD s at 0 ≡ 92 → ⊥) → (getD s at 0 ≡ quote st → ⊥)
+  pub char-at : (at : ℕ) → at < length s → 32 ≤ getD s at 0 → (getD s at 0 ≡ backslash → ⊥) → (getD s at 0 ≡ quote st → ⊥)
       → charLen (getD s at 0 ∷ drop (suc at) s) ≡ literalLen st (drop at s)
   unfolding literalLen pick
   char-at at h p b q = rw (drop-cons s at 0 h) (simp (ne-eqb _ _ q, ne-eqb _ _ b, le-ltb _ _ p))
 
   -- a byte at which a run ends
-  pub stop-byte : (at q : ℕ) → at < length s → q ≡ quote st → ltb (getD s at 0) 32 || (eqb (getD s at 0) 92 || eqb (getD s at 0) q) ≡ true
+  pub stop-byte : (at q : ℕ) → at < length s → q ≡ quote st → ltb (getD s at 0) 32 || (eqb (getD s at 0) backslash || eqb (getD s at 0) q) ≡ true
       → 0 ≡ literalLen st (drop at s)
   unfolding literalLen pick
   stop-byte at q h eq e =
       let b : ℕ = getD s at 0 in
-      let f : ltb b 32 || (eqb b 92 || eqb b (quote st)) ≡ true = rw eq at e in
+      let f : ltb b 32 || (eqb b backslash || eqb b (quote st)) ≡ true = rw eq at e in
       rw (drop-cons s at 0 h)
       (split (eqb b (quote st)) (λ x. simp x)
-      (λ x. split (eqb b 92) (λ y. simp (x, y))
+      (λ x. split (eqb b backslash) (λ y. simp (x, y))
       (λ y. split (ltb b 32) (λ z. simp (x, y, z)) (λ z. let u : _≡_ {A = Bool} false true = simp (x, y, z) at f in never cc))))
 
   pub one-char : (at : ℕ) → at < length s → Alone (quote st) (getD s at 0) → 1 ≡ literalLen st (drop at s)
@@ -158,15 +151,15 @@ module _ (st : Style) (s : List ℕ) where
         (moved st s from (at + n) 1 i (one-char (at + n) (omega arith) (a n (omega arith))))
 
     -- behind a byte and what belongs to it, the same of the next byte
-    on : (i : ℕ) → i < length s → Paired (quote st) (getD s i 0) (getD s (i + 1) 0) → Running st s from (i + taken (tail (getD s i 0)))
-        → Running st s from (i + 1 + taken (tail (getD s (i + 1) 0)))
+    on : (i : ℕ) → i < length s → Paired (quote st) (getD s i 0) (getD s (i + 1) 0) → Running st s from (i + continued (tail (getD s i 0)))
+        → Running st s from (i + 1 + continued (tail (getD s (i + 1) 0)))
     on i h p k =
         let b : ℕ = getD s i 0 in
-        let next : (m : ℕ) (t : Bool) → Running st s from m → m ≡ i + 1 + taken t → tail (getD s (i + 1) 0) ≡ t
-        → Running st s from (i + 1 + taken (tail (getD s (i + 1) 0))) =
-        λ m t r e f. subst (λ (x : Bool). Running st s from (i + 1 + taken x)) (sym f) (subst (Running st s from) e r) in
-        let now : (t : Bool) (m : ℕ) → tail b ≡ t → i + taken t ≡ m → Running st s from m =
-        λ t m f e. subst (Running st s from) e (subst (λ (x : Bool). Running st s from (i + taken x)) f k) in
+        let next : (m : ℕ) (t : Bool) → Running st s from m → m ≡ i + 1 + continued t → tail (getD s (i + 1) 0) ≡ t
+        → Running st s from (i + 1 + continued (tail (getD s (i + 1) 0))) =
+        λ m t r e f. subst (λ (x : Bool). Running st s from (i + 1 + continued x)) (sym f) (subst (Running st s from) e r) in
+        let now : (t : Bool) (m : ℕ) → tail b ≡ t → i + continued t ≡ m → Running st s from m =
+        λ t m f e. subst (Running st s from) e (subst (λ (x : Bool). Running st s from (i + continued x)) f k) in
         split (ltb b 0x80)
         (λ l. let a : b < 0x80 = ltb-true b 0x80 l in
         let r : Running st s from (i + 1) =
@@ -179,12 +172,12 @@ module _ (st : Style) (s : List ℕ) where
         next (i + 2) true (moved st s from i 2 (now false i (tail-lead b c) (omega arith)) (two-char i h p c)) (omega arith) (p .behind-lead c)))
 
     pub pair-run : (n at : ℕ) → Running st s from at → at + n < length s → tail (getD s at 0) ≡ false → AllPaired (quote st) s at n
-        → Running st s from (at + n + taken (tail (getD s (at + n) 0)))
+        → Running st s from (at + n + continued (tail (getD s (at + n) 0)))
     pair-run zero at k h t a =
-        subst (λ (i : ℕ). Running st s from (i + taken (tail (getD s i 0)))) (let z : at ≡ at + 0 = omega arith in z)
-        (subst (λ (x : Bool). Running st s from (at + taken x)) (sym t) (subst (Running st s from) (let z : at ≡ at + 0 = omega arith in z) k))
+        subst (λ (i : ℕ). Running st s from (i + continued (tail (getD s i 0)))) (let z : at ≡ at + 0 = omega arith in z)
+        (subst (λ (x : Bool). Running st s from (at + continued x)) (sym t) (subst (Running st s from) (let z : at ≡ at + 0 = omega arith in z) k))
     pair-run (suc n) at k h t a =
-        subst (λ (i : ℕ). Running st s from (i + taken (tail (getD s i 0)))) (let z : at + n + 1 ≡ at + suc n = omega arith in z)
+        subst (λ (i : ℕ). Running st s from (i + continued (tail (getD s i 0)))) (let z : at + n + 1 ≡ at + suc n = omega arith in z)
         (on (at + n) (omega arith) (a n (omega arith)) (pair-run n at k (omega arith) t (λ j l. a j (omega arith))))
 
 -- what holds in two blocks that meet, or overlap, holds up to the end of the second
@@ -197,11 +190,11 @@ joined P a p n last e g f h from m l t k i =
     (λ u. let v : a + n ≤ from + k = ltb-false (from + k) (a + n) u in
     subst P (let z : p + (from + k - p) ≡ from + k = omega arith in z) (h (from + k - p) (omega arith)))
 
-pub with-next : (e : ℕ) (r t : Bool) → r ≡ t → r ≡ true → e + 1 ≡ e + taken t
-with-next e r t f g = ap (λ (x : Bool). e + taken x) (sym g ∙ f)
+pub with-next : (e : ℕ) (r t : Bool) → r ≡ t → r ≡ true → e + 1 ≡ e + continued t
+with-next e r t f g = ap (λ (x : Bool). e + continued x) (sym g ∙ f)
 
-pub without-next : (e : ℕ) (r t : Bool) → r ≡ t → r ≡ false → e ≡ e + taken t
-without-next e r t f g = (let z : e ≡ e + 0 = omega arith in z) ∙ ap (λ (x : Bool). e + taken x) (sym g ∙ f)
+pub without-next : (e : ℕ) (r t : Bool) → r ≡ t → r ≡ false → e ≡ e + continued t
+without-next e r t f g = (let z : e ≡ e + 0 = omega arith in z) ∙ ap (λ (x : Bool). e + continued x) (sym g ∙ f)
 
 -- the same for each way that the code takes, where q is the quote that it was told and no test found anything
 module _ (st : Style) (s : List ℕ) (from : ℕ) (q : ℕ) (eq : q ≡ quote st) where
@@ -209,7 +202,7 @@ module _ (st : Style) (s : List ℕ) (from : ℕ) (q : ℕ) (eq : q ≡ quote st
   over-block n at k h a = alone-run st s from n at k h (rw eq at a)
 
   pub over-pairs : (at e : ℕ) (t : Bool) → Running st s from at → at + 33 ≤ length s → t ≡ tail (getD s at 0) → t ≡ false → AllPaired q s at 32
-      → e ≡ at + 32 + taken (tail (getD s (at + 32) 0)) → Running st s from e
+      → e ≡ at + 32 + continued (tail (getD s (at + 32) 0)) → Running st s from e
   over-pairs at e t k h f g a p =
       subst (Running st s from) (sym p) (pair-run st s from 32 at k (omega arith) (sym f ∙ g) (rw eq at a))
 
@@ -223,12 +216,12 @@ module _ (st : Style) (s : List ℕ) (from : ℕ) (q : ℕ) (eq : q ≡ quote st
         subst (Running st s from) z (alone-run st s from m from (here st s from (omega arith)) (omega arith) (rw eq at b))
 
     pub over-two-pairs : (r : ℕ) (t : Bool) → last < length s → t ≡ tail (getD s from 0) → t ≡ false → AllPaired q s a n → AllPaired q s p n
-        → r ≡ last + taken (tail (getD s last 0)) → Running st s from r
+        → r ≡ last + continued (tail (getD s last 0)) → Running st s from r
     over-two-pairs r t i f u x y w =
         let m : ℕ = last - from in
         let z : from + m ≡ last = omega arith in
         let b : AllPaired q s from m = joined (λ k. Paired q (getD s k 0) (getD s (k + 1) 0)) a p n last e g x y from m h z in
-        subst (Running st s from) (ap (λ (j : ℕ). j + taken (tail (getD s j 0))) z ∙ sym w)
+        subst (Running st s from) (ap (λ (j : ℕ). j + continued (tail (getD s j 0))) z ∙ sym w)
         (pair-run st s from m from (here st s from (omega arith)) (omega arith) (sym f ∙ u) (rw eq at b))
 
   pub over-one : (at : ℕ) → Running st s from at → at < length s → Alone q (getD s at 0) → Running st s from (at + 1)
@@ -236,6 +229,21 @@ module _ (st : Style) (s : List ℕ) (from : ℕ) (q : ℕ) (eq : q ≡ quote st
 
   pub over-byte : from < length s → Alone q (getD s from 0) → Running st s from (from + 1)
   over-byte h a = over-one from (here st s from (omega arith)) h a
+
+-- two blocks of n bytes that hold all of a text in `""` from a place on but its last byte, for each n
+module _ (n : ℕ) {s : List ℕ} {from : ℕ} (h : (from + n < length s) × (length s ≤ from + (n + n + 1))) where
+  pub two-alone : {a b : Bool} → (a ≡ false → AllAlone doubleQuote s from n) → (b ≡ false → AllAlone doubleQuote s (length s - 1 - n) n) → a || b ≡ false
+      → Running Json s from (length s - 1)
+  two-alone {a} {b} f g e =
+      over-two Json s from doubleQuote refl from (length s - 1 - n) n (length s - 1) (omega (arith, h)) (omega (arith, h)) (omega arith) (omega (arith, h)) (omega arith)
+      (f (or-left a b e)) (g (or-right a b e))
+
+  pub two-paired : {t a b : Bool} {r : ℕ} → t ≡ tail (getD s from 0) → t ≡ false
+      → (a ≡ false → AllPaired doubleQuote s from n) → (b ≡ false → AllPaired doubleQuote s (length s - 1 - n) n) → a || b ≡ false
+      → r ≡ length s - 1 + continued (tail (getD s (length s - 1) 0)) → Running Json s from r
+  two-paired {t} {a} {b} {r} u v f g e w =
+      over-two-pairs Json s from doubleQuote refl from (length s - 1 - n) n (length s - 1) (omega (arith, h)) (omega (arith, h)) (omega arith) (omega (arith, h)) r t (omega (arith, h)) u v
+      (f (or-left a b e)) (g (or-right a b e)) w
 
 -- a lead of two bytes and a continuation
 pub over-lead : (st : Style) (s : List ℕ) (from at : ℕ) → Running st s from at → at < length s → 0xc2 ≤ getD s at 0 → getD s at 0 < 0xe0

@@ -7,18 +7,19 @@ use mathlib.Core.List.{List, [], _∷_}
 use Prim.Native.Nat.{ℕ, zero, suc, _+_, _-_, _*_, _/_, _≤_, _<_, zero-le}
 use native.Mathlib.Nat.{not-suc-le-zero}
 use native.Mathlib.Omega.{arith}
-use borrow.Author.Tests.{eqb-true, ltb-true, ltb-false}
-use lib.Dec.{eqb, ltb}
+use borrow.Author.Tests.{eqb-true}
+use lib.Dec.{eqb}
 use lib.ListN.{length, getD, drop, length-drop, drop-of-length-le}
 use lib.Seq.{drop-drop}
 use Rattle.prelude.proofs.Cases.{split}
 use Rattle.prelude.proofs.Picks.{pick-true}
+use Rattle.prelude.proofs.Rest.{advances}
 use Rattle.utf8.specs.Class.{classOf, plainRun}
 use Rattle.utf8.proofs.PlainRuns.{run-plain, run-stop, after-eights}
 use Rattle.utf8.proofs.Characters.{char-le}
 use Rattle.units.specs.declared.styles.Style.{Style}
-use Rattle.units.specs.Units.{literalLen, onward, literalRun}
-use Rattle.runs.specs.inner.Blocks.{Running}
+use Rattle.units.specs.Units.{literalLen, orStop, literalRun}
+use Rattle.runs.specs.inner.Blocks.{Running, Ran}
 use Rattle.units.proofs.LiteralClasses.{literal-class}
 use Rattle.units.proofs.LiteralLaws.{literal-char, run-skip, run-fits, run-ends}
 
@@ -35,20 +36,20 @@ module _ (st : Style) where
   nil-run zero = refl
   nil-run (suc k) = refl
 
-  cons-run : (x : ℕ) (r : List ℕ) → literalRun st 0 (x ∷ r) ≡ onward (literalLen st (x ∷ r)) (λ m. literalRun st m r)
+  cons-run : (x : ℕ) (r : List ℕ) → literalRun st 0 (x ∷ r) ≡ orStop (literalLen st (x ∷ r)) (λ m. literalRun st m r)
   unfolding literalRun
   cons-run x r = refl
 
   pub run-stop-at : (s : List ℕ) → literalLen st s ≡ 0 → literalRun st 0 s ≡ 0
   run-stop-at [] e = nil-run 0
-  run-stop-at (x ∷ r) e = cons-run x r ∙ ap (λ (n : ℕ). onward n (λ m. literalRun st m r)) e
+  run-stop-at (x ∷ r) e = cons-run x r ∙ ap (λ (n : ℕ). orStop n (λ m. literalRun st m r)) e
 
   pub run-on : (n : ℕ) (s : List ℕ) → literalLen st s ≡ n → literalRun st 0 s ≡ n + literalRun st 0 (drop n s)
   run-on zero s e = omega arith
   run-on (suc n) [] e = absurd (let f : suc n ≤ 0 = rw e at (literal-fits []) in not-suc-le-zero f)
   run-on (suc n) (x ∷ r) e =
       let f : suc n ≤ suc (length r) = rw e at (literal-fits (x ∷ r)) in
-      cons-run x r ∙ ap (λ (k : ℕ). onward k (λ m. literalRun st m r)) e
+      cons-run x r ∙ ap (λ (k : ℕ). orStop k (λ m. literalRun st m r)) e
       ∙ (let i : literalRun st n r ≡ n + literalRun st 0 (drop n r) = run-skip st n r (omega arith) in omega arith)
 
   plain-one : (x : ℕ) (r : List ℕ) → eqb (classOf x) 0 ≡ true → literalLen st (x ∷ r) ≡ 1
@@ -104,7 +105,17 @@ module _ (st : Style) where
   pub at-end : (s : List ℕ) (from at : ℕ) → Running st s from at → length s ≤ at → at ≡ from + literalRun st 0 (drop from s)
   at-end s from at k h = omega (arith, k .same, ap (literalRun st 0) (drop-of-length-le s h), nil-run 0)
 
--- a turn of blocks and then single characters up to an end brings less to do
-pub advances : (n at mid end next : ℕ) → at < n → at ≤ mid → (mid < n → mid < end) → mid ≤ next → end ≤ next → next ≤ n → n - next < n - at
-advances n at mid end next a b c d e f =
-    split (ltb mid n) (λ l. omega (arith, c (ltb-true mid n l))) (λ l. omega (arith, ltb-false mid n l))
+-- a turn of a run's loop: blocks up to mid, common characters up to most, and then literal characters that begin before end
+module _ {st : Style} {s : List ℕ} {from at mid end most next : ℕ} (k : Running st s from at) (a : Running st s at mid)
+    (b : (end ≤ length s) × (mid < length s → mid < end)) (c : (t : Style) → Running t s mid most) (u : Ran st s most end next) where
+  turned : Running st s from next
+  turned = further st s from most next (further st s from mid most (further st s from at mid k a) (c st)) (u .run)
+
+  pub turn-stopped : next < end → next ≡ from + literalRun st 0 (drop from s)
+  turn-stopped h = stopped st s from next turned (u .stop h)
+
+  pub turn-on : end ≤ next → Running st s from next
+  turn-on h = turned
+
+  pub turn-less : at < length s → end ≤ next → length s - next < length s - at
+  turn-less l h = advances (length s) at mid end next l (a .onward) (b .1) (omega (arith, c st .onward, u .run .onward)) h (u .run .inside)

@@ -10,8 +10,9 @@ use lib.Dec.{ltb, leb, eqb}
 use lib.ListN.{length, getD, drop}
 use lib.Seq.{getD-drop}
 use borrow.Author.Tests.{ltb-true, ltb-false, leb-true, leb-false, eqb-true, eqb-false, le-ltb, lt-ltb, ne-eqb, le-leb, lt-leb}
+use Rattle.prelude.specs.Bytes.{backslash}
 use Rattle.prelude.specs.Pick.{pick}
-use Rattle.prelude.proofs.Cases.{split, never, and-left, and-right}
+use Rattle.prelude.proofs.Cases.{split, never, and-left, and-right, or-left, or-right}
 use Rattle.utf8.specs.Class.{classOf}
 use Rattle.utf8.specs.Utf8.{tail, lowOf, highOf, threeBytes, longLen, lenBy, charLen}
 use Rattle.units.specs.declared.styles.Style.{Style}
@@ -19,7 +20,7 @@ use Rattle.units.specs.Styles.{quote}
 use Rattle.units.specs.Units.{literalLen}
 use Rattle.runs.specs.inner.Blocks.{Running, Tripled, AllTripled, Begun, owed}
 use Rattle.runs.proofs.LiteralRuns.{moved}
-use Rattle.runs.proofs.BlockLaws.{or-left, or-right, same-test, tail-ascii, tail-is, tail-lead, two-len, char-at, one-char}
+use Rattle.runs.proofs.BlockLaws.{same-test, tail-ascii, tail-is, tail-lead, two-len, char-at, one-char}
 
 -- the tests
 
@@ -28,12 +29,12 @@ not-both P true b e f g = g e
 not-both P false b e f g = let z : _≡_ {A = Bool} false true = f in never cc
 
 pub tripled : (q b c d : ℕ) (t : Bool) → t ≡ tail d
-    → ltb b 32 || (leb 240 b || (eqb b 92 || (eqb b q || (eqb b 192 || (eqb b 193 || ((eqb b 224 && ltb c 160) || ((eqb b 237 && leb 160 c) || not (Bool·beq t (leb 192 c || leb 224 b))))))))) ≡ false
+    → ltb b 32 || (leb 240 b || (eqb b backslash || (eqb b q || (eqb b 192 || (eqb b 193 || ((eqb b 224 && ltb c 160) || ((eqb b 237 && leb 160 c) || not (Bool·beq t (leb 192 c || leb 224 b))))))))) ≡ false
     → Tripled q b c d
 tripled q b c d t et e =
     let f = or-right (ltb b 32) _ e in
     let g = or-right (leb 240 b) _ f in
-    let h = or-right (eqb b 92) _ g in
+    let h = or-right (eqb b backslash) _ g in
     let i = or-right (eqb b q) _ h in
     let j = or-right (eqb b 192) _ i in
     let k = or-right (eqb b 193) _ j in
@@ -43,7 +44,7 @@ tripled q b c d t et e =
     record {
       printed = ltb-false b 32 (or-left _ _ e);
       short = leb-false 240 b (or-left _ _ f);
-      no-slash = eqb-false b 92 (or-left _ _ g);
+      no-slash = eqb-false b backslash (or-left _ _ g);
       no-quote = eqb-false b q (or-left _ _ h);
       lead = λ m. omega arith;
       after-e0 = λ m. not-both _ (eqb b 224) (ltb c 160) (or-left _ _ k) (rw m refl) (λ n. ltb-false c 160 n);
@@ -115,9 +116,9 @@ three-len b r h g u v x y = three-by b (getD r 0 0) (getD r 1 0) (getD r 2 0) h 
 
 -- a run over a block
 
-or-none : (a b : Bool) → b ≡ false → a || b ≡ a
-or-none true b e = refl
-or-none false b e = e
+or-false : (a b : Bool) → b ≡ false → a || b ≡ a
+or-false true b e = refl
+or-false false b e = e
 
 or-some : (a b : Bool) → b ≡ true → a || b ≡ true
 or-some true b e = refl
@@ -154,7 +155,7 @@ module _ (st : Style) (s : List ℕ) (from : ℕ) where
       let next : (u v : Bool) (m : ℕ) → Running st s from m → m ≡ i + 1 + owed u v → tail c ≡ u → tail d ≡ v → Running st s from (i + 1 + owed (tail c) (tail d)) =
       λ u v m r e f g. subst (λ (y : Bool). Running st s from (i + 1 + owed (tail c) y)) (sym g) (subst (λ (x : Bool). Running st s from (i + 1 + owed x v)) (sym f) (subst (Running st s from) e r)) in
       let held : tail c ≡ true → tail c ≡ false → tail d ≡ leb 0xc0 c = λ f g. let z : _≡_ {A = Bool} true false = sym f ∙ g in never cc in
-      let short : b < 0xe0 → tail d ≡ leb 0xc0 c = λ l. p .third ∙ or-none (leb 0xc0 c) (leb 0xe0 b) (lt-leb 0xe0 b l) in
+      let short : b < 0xe0 → tail d ≡ leb 0xc0 c = λ l. p .third ∙ or-false (leb 0xc0 c) (leb 0xe0 b) (lt-leb 0xe0 b l) in
       let low : tail c ≡ true → leb 0xc0 c ≡ false = λ f. let z : c ≤ 0xbf = tail-high c f in lt-leb 0xc0 c (omega arith) in
       split (ltb b 0x80)
       (λ l. let a : b < 0x80 = ltb-true b 0x80 l in

@@ -5,7 +5,7 @@ ghost use Prim.Native.Nat.{ℕ, _+_, _<_, _≤_};
 ghost use lib.ListN.{length, getD, drop};
 ghost use Rattle.utf8.specs.Utf8.{tail};
 ghost use Rattle.units.specs.Units.{literalLen};
-ghost use Rattle.runs.specs.inner.Blocks.{Alone, Paired, AllAlone, AllPaired, Running, taken};
+ghost use Rattle.runs.specs.inner.Blocks.{Alone, Paired, AllAlone, AllPaired, Running, continued};
 use crate::shorts;
 use prelude::slices;
 use units::styles;
@@ -15,7 +15,7 @@ use units::styles::Style;
 pub fn odd(q: u8, b: u8) -> bool
     ensures { λ r. ⌜ (r ≡ false → Alone q b) ⌝ }
 {
-    (b < 32) | ((b >= 128) | ((b == 92) | (b == q)))
+    (b < 32) | ((b >= 128) | ((b == b'\\') | (b == q)))
 }
 
 // A continuation byte.
@@ -31,7 +31,7 @@ fn odd_pair(q: u8, b: u8, c: u8) -> bool
 {
     (b < 32)
         | ((b >= 0xe0)
-            | ((b == 92)
+            | ((b == b'\\')
                 | ((b == q) | ((b == 0xc0) | ((b == 0xc1) | (continues(c) != (b >= 0xc0)))))))
 }
 
@@ -106,7 +106,7 @@ pub fn any_odd_pair(q: u8, s: &[u8], at: usize, n: usize) -> bool
 // A place, or the next one where the byte there is a continuation.
 pub fn behind(s: &[u8], e: usize) -> usize
     requires { ⌜ e < length (now s) ⌝ }
-    ensures { λ r. ⌜ r ≡ e + taken (tail (getD (now (s .entry)) e 0)) ⌝ }
+    ensures { λ r. ⌜ r ≡ e + continued (tail (getD (now (s .entry)) e 0)) ⌝ }
 {
     if continues(s[e]) {
         return e + 1;
@@ -154,7 +154,7 @@ pub fn ends(s: &[u8], at: usize, style: Style) -> bool
         return false;
     }
     let b = s[at];
-    (b < 32) | ((b == 92) | (b == styles::quote_of(style)))
+    (b < 32) | ((b == b'\\') | (b == styles::quote_of(style)))
 }
 
 // Blocks of ASCII and characters of two bytes.

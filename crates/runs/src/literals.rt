@@ -43,17 +43,6 @@ fn literal_len(s: &[u8], at: usize, k: u8, style: Style) -> usize
     chars::long_len(s, at, k)
 }
 
-// An end for a scan: n bytes on, or where the text ends.
-fn soon(s: &[u8], at: usize, n: usize) -> usize
-    requires { ⌜ (at ≤ length (now s)) × (0 < n) ⌝ }
-    ensures { λ r. ⌜ (r ≤ length (now (s .entry))) × (at < length (now (s .entry)) → at < r) ⌝ }
-{
-    if s.len() - at < n {
-        return s.len();
-    }
-    at + n
-}
-
 // Whether one continuation byte follows.
 pub fn one_follows(s: &[u8], at: usize) -> bool
     requires { ⌜ at ≤ length (now s) ⌝ }
@@ -134,7 +123,7 @@ fn several(t: &[u8; 256], s: &[u8], from: usize, style: Style) -> usize
     ensures { λ r. ⌜ Running style (now (s .entry)) from r ⌝ }
 {
     if s.len() - from < 33 {
-        return classes::eights(t, s, from);
+        return classes::plain_eights(t, s, from);
     }
     blocks::strides(s, from, style)
 }
@@ -148,7 +137,7 @@ pub fn literal_run(t: &[u8; 256], s: &[u8], from: usize, style: Style) -> usize
     let mut at = from;
     while at < s.len() {
         let mid = several(t, s, at, style);
-        let end = soon(s, mid, 64);
+        let end = slices::soon(s.len(), mid, 64);
         let most = common_before(t, s, mid, end);
         let next = chars_before(t, s, most, style, end);
         if next < end {
@@ -170,7 +159,7 @@ fn run_on(t: &[u8; 256], s: &[u8], from: usize, style: Style) -> usize
         if blocks::ends(s, mid, style) {
             return mid;
         }
-        let end = soon(s, mid, 16);
+        let end = slices::soon(s.len(), mid, 16);
         let most = common_before(t, s, mid, end);
         let next = chars_before(t, s, most, style, end);
         if next < end {
@@ -203,7 +192,7 @@ pub fn short_run(t: &[u8; 256], s: &[u8], from: usize, style: Style) -> usize
     requires { ⌜ IsTable (now t) × (from ≤ length (now s)) ⌝ }
     ensures { λ r. ⌜ r ≡ from + literalRun style 0 (drop from (now (s .entry))) ⌝ }
 {
-    let end = soon(s, from, 16);
+    let end = slices::soon(s.len(), from, 16);
     let at = chars_before(t, s, from, style, end);
     if at < end {
         return at;

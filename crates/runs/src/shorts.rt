@@ -19,7 +19,7 @@ fn leads(b: u8) -> bool
 }
 
 // ASCII and characters of two bytes one by one.
-fn singles(s: &[u8], from: usize, style: Style) -> usize
+fn one_by_one(s: &[u8], from: usize, style: Style) -> usize
     requires { ⌜ from ≤ length (now s) ⌝ }
     ensures { λ r. ⌜ Running style (now (s .entry)) from r ⌝ }
 {
@@ -43,7 +43,7 @@ fn singles(s: &[u8], from: usize, style: Style) -> usize
 }
 
 // Two blocks of eight with characters of two bytes.
-fn paired_eights(s: &[u8], from: usize) -> usize
+fn two_paired_eights(s: &[u8], from: usize) -> usize
     requires { ⌜ (from + 8 < length (now s)) × (length (now s) ≤ from + 17) ⌝ }
     ensures { λ r. ⌜ Running Json (now (s .entry)) from r ⌝ }
 {
@@ -51,26 +51,26 @@ fn paired_eights(s: &[u8], from: usize) -> usize
     if blocks::continues(s[from]) {
         return from;
     }
-    if blocks::any_odd_pair(34, s, from, 8) | blocks::any_odd_pair(34, s, last - 8, 8) {
+    if blocks::any_odd_pair(b'"', s, from, 8) | blocks::any_odd_pair(b'"', s, last - 8, 8) {
         return from;
     }
     blocks::behind(s, last)
 }
 
 // Two blocks of eight; ASCII is cheapest, so it comes first.
-fn eights(s: &[u8], from: usize) -> usize
+fn two_eights(s: &[u8], from: usize) -> usize
     requires { ⌜ (from + 8 < length (now s)) × (length (now s) ≤ from + 17) ⌝ }
     ensures { λ r. ⌜ Running Json (now (s .entry)) from r ⌝ }
 {
     let last = s.len() - 1;
-    if blocks::any_odd(34, s, from, 8) | blocks::any_odd(34, s, last - 8, 8) {
-        return paired_eights(s, from);
+    if blocks::any_odd(b'"', s, from, 8) | blocks::any_odd(b'"', s, last - 8, 8) {
+        return two_paired_eights(s, from);
     }
     last
 }
 
 // The same by two blocks of sixteen.
-fn paired_sixteens(s: &[u8], from: usize) -> usize
+fn two_paired_sixteens(s: &[u8], from: usize) -> usize
     requires { ⌜ (from + 16 < length (now s)) × (length (now s) ≤ from + 33) ⌝ }
     ensures { λ r. ⌜ Running Json (now (s .entry)) from r ⌝ }
 {
@@ -78,19 +78,19 @@ fn paired_sixteens(s: &[u8], from: usize) -> usize
     if blocks::continues(s[from]) {
         return from;
     }
-    if blocks::any_odd_pair(34, s, from, 16) | blocks::any_odd_pair(34, s, last - 16, 16) {
+    if blocks::any_odd_pair(b'"', s, from, 16) | blocks::any_odd_pair(b'"', s, last - 16, 16) {
         return from;
     }
     blocks::behind(s, last)
 }
 
-fn sixteens(s: &[u8], from: usize) -> usize
+fn two_sixteens(s: &[u8], from: usize) -> usize
     requires { ⌜ (from + 16 < length (now s)) × (length (now s) ≤ from + 33) ⌝ }
     ensures { λ r. ⌜ Running Json (now (s .entry)) from r ⌝ }
 {
     let last = s.len() - 1;
-    if blocks::any_odd(34, s, from, 16) | blocks::any_odd(34, s, last - 16, 16) {
-        return paired_sixteens(s, from);
+    if blocks::any_odd(b'"', s, from, 16) | blocks::any_odd(b'"', s, last - 16, 16) {
+        return two_paired_sixteens(s, from);
     }
     last
 }
@@ -102,12 +102,12 @@ fn json(s: &[u8], from: usize) -> usize
 {
     let n = s.len() - from;
     if n < 9 {
-        return singles(s, from, Style::Json);
+        return one_by_one(s, from, Style::Json);
     }
     if n < 18 {
-        return eights(s, from);
+        return two_eights(s, from);
     }
-    sixteens(s, from)
+    two_sixteens(s, from)
 }
 
 // A place behind literal characters only, where up to 33 bytes are left.
@@ -117,7 +117,7 @@ pub fn short(s: &[u8], from: usize, style: Style) -> usize
 {
     match style {
         Style::Json => json(s, from),
-        Style::Unicode => singles(s, from, style),
-        Style::Bytes => singles(s, from, style),
+        Style::Unicode => one_by_one(s, from, style),
+        Style::Bytes => one_by_one(s, from, style),
     }
 }

@@ -9,6 +9,7 @@ use native.Mathlib.Omega.{arith}
 use lib.Dec.{ltb, eqb, lit≤}
 use lib.ListN.{take, drop, getD}
 use borrow.Author.Tests.{eqb-true, lt-leb}
+use Rattle.prelude.specs.Bytes.{backslash}
 use Rattle.prelude.specs.Pick.{pick}
 use Rattle.prelude.proofs.Cases.{split, and-right}
 use Rattle.utf8.specs.Class.{classOf}
@@ -55,9 +56,9 @@ unfolding lowHalf pick
 low-agree Json stop = refl
 low-agree Unicode stop = refl
 low-agree Bytes stop = refl
-low-agree Json (next {x = x} stop) = split (eqb x 92) (λ e. simp e) (λ e. simp e)
-low-agree Unicode (next {x = x} stop) = split (eqb x 92) (λ e. simp e) (λ e. simp e)
-low-agree Bytes (next {x = x} stop) = split (eqb x 92) (λ e. simp e) (λ e. simp e)
+low-agree Json (next {x = x} stop) = split (eqb x backslash) (λ e. simp e) (λ e. simp e)
+low-agree Unicode (next {x = x} stop) = split (eqb x backslash) (λ e. simp e) (λ e. simp e)
+low-agree Bytes (next {x = x} stop) = split (eqb x backslash) (λ e. simp e) (λ e. simp e)
 low-agree st (next (next a)) = simp (digits-agree st 4 a)
 
 drop-agree : (st : Style) (k : ℕ) {s t : List ℕ} → Agree st s t → Agree st (drop (hexRun k s) s) (drop (hexRun k s) t)

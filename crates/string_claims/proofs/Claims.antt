@@ -6,7 +6,7 @@ use native.Mathlib.Omega.{arith}
 use Rattle.prelude.specs.Pick.{pick}
 use Rattle.utf8.specs.Class.{classOf}
 use Rattle.utf8.specs.Utf8.{lowOf, highOf, twoBytes, threeBytes, fourBytes, longLen, lenBy, charLen, encode}
-use Rattle.units.specs.declared.styles.Style.the-variants.{Bytes}
+use Rattle.units.specs.declared.styles.Form.the-variants.{AsBytes}
 use Rattle.units.specs.Hex.{hexVal, hexDigits, hexFrom}
 use Rattle.units.specs.Escapes.{lookup, lowHalf, codeUnit, fourDigits, scalar, braced, rawByte, escape}
 use Rattle.units.specs.Units.{unitAt}
@@ -18,7 +18,7 @@ use Rattle.string_claims.proofs.Ends.{token-cut}
 use Rattle.string_claims.proofs.RoundTrip.{quoted-back, token-back, text-back, write-injective}
 use Rattle.strings.proofs.Places.{string-inside, text-inside}
 use Rattle.strings.proofs.Utf8Denoted.{unicode-valid}
-use Rattle.string_claims.proofs.Plain.{quoted-plain, write-plain, plain-at}
+use Rattle.string_claims.proofs.Printed.{quoted-printed, write-printed, printed-at}
 use Rattle.strings.proofs.Lengths.{string-length}
 use Rattle.strings_write.proofs.WriteLengths.{write-length}
 
@@ -30,13 +30,13 @@ pub written-reads-back : Written-Reads-Back
 written-reads-back room s b = text-back room s (writeString s) (token-back s [] b)
 
 pub bytes-form-reads-back : Bytes-Form-Reads-Back
-bytes-form-reads-back room s b = text-back room s (writeBytes s) (quoted-back Bytes s [] b tt)
+bytes-form-reads-back room s b = text-back room s (writeBytes s) (quoted-back AsBytes s [] b tt)
 
 pub written-token-reads-back : Written-Token-Reads-Back
 written-token-reads-back = token-back
 
 pub bytes-form-token-reads-back : Bytes-Form-Token-Reads-Back
-bytes-form-token-reads-back s t b = quoted-back Bytes s t b tt
+bytes-form-token-reads-back s t b = quoted-back AsBytes s t b tt
 
 pub ends-at-its-quote : Ends-At-Its-Quote
 ends-at-its-quote s t bs e h = token-cut s bs e h t
@@ -48,10 +48,10 @@ pub writer-is-injective : Writer-Is-Injective
 writer-is-injective = write-injective
 
 pub written-is-one-line : Written-Is-One-Line
-written-is-one-line s = plain-at (writeString s) (write-plain s)
+written-is-one-line s = printed-at (writeString s) (write-printed s)
 
 pub bytes-form-is-one-line : Bytes-Form-Is-One-Line
-bytes-form-is-one-line s = plain-at (writeBytes s) (quoted-plain Bytes s)
+bytes-form-is-one-line s = printed-at (writeBytes s) (quoted-printed AsBytes s)
 
 pub places-inside : Places-Inside
 places-inside room s number at r = (rw r at (text-inside room s)) .0 .1

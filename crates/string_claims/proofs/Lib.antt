@@ -1,5 +1,5 @@
 pub mod Agreement
 pub mod Claims
 pub mod Ends
-pub mod Plain
+pub mod Printed
 pub mod RoundTrip

@@ -1,4 +1,4 @@
--- A byte string, written and read, is itself: unit by unit in any style that writes it, with any text behind the closing quote.
+-- A byte string, written and read, is itself: unit by unit in any form that writes it, with any text behind the closing quote.
 -- Assumes nothing.
 use Prim.Native.Nat.{ℕ, zero, suc, pred, _+_, _≤_}
 use mathlib.Core.Bool.{true}
@@ -16,8 +16,9 @@ use Rattle.prelude.proofs.Suffix.{by-suffix}
 use Rattle.utf8.specs.Utf8.{charLen, positive, validFrom, validUtf8}
 use Rattle.utf8.proofs.Characters.{valid-skip}
 use Rattle.units.specs.declared.styles.Style.{Style}
-use Rattle.units.specs.declared.styles.Style.the-variants.{Json, Unicode, Bytes}
-use Rattle.units.specs.Styles.{quote, took}
+use Rattle.units.specs.declared.styles.Form.{Form}
+use Rattle.units.specs.declared.styles.Form.the-variants.{AsJson, AsBytes}
+use Rattle.units.specs.Styles.{quote, took, styleOf}
 use Rattle.units.specs.Units.{unitAt}
 use Rattle.units.specs.Written.{written}
 use Rattle.units.proofs.WrittenBack.{Writes, unit-back}
@@ -37,21 +38,19 @@ bytes-take (suc n) [] h i = lit< tt
 bytes-take (suc n) (x ∷ s) h zero = h 0
 bytes-take (suc n) (x ∷ s) h (suc i) = bytes-take n s (λ j. h (suc j)) i
 
--- the byte strings that a style writes
-abbrev pub Writable : Style → List ℕ → Type 0
-Writable Json s = validUtf8 s ≡ true
-Writable Unicode s = validUtf8 s ≡ true
-Writable Bytes s = Unit
+-- the byte strings that a form writes
+abbrev pub Writable : Form → List ℕ → Type 0
+Writable AsJson s = validUtf8 s ≡ true
+Writable AsBytes s = Unit
 
 valid-head : (x : ℕ) (r : List ℕ) → validFrom 0 (x ∷ r) ≡ true
     → (positive (charLen (x ∷ r)) ≡ true) × (validFrom 0 (drop (pred (charLen (x ∷ r))) r) ≡ true)
 unfolding validFrom
 valid-head x r w = (and-left _ _ w, sym (valid-skip (pred (charLen (x ∷ r))) r) ∙ and-right (positive (charLen (x ∷ r))) _ w)
 
-writable-head : (st : Style) (x : ℕ) (r : List ℕ) → Writable st (x ∷ r) → Writes st (charLen (x ∷ r)) × Writable st (drop (pred (charLen (x ∷ r))) r)
-writable-head Json x r w = valid-head x r w
-writable-head Unicode x r w = valid-head x r w
-writable-head Bytes x r w = (tt, tt)
+writable-head : (form : Form) (x : ℕ) (r : List ℕ) → Writable form (x ∷ r) → Writes form (charLen (x ∷ r)) × Writable form (drop (pred (charLen (x ∷ r))) r)
+writable-head AsJson x r w = valid-head x r w
+writable-head AsBytes x r w = (tt, tt)
 
 -- a unit u and the units v behind it
 read-both : (st : Style) (p : ℕ) (a c u v z : List ℕ) → unitAt st (u ++ (v ++ z)) ≡ took (length u) a
@@ -61,51 +60,50 @@ read-both st p a c u v z e h =
     rw (append-assoc u v z, read-took st p (u ++ (v ++ z)) (length u) a e, drop-append-seam u (v ++ z), h)
     (ap (accepted (a ++ c)) (omega (arith, length-append u v)))
 
-abbrev Back : Style → List ℕ → Type 0
-Back st s = (p : ℕ) (t : List ℕ) → IsBytes s → Writable st s
-    → readUnits st p 0 (writeUnits st 0 s ++ (quote st ∷ t)) ≡ accepted s (p + (length (writeUnits st 0 s) + 1))
+abbrev Back : Form → List ℕ → Type 0
+Back form s = (p : ℕ) (t : List ℕ) → IsBytes s → Writable form s
+    → readUnits (styleOf form) p 0 (writeUnits form 0 s ++ (quote (styleOf form) ∷ t)) ≡ accepted s (p + (length (writeUnits form 0 s) + 1))
 
-units-one : (st : Style) (x : ℕ) (r : List ℕ) → ((k : ℕ) → Back st (drop k r)) → Back st (x ∷ r)
+units-one : (form : Form) (x : ℕ) (r : List ℕ) → ((k : ℕ) → Back form (drop k r)) → Back form (x ∷ r)
 unfolding writeUnits
-units-one st x r ih p t b w =
+units-one form x r ih p t b w =
     let n : ℕ = charLen (x ∷ r) in
-    rw (write-skip st (pred n) r)
+    rw (write-skip form (pred n) r)
     (rw (take-append-drop (pred n) r) at
-    (read-both st p (x ∷ take (pred n) r) (drop (pred n) r) (written st n x r) (writeUnits st 0 (drop (pred n) r)) (quote st ∷ t)
-    (unit-back st x r _ n (writable-head st x r w .0) (b 0) refl)
-    (ih (pred n) _ t (bytes-drop (pred n) r (λ i. b (suc i))) (writable-head st x r w .1))))
+    (read-both (styleOf form) p (x ∷ take (pred n) r) (drop (pred n) r) (written form n x r) (writeUnits form 0 (drop (pred n) r)) (quote (styleOf form) ∷ t)
+    (unit-back form x r _ n (writable-head form x r w .0) (b 0) refl)
+    (ih (pred n) _ t (bytes-drop (pred n) r (λ i. b (suc i))) (writable-head form x r w .1))))
 
-pub units-back : (st : Style) (s : List ℕ) (p : ℕ) (t : List ℕ) → IsBytes s → Writable st s
-    → readUnits st p 0 (writeUnits st 0 s ++ (quote st ∷ t)) ≡ accepted s (p + (length (writeUnits st 0 s) + 1))
+pub units-back : (form : Form) (s : List ℕ) (p : ℕ) (t : List ℕ) → IsBytes s → Writable form s
+    → readUnits (styleOf form) p 0 (writeUnits form 0 s ++ (quote (styleOf form) ∷ t)) ≡ accepted s (p + (length (writeUnits form 0 s) + 1))
 unfolding writeUnits
-units-back st = by-suffix (Back st) (λ p t b w. read-close st p t) (units-one st)
+units-back form = by-suffix (Back form) (λ p t b w. read-close (styleOf form) p t) (units-one form)
 
-opening-mark : (st : Style) (r : List ℕ) → opening (mark st ++ r) ≡ opens st (length (mark st))
+opening-mark : (form : Form) (r : List ℕ) → opening (mark form ++ r) ≡ opens (styleOf form) (length (mark form))
 unfolding opening pick
-opening-mark Json r = refl
-opening-mark Unicode r = refl
-opening-mark Bytes r = refl
+opening-mark AsJson r = refl
+opening-mark AsBytes r = refl
 
 -- a text with its marks, and any text behind it
-pub quoted-back : (st : Style) (s t : List ℕ) → IsBytes s → Writable st s → readToken (quoted st s ++ t) ≡ accepted s (length (quoted st s))
+pub quoted-back : (form : Form) (s t : List ℕ) → IsBytes s → Writable form s → readToken (quoted form s ++ t) ≡ accepted s (length (quoted form s))
 unfolding readToken quoted
-quoted-back st s t b w =
-    let u : List ℕ = writeUnits st 0 s in
-    let n : ℕ = length (mark st) in
+quoted-back form s t b w =
+    let u : List ℕ = writeUnits form 0 s in
+    let n : ℕ = length (mark form) in
     rw (
-      append-assoc (mark st) (u ++ (quote st ∷ [])) t,
-      append-assoc u (quote st ∷ []) t,
-      opening-mark st (u ++ (quote st ∷ t)),
-      read-skip st n n (mark st ++ (u ++ (quote st ∷ t))),
-      drop-append-seam (mark st) (u ++ (quote st ∷ t)),
-      units-back st s n t b w,
+      append-assoc (mark form) (u ++ (quote (styleOf form) ∷ [])) t,
+      append-assoc u (quote (styleOf form) ∷ []) t,
+      opening-mark form (u ++ (quote (styleOf form) ∷ t)),
+      read-skip (styleOf form) n n (mark form ++ (u ++ (quote (styleOf form) ∷ t))),
+      drop-append-seam (mark form) (u ++ (quote (styleOf form) ∷ t)),
+      units-back form s n t b w,
     )
-    (ap (accepted s) (omega (arith, length-append (mark st) (u ++ (quote st ∷ [])), length-append u (quote st ∷ []))))
+    (ap (accepted s) (omega (arith, length-append (mark form) (u ++ (quote (styleOf form) ∷ [])), length-append u (quote (styleOf form) ∷ []))))
 
 pub token-back : (s t : List ℕ) → IsBytes s → readToken (writeString s ++ t) ≡ accepted s (length (writeString s))
 unfolding writeString
 token-back s t b =
-    pick-case (λ w. readToken (w ++ t) ≡ accepted s (length w)) (validUtf8 s) _ _ (λ e. quoted-back Json s t b e) (λ e. quoted-back Bytes s t b tt)
+    pick-case (λ w. readToken (w ++ t) ≡ accepted s (length w)) (validUtf8 s) _ _ (λ e. quoted-back AsJson s t b e) (λ e. quoted-back AsBytes s t b tt)
 
 -- a text that reads back as a token, read as a whole and into a room
 pub whole-back : (s w : List ℕ) → readToken (w ++ []) ≡ accepted s (length w) → readString w ≡ accepted s (length w)

@@ -13,7 +13,7 @@ use Rattle.units.specs.declared.styles.Style.{Style}
 use Rattle.units.specs.Styles.{StringUnit, close, took, fault}
 use Rattle.units.specs.Units.{unitAt}
 use Rattle.units.proofs.Sizes.{took-size, took-raw}
-use Rattle.strings.specs.Read.{StringRead, accepted, refused, more, whole, readUnits, Opening, opens, unopened, opening, readFrom, readToken, readString}
+use Rattle.strings.specs.Read.{StringRead, accepted, refused, more, nothingBehind, readUnits, Opening, opens, unopened, opening, readFrom, readToken, readString}
 use Rattle.strings.proofs.Steps.{read-skip, read-closes, read-took, read-fault}
 
 -- what stands between p and the closing quote denotes no more bytes than it has, and itself where it denotes as many
@@ -60,7 +60,7 @@ from-less : (o : Opening) (s : List ℕ) → Less (readFrom o s)
 from-less (opens st n) s = rw (read-skip st n n s) (less-raw n (drop n s) (readUnits st n 0 (drop n s)) (units-raw st (drop n s) n))
 from-less unopened s = tt
 
-whole-less : (m : ℕ) (r : StringRead) → Less r → Less (whole m r)
+whole-less : (m : ℕ) (r : StringRead) → Less r → Less (nothingBehind m r)
 whole-less m (accepted bs e) h = pick-case Less (eqb e m) _ _ (λ q. h) (λ q. tt)
 whole-less m (refused number at) h = tt
 

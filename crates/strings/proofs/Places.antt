@@ -1,6 +1,7 @@
 -- A string's end and a refusal's place are inside the text, and refusal 4 stands at its end: unit by unit, as each fits into what is left.
 -- Assumes nothing.
 use Prim.Native.Nat.{ℕ, pred, _+_, _≤_, _<_}
+use Prim.Native.Char.{code}
 use mathlib.Core.Bool.{true, _&&_}
 use mathlib.Core.List.{List, [], _∷_}
 use mathlib.Core.Path.{_≡_, refl}
@@ -8,6 +9,7 @@ use native.Mathlib.Omega.{arith}
 use lib.Dec.{ltb, eqb, lit<}
 use lib.ListN.{length, drop, getD, length-drop}
 use borrow.Author.Tests.{eqb-true}
+use Rattle.prelude.specs.Bytes.{doubleQuote, singleQuote}
 use Rattle.prelude.specs.Refusals.{cutOff}
 use Rattle.prelude.proofs.Cases.{and-right}
 use Rattle.prelude.proofs.Picks.{pick-case}
@@ -17,7 +19,7 @@ use Rattle.units.specs.declared.styles.Style.{Style}
 use Rattle.units.specs.Styles.{StringUnit, close, took, fault}
 use Rattle.units.specs.Units.{unitAt}
 use Rattle.units.proofs.Sizes.{took-size, fault-inside}
-use Rattle.strings.specs.Read.{StringRead, accepted, refused, more, after, whole, fitted, readUnits, Opening, opens, unopened, opening, readFrom, readToken, readString, readText}
+use Rattle.strings.specs.Read.{StringRead, accepted, refused, more, after, nothingBehind, fitted, readUnits, Opening, opens, unopened, opening, readFrom, readToken, readString, readText}
 use Rattle.prelude.specs.Limits.{textMax}
 use Rattle.strings.proofs.Steps.{read-skip}
 
@@ -64,12 +66,12 @@ stands s n v h e = getD-inside s n (λ z. omega (arith, eqb-true (getD s n 0) v 
 pub opening-fits : (s : List ℕ) → Marked s (opening s)
 unfolding opening
 opening-fits s =
-    pick-case (Marked s) (eqb (getD s 0 0) 34) _ _ (λ e. (lit< tt, stands s 0 34 (lit< tt) e))
-    (λ e. pick-case (Marked s) (eqb (getD s 0 0) 39) _ _ (λ d. (lit< tt, stands s 0 39 (lit< tt) d))
-    (λ d. pick-case (Marked s) (eqb (getD s 0 0) 117 && eqb (getD s 1 0) 39) _ _
-    (λ c. (lit< tt, stands s 1 39 (lit< tt) (and-right (eqb (getD s 0 0) 117) _ c)))
-    (λ c. pick-case (Marked s) (eqb (getD s 0 0) 98 && eqb (getD s 1 0) 39) _ _
-    (λ b. (lit< tt, stands s 1 39 (lit< tt) (and-right (eqb (getD s 0 0) 98) _ b)))
+    pick-case (Marked s) (eqb (getD s 0 0) doubleQuote) _ _ (λ e. (lit< tt, stands s 0 doubleQuote (lit< tt) e))
+    (λ e. pick-case (Marked s) (eqb (getD s 0 0) singleQuote) _ _ (λ d. (lit< tt, stands s 0 singleQuote (lit< tt) d))
+    (λ d. pick-case (Marked s) (eqb (getD s 0 0) (code "u") && eqb (getD s 1 0) singleQuote) _ _
+    (λ c. (lit< tt, stands s 1 singleQuote (lit< tt) (and-right (eqb (getD s 0 0) (code "u")) _ c)))
+    (λ c. pick-case (Marked s) (eqb (getD s 0 0) (code "b") && eqb (getD s 1 0) singleQuote) _ _
+    (λ b. (lit< tt, stands s 1 singleQuote (lit< tt) (and-right (eqb (getD s 0 0) (code "b")) _ b)))
     (λ b. tt))))
 
 from-inside : (s : List ℕ) (o : Opening) → Marked s o → Inside 0 (length s) (readFrom o s)
@@ -86,7 +88,7 @@ pub token-inside : (s : List ℕ) → Inside 0 (length s) (readToken s)
 unfolding readToken
 token-inside s = from-inside s (opening s) (opening-fits s)
 
-whole-inside : (m : ℕ) (r : StringRead) → Inside 0 m r → Inside 0 m (whole m r)
+whole-inside : (m : ℕ) (r : StringRead) → Inside 0 m r → Inside 0 m (nothingBehind m r)
 whole-inside m (accepted bs e) h = pick-case (Inside 0 m) (eqb e m) _ _ (λ q. h) (λ q. (omega arith, λ z. absurd (omega arith)))
 whole-inside m (refused number at) h = h
 

@@ -19,11 +19,11 @@ use Rattle.units.specs.Units.{unitAt, literalRun}
 use Rattle.units.proofs.LiteralLaws.{run-fits}
 use Rattle.units.proofs.Sizes.{took-size, took-raw}
 use Rattle.strings.specs.declared.answers.Token.{Token}
-use Rattle.strings.specs.declared.answers.Token.the-variants.{Ended as TokenEnded, Failed as TokenFailed}
-use Rattle.strings.specs.declared.read.Step.{Step}
-use Rattle.strings.specs.declared.read.Step.the-variants.{On, Ended, Failed}
+use Rattle.strings.specs.declared.answers.Token.the-variants.{Ended, Failed}
+use Rattle.strings.specs.declared.read.Turned.{Turned}
+use Rattle.strings.specs.declared.read.Turned.the-variants.{On, Finish, Refuse}
 use Rattle.strings.specs.Read.{StringRead, accepted, refused, more, readUnits, tokenOf}
-use Rattle.strings.specs.inner.Turns.{stepOf, bytesOf, turnOf, turnBytes, Advanced, Stored}
+use Rattle.strings.specs.inner.Turns.{unitTurn, unitBytes, turnOf, turnBytes, Advanced, Stored}
 use Rattle.strings.proofs.Steps.{read-closes, read-fault, read-took, more-none, more-more}
 use Rattle.strings.proofs.Runs.{run-law}
 
@@ -34,21 +34,21 @@ few-length : (few : Few) → few .count ≤ 4 → few .count ≡ length (fewOf f
 few-length few h = sym (length-take-le (few .count) (few .a ∷ few .b ∷ few .c ∷ few .d ∷ []) h)
 
 -- one unit in code
-abbrev Turned : StringUnit → ℕ → ℕ → List ℕ → Step → List ℕ → Type 0
-Turned u at o out x new = (x ≡ stepOf u at o) × (new ≡ sets out o (bytesOf u))
+abbrev TurnedTo : StringUnit → ℕ → ℕ → List ℕ → Turned → List ℕ → Type 0
+TurnedTo u at o out x new = (x ≡ unitTurn u at o) × (new ≡ sets out o (unitBytes u))
 
 module _ (st : Style) (r : List ℕ) (at o : ℕ) (out : List ℕ) (u : Found) (i : unitOf u ≡ unitAt st r) where
-  pub on-close : u ≡ Close → Turned (unitAt st r) at o out (Ended (at + 1) o) out
-  on-close e = subst (λ (v : StringUnit). Turned v at o out (Ended (at + 1) o) out) (sym (ap unitOf e) ∙ i) (refl, refl)
+  pub on-close : u ≡ Close → TurnedTo (unitAt st r) at o out (Finish (at + 1) o) out
+  on-close e = subst (λ (v : StringUnit). TurnedTo v at o out (Finish (at + 1) o) out) (sym (ap unitOf e) ∙ i) (refl, refl)
 
   pub on-took : (n : ℕ) (few : Few) (new : List ℕ) → u ≡ Took n few → FewOf u → new ≡ sets out o (fewOf few)
-      → Turned (unitAt st r) at o out (On (at + n) (o + few .count)) new
+      → TurnedTo (unitAt st r) at o out (On (at + n) (o + few .count)) new
   on-took n few new e f w =
-      subst (λ (v : StringUnit). Turned v at o out (On (at + n) (o + few .count)) new) (sym (ap unitOf e) ∙ i)
+      subst (λ (v : StringUnit). TurnedTo v at o out (On (at + n) (o + few .count)) new) (sym (ap unitOf e) ∙ i)
       (ap (λ (k : ℕ). On (at + n) (o + k)) (few-length few (took-few u n few e f)), w)
 
-  pub on-fault : (number : ℕ) → u ≡ Fault number → Turned (unitAt st r) at o out (Failed number at) out
-  on-fault number e = subst (λ (v : StringUnit). Turned v at o out (Failed number at) out) (sym (ap unitOf e) ∙ i) (refl, refl)
+  pub on-fault : (number : ℕ) → u ≡ Fault number → TurnedTo (unitAt st r) at o out (Refuse number at) out
+  on-fault number e = subst (λ (v : StringUnit). TurnedTo v at o out (Refuse number at) out) (sym (ap unitOf e) ∙ i) (refl, refl)
 
 -- a unit stays in the text
 pub took-inside : (st : Style) (s : List ℕ) (at n : ℕ) (few : Few) (u : Found) → unitOf u ≡ unitAt st (drop at s) → u ≡ Took n few → at ≤ length s → at + n ≤ length s
@@ -69,15 +69,15 @@ module _ (st : Style) (s : List ℕ) (at o e : ℕ) (out o1 : List ℕ) (h : at 
   rest-is : drop skip (drop at s) ≡ drop e s
   rest-is = drop-drop skip at s ∙ ap (λ (k : ℕ). drop k s) (sym ee)
 
-  pub run-turned : (x : Step) (new : List ℕ) → o1 ≡ sets out o (take (e - at) (drop at s)) → Turned (unitAt st (drop e s)) e (o + (e - at)) o1 x new
+  pub run-turned : (x : Turned) (new : List ℕ) → o1 ≡ sets out o (take (e - at) (drop at s)) → TurnedTo (unitAt st (drop e s)) e (o + (e - at)) o1 x new
       → (x ≡ turnOf st (drop at s) at o) × (new ≡ sets out o (turnBytes st (drop at s)))
   unfolding turnOf turnBytes
   run-turned x new w (ex, en) =
       let l : length (take (e - at) (drop at s)) ≡ e - at = length-take-le (e - at) (drop at s) (omega (arith, skip-is, run-fits st (drop at s))) in (
-        ex ∙ (λ i. stepOf (unitAt st (sym rest-is i)) (ee i) (o + skip-is i)),
-        en ∙ ap (λ (y : List ℕ). sets y (o + (e - at)) (bytesOf (unitAt st (drop e s)))) w
-            ∙ sets-append (take (e - at) (drop at s)) (bytesOf (unitAt st (drop e s))) out o (o + (e - at)) (omega (arith, l))
-            ∙ (λ i. sets out o (take (skip-is i) (drop at s) ++ bytesOf (unitAt st (sym rest-is i)))),
+        ex ∙ (λ i. unitTurn (unitAt st (sym rest-is i)) (ee i) (o + skip-is i)),
+        en ∙ ap (λ (y : List ℕ). sets y (o + (e - at)) (unitBytes (unitAt st (drop e s)))) w
+            ∙ sets-append (take (e - at) (drop at s)) (unitBytes (unitAt st (drop e s))) out o (o + (e - at)) (omega (arith, l))
+            ∙ (λ i. sets out o (take (skip-is i) (drop at s) ++ unitBytes (unitAt st (sym rest-is i)))),
       )
 
 -- the loop's invariant: `done` is decoded and stored, and the rest is still to be read
@@ -107,7 +107,7 @@ and-more {st} {s} {out₀} {from} {out} {at} {o} k {to} {p} {new} d =
     }
 
 module _ {st : Style} {s out₀ : List ℕ} {from : ℕ} {out : List ℕ} {at o : ℕ} (k : Kept st s out₀ from out at o)
-    (x : Step) (new : List ℕ) (ex : x ≡ turnOf st (drop at s) at o) (en : new ≡ sets out o (turnBytes st (drop at s))) where
+    (x : Turned) (new : List ℕ) (ex : x ≡ turnOf st (drop at s) at o) (en : new ≡ sets out o (turnBytes st (drop at s))) where
   abbrev run : ℕ
   run = literalRun st 0 (drop at s)
 
@@ -123,15 +123,15 @@ module _ {st : Style} {s out₀ : List ℕ} {from : ℕ} {out : List ℕ} {at o 
   lit-length : length lit ≡ run
   lit-length = length-take-le run (drop at s) (run-fits st (drop at s))
 
-  step-is : (u : StringUnit) → unitAt st rest ≡ u → x ≡ stepOf u (at + run) (o + run)
+  step-is : (u : StringUnit) → unitAt st rest ≡ u → x ≡ unitTurn u (at + run) (o + run)
   unfolding turnOf
-  step-is u e = ex ∙ ap (λ (v : StringUnit). stepOf v (at + run) (o + run)) e
+  step-is u e = ex ∙ ap (λ (v : StringUnit). unitTurn v (at + run) (o + run)) e
 
-  new-is : (u : StringUnit) → unitAt st rest ≡ u → new ≡ sets out₀ 0 (k .done ++ (lit ++ bytesOf u))
+  new-is : (u : StringUnit) → unitAt st rest ≡ u → new ≡ sets out₀ 0 (k .done ++ (lit ++ unitBytes u))
   unfolding turnBytes
   new-is u e =
-      en ∙ ap (λ (v : StringUnit). sets out o (lit ++ bytesOf v)) e ∙ ap (λ (l : List ℕ). sets l o (lit ++ bytesOf u)) (k .stored)
-      ∙ sets-append (k .done) (lit ++ bytesOf u) out₀ 0 o (omega (arith, k .count))
+      en ∙ ap (λ (v : StringUnit). sets out o (lit ++ unitBytes v)) e ∙ ap (λ (l : List ℕ). sets l o (lit ++ unitBytes u)) (k .stored)
+      ∙ sets-append (k .done) (lit ++ unitBytes u) out₀ 0 o (omega (arith, k .count))
 
   -- behind the run
   behind : all ≡ more (k .done ++ lit) (readUnits st (at + run) 0 rest)
@@ -162,13 +162,13 @@ module _ {st : Style} {s out₀ : List ℕ} {from : ℕ} {out : List ℕ} {at o 
   moved next count h = go (unitAt st rest) refl
     where
       go : (u : StringUnit) → unitAt st rest ≡ u → Moved next count
-      go close e = let z : On next count ≡ Ended (at + run + 1) (o + run) = sym h ∙ step-is close e in never (cc)
+      go close e = let z : On next count ≡ Finish (at + run + 1) (o + run) = sym h ∙ step-is close e in never (cc)
       go (took n bs) e =
           let z : On (at + run + n) (o + run + length bs) ≡ On next count = sym (step-is (took n bs) e) ∙ h in
           let a : at + run + n ≡ next = cc in
           let b : o + run + length bs ≡ count = cc in
           rw (a, b) at (move-took n bs e)
-      go (fault number) e = let z : On next count ≡ Failed number (at + run) = sym h ∙ step-is (fault number) e in never (cc)
+      go (fault number) e = let z : On next count ≡ Refuse number (at + run) = sym h ∙ step-is (fault number) e in never (cc)
 
   abbrev Last : Token → Type 0
   Last r = (r ≡ tokenOf all) × Stored all out₀ new
@@ -176,31 +176,31 @@ module _ {st : Style} {s out₀ : List ℕ} {from : ℕ} {out : List ℕ} {at o 
   last-of : (r : Token) (v : StringRead) → all ≡ v → r ≡ tokenOf v → Stored v out₀ new → Last r
   last-of r v e w t = (w ∙ ap tokenOf (sym e), subst (λ (y : StringRead). Stored y out₀ new) (sym e) t)
 
-  pub ended : (end count : ℕ) → x ≡ Ended end count → Last (TokenEnded end count)
+  pub ended : (end count : ℕ) → x ≡ Finish end count → Last (Ended end count)
   ended end count h = go (unitAt st rest) refl
     where
-      go : (u : StringUnit) → unitAt st rest ≡ u → Last (TokenEnded end count)
+      go : (u : StringUnit) → unitAt st rest ≡ u → Last (Ended end count)
       go close e =
-          let z : Ended end count ≡ Ended (at + run + 1) (o + run) = sym h ∙ step-is close e in
+          let z : Finish end count ≡ Finish (at + run + 1) (o + run) = sym h ∙ step-is close e in
           let a : end ≡ at + run + 1 = cc in
           let b : count ≡ o + run = cc in
           let l : count ≡ length ((k .done ++ lit) ++ []) = omega (arith, b, k .count, length-append (k .done ++ lit) [], length-append (k .done) lit, lit-length) in
-          last-of (TokenEnded end count) (accepted ((k .done ++ lit) ++ []) (at + run + 1))
+          last-of (Ended end count) (accepted ((k .done ++ lit) ++ []) (at + run + 1))
           (behind ∙ ap (more (k .done ++ lit)) (read-closes st (at + run) rest e))
-          (λ i. TokenEnded (a i) (l i))
+          (λ i. Ended (a i) (l i))
           (new-is close e ∙ ap (sets out₀ 0) (sym (append-assoc (k .done) lit [])))
-      go (took n bs) e = let z : Ended end count ≡ On (at + run + n) (o + run + length bs) = sym h ∙ step-is (took n bs) e in never (cc)
-      go (fault number) e = let z : Ended end count ≡ Failed number (at + run) = sym h ∙ step-is (fault number) e in never (cc)
+      go (took n bs) e = let z : Finish end count ≡ On (at + run + n) (o + run + length bs) = sym h ∙ step-is (took n bs) e in never (cc)
+      go (fault number) e = let z : Finish end count ≡ Refuse number (at + run) = sym h ∙ step-is (fault number) e in never (cc)
 
-  pub failed : (number place : ℕ) → x ≡ Failed number place → Last (TokenFailed number place)
+  pub failed : (number place : ℕ) → x ≡ Refuse number place → Last (Failed number place)
   failed number place h = go (unitAt st rest) refl
     where
-      go : (u : StringUnit) → unitAt st rest ≡ u → Last (TokenFailed number place)
-      go close e = let z : Failed number place ≡ Ended (at + run + 1) (o + run) = sym h ∙ step-is close e in never (cc)
-      go (took n bs) e = let z : Failed number place ≡ On (at + run + n) (o + run + length bs) = sym h ∙ step-is (took n bs) e in never (cc)
+      go : (u : StringUnit) → unitAt st rest ≡ u → Last (Failed number place)
+      go close e = let z : Refuse number place ≡ Finish (at + run + 1) (o + run) = sym h ∙ step-is close e in never (cc)
+      go (took n bs) e = let z : Refuse number place ≡ On (at + run + n) (o + run + length bs) = sym h ∙ step-is (took n bs) e in never (cc)
       go (fault m) e =
-          let z : Failed number place ≡ Failed m (at + run) = sym h ∙ step-is (fault m) e in
+          let z : Refuse number place ≡ Refuse m (at + run) = sym h ∙ step-is (fault m) e in
           let a : number ≡ m = cc in
           let b : place ≡ at + run = cc in
-          last-of (TokenFailed number place) (refused m (at + run)) (behind ∙ ap (more (k .done ++ lit)) (read-fault st (at + run) rest m e))
-          (λ i. TokenFailed (a i) (b i)) tt
+          last-of (Failed number place) (refused m (at + run)) (behind ∙ ap (more (k .done ++ lit)) (read-fault st (at + run) rest m e))
+          (λ i. Failed (a i) (b i)) tt

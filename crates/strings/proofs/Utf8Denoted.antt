@@ -15,7 +15,7 @@ use Rattle.units.specs.declared.styles.Style.the-variants.{Unicode}
 use Rattle.units.specs.Styles.{StringUnit, close, took, fault}
 use Rattle.units.specs.Units.{unitAt}
 use Rattle.units.proofs.OneCharacter.{Whole, unit-whole}
-use Rattle.strings.specs.Read.{StringRead, accepted, refused, more, after, whole, readUnits, opens, opening, readFrom, readToken, readString}
+use Rattle.strings.specs.Read.{StringRead, accepted, refused, more, after, nothingBehind, readUnits, opens, opening, readFrom, readToken, readString}
 use Rattle.strings.proofs.Steps.{read-skip}
 
 abbrev pub Valid : StringRead → Type 0
@@ -40,7 +40,7 @@ pub units-valid : (s : List ℕ) (p : ℕ) → Valid (readUnits Unicode p 0 s)
 unfolding readUnits
 units-valid = by-suffix (λ s. (p : ℕ) → Valid (readUnits Unicode p 0 s)) (λ p. tt) valid-one
 
-pub valid-whole : (m : ℕ) (r : StringRead) → Valid r → Valid (whole m r)
+pub valid-whole : (m : ℕ) (r : StringRead) → Valid r → Valid (nothingBehind m r)
 valid-whole m (accepted bs e) v = pick-case Valid (eqb e m) _ _ (λ q. v) (λ q. tt)
 valid-whole m (refused number at) v = tt
 

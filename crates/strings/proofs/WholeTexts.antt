@@ -1,6 +1,7 @@
 -- What a whole text is answered, way by way of the code, against the definition.
 -- Assumes nothing.
 use Prim.Native.Nat.{ℕ, zero, suc, _+_, _-_, _≤_, _<_, zero-le}
+use Prim.Native.Char.{code}
 use mathlib.Core.Bool.{Bool, true, false, _&&_}
 use mathlib.Core.List.{List, [], _∷_, _++_, append-nil}
 use mathlib.Core.Path.{_≡_, refl, sym, ap, _∙_, subst}
@@ -9,6 +10,7 @@ use lib.Dec.{ltb, eqb}
 use borrow.Author.Tests.{lt-ltb, le-ltb, eq-eqb, ne-eqb}
 use lib.ListN.{length, getD, take, drop, length-drop}
 use lib.Seq.{sets, drop-drop, drop-cons, length-take-le}
+use Rattle.prelude.specs.Bytes.{doubleQuote, singleQuote}
 use Rattle.prelude.specs.Pick.{pick}
 use Rattle.prelude.proofs.Cases.{split, never}
 use Rattle.prelude.proofs.Stores.{sets-over, empty-front}
@@ -26,7 +28,7 @@ use Rattle.strings.specs.declared.answers.Token.{Token}
 use Rattle.strings.specs.declared.answers.Token.the-variants.{Ended, Failed}
 use Rattle.strings.specs.declared.read.Mark.{Mark}
 use Rattle.strings.specs.declared.read.Mark.the-variants.{Opens, Unopened}
-use Rattle.strings.specs.Read.{StringRead, accepted, refused, more, readUnits, Opening, opens, unopened, opening, readFrom, readToken, readString, readText, whole, fitted, decodedOf, tokenOf, readInto}
+use Rattle.strings.specs.Read.{StringRead, accepted, refused, more, readUnits, Opening, opens, unopened, opening, readFrom, readToken, readString, readText, nothingBehind, fitted, decodedOf, tokenOf, readInto}
 use Rattle.prelude.specs.Limits.{textMax}
 use Rattle.strings.specs.inner.Turns.{openingOf, Closed, Stored}
 use Rattle.strings.proofs.Places.{Marked, opening-fits}
@@ -36,7 +38,7 @@ use Rattle.strings.proofs.Utf8Denoted.{Valid, valid-whole}
 
 -- the answer for a whole text s whose units read as v, and what the buffer holds
 abbrev pub Told : StringRead → List ℕ → List ℕ → Decoded → List ℕ → Type 0
-Told v s out r new = (r ≡ decodedOf (fitted (length out) (whole (length s) v))) × (new ≡ readInto (fitted (length out) (whole (length s) v)) out)
+Told v s out r new = (r ≡ decodedOf (fitted (length out) (nothingBehind (length s) v))) × (new ≡ readInto (fitted (length out) (nothingBehind (length s) v)) out)
 
 module _ (s out : List ℕ) where
   pub wrong : (v : StringRead) (number place : ℕ) → tokenOf v ≡ Failed number place → Told v s out (Refused number place) out
@@ -171,35 +173,35 @@ module _ (s : List ℕ) (m : Mark) (i : openingOf m ≡ opening s) where
 
 -- the mark, byte by byte
 module _ (s : List ℕ) (a : ℕ) (ea : a ≡ getD s 0 0) where
-  pub json-mark : a ≡ 34 → opens Json 1 ≡ opening s
+  pub json-mark : a ≡ doubleQuote → opens Json 1 ≡ opening s
   unfolding opening pick
-  json-mark h = rw (← ea, eq-eqb a 34 h)
+  json-mark h = rw (← ea, eq-eqb a doubleQuote h)
 
-  module _ (n1 : a ≡ 34 → ⊥) where
-    pub bare-mark : a ≡ 39 → opens Unicode 1 ≡ opening s
+  module _ (n1 : a ≡ doubleQuote → ⊥) where
+    pub bare-mark : a ≡ singleQuote → opens Unicode 1 ≡ opening s
     unfolding opening pick
-    bare-mark h = simp (← ea, ne-eqb a 34 n1, eq-eqb a 39 h)
+    bare-mark h = simp (← ea, ne-eqb a doubleQuote n1, eq-eqb a singleQuote h)
 
-    module _ (n2 : a ≡ 39 → ⊥) (b : ℕ) (eb : b ≡ getD s 1 0) where
-      pub no-quote : (b ≡ 39 → ⊥) → unopened ≡ opening s
+    module _ (n2 : a ≡ singleQuote → ⊥) (b : ℕ) (eb : b ≡ getD s 1 0) where
+      pub no-quote : (b ≡ singleQuote → ⊥) → unopened ≡ opening s
       unfolding opening pick
       no-quote h =
-          split (eqb a 117)
-          (λ p. split (eqb a 98) (λ q. simp (← ea, ← eb, ne-eqb a 34 n1, ne-eqb a 39 n2, ne-eqb b 39 h, p, q)) (λ q. simp (← ea, ← eb, ne-eqb a 34 n1, ne-eqb a 39 n2, ne-eqb b 39 h, p, q)))
-          (λ p. split (eqb a 98) (λ q. simp (← ea, ← eb, ne-eqb a 34 n1, ne-eqb a 39 n2, ne-eqb b 39 h, p, q)) (λ q. simp (← ea, ← eb, ne-eqb a 34 n1, ne-eqb a 39 n2, ne-eqb b 39 h, p, q)))
+          split (eqb a (code "u"))
+          (λ p. split (eqb a (code "b")) (λ q. simp (← ea, ← eb, ne-eqb a doubleQuote n1, ne-eqb a singleQuote n2, ne-eqb b singleQuote h, p, q)) (λ q. simp (← ea, ← eb, ne-eqb a doubleQuote n1, ne-eqb a singleQuote n2, ne-eqb b singleQuote h, p, q)))
+          (λ p. split (eqb a (code "b")) (λ q. simp (← ea, ← eb, ne-eqb a doubleQuote n1, ne-eqb a singleQuote n2, ne-eqb b singleQuote h, p, q)) (λ q. simp (← ea, ← eb, ne-eqb a doubleQuote n1, ne-eqb a singleQuote n2, ne-eqb b singleQuote h, p, q)))
 
-      module _ (q : b ≡ 39) where
-        pub unicode-mark : a ≡ 117 → opens Unicode 2 ≡ opening s
+      module _ (q : b ≡ singleQuote) where
+        pub unicode-mark : a ≡ code "u" → opens Unicode 2 ≡ opening s
         unfolding opening pick
-        unicode-mark h = simp (← ea, ← eb, ne-eqb a 34 n1, ne-eqb a 39 n2, eq-eqb a 117 h, eq-eqb b 39 q)
+        unicode-mark h = simp (← ea, ← eb, ne-eqb a doubleQuote n1, ne-eqb a singleQuote n2, eq-eqb a (code "u") h, eq-eqb b singleQuote q)
 
-        pub bytes-mark : (a ≡ 117 → ⊥) → a ≡ 98 → opens Bytes 2 ≡ opening s
+        pub bytes-mark : (a ≡ code "u" → ⊥) → a ≡ code "b" → opens Bytes 2 ≡ opening s
         unfolding opening pick
-        bytes-mark n3 h = simp (← ea, ← eb, ne-eqb a 34 n1, ne-eqb a 39 n2, ne-eqb a 117 n3, eq-eqb a 98 h, eq-eqb b 39 q)
+        bytes-mark n3 h = simp (← ea, ← eb, ne-eqb a doubleQuote n1, ne-eqb a singleQuote n2, ne-eqb a (code "u") n3, eq-eqb a (code "b") h, eq-eqb b singleQuote q)
 
-        pub other-mark : (a ≡ 117 → ⊥) → (a ≡ 98 → ⊥) → unopened ≡ opening s
+        pub other-mark : (a ≡ code "u" → ⊥) → (a ≡ code "b" → ⊥) → unopened ≡ opening s
         unfolding opening pick
-        other-mark n3 n4 = simp (← ea, ← eb, ne-eqb a 34 n1, ne-eqb a 39 n2, ne-eqb a 117 n3, ne-eqb a 98 n4)
+        other-mark n3 n4 = simp (← ea, ← eb, ne-eqb a doubleQuote n1, ne-eqb a singleQuote n2, ne-eqb a (code "u") n3, ne-eqb a (code "b") n4)
 
 -- the cap
 pub long : (s out : List ℕ) → textMax < length s → (Refused 2 0 ≡ decodedOf (readText (length out) s)) × (out ≡ readInto (readText (length out) s) out)

@@ -2,10 +2,12 @@
 -- decides."
 -- Assumes nothing.
 use Prim.Native.Nat.{ℕ, zero, suc, pred, _+_}
+use Prim.Native.Char.{code}
 use mathlib.Core.Bool.{_&&_}
 use mathlib.Core.List.{List, [], _∷_, _++_}
 use lib.Dec.{ltb, eqb}
 use lib.ListN.{length, getD, drop}
+use Rattle.prelude.specs.Bytes.{doubleQuote, singleQuote}
 use Rattle.prelude.specs.Limits.{textMax}
 use Rattle.prelude.specs.Pick.{pick}
 use Rattle.prelude.specs.Refusals.{tooLong, noOpening, cutOff, trailing, noRoom}
@@ -48,10 +50,10 @@ pub data Opening : Type 0 where
 -- `"` `'` `u'` `b'`
 unfoldable pub opening : List ℕ → Opening
 opening s =
-    pick (eqb (getD s 0 0) 34) (opens Json 1)
-    (pick (eqb (getD s 0 0) 39) (opens Unicode 1)
-    (pick (eqb (getD s 0 0) 117 && eqb (getD s 1 0) 39) (opens Unicode 2)
-    (pick (eqb (getD s 0 0) 98 && eqb (getD s 1 0) 39) (opens Bytes 2) unopened)))
+    pick (eqb (getD s 0 0) doubleQuote) (opens Json 1)
+    (pick (eqb (getD s 0 0) singleQuote) (opens Unicode 1)
+    (pick (eqb (getD s 0 0) (code "u") && eqb (getD s 1 0) singleQuote) (opens Unicode 2)
+    (pick (eqb (getD s 0 0) (code "b") && eqb (getD s 1 0) singleQuote) (opens Bytes 2) unopened)))
 
 abbrev pub readFrom : Opening → List ℕ → StringRead
 readFrom (opens st n) s = readUnits st n n s
@@ -62,13 +64,13 @@ unfoldable pub readToken : List ℕ → StringRead
 readToken s = readFrom (opening s) s
 
 -- "bytes after the closing quote", in a text of n bytes
-abbrev pub whole : ℕ → StringRead → StringRead
-whole n (accepted bs e) = pick (eqb e n) (accepted bs e) (refused trailing e)
-whole n (refused number at) = refused number at
+abbrev pub nothingBehind : ℕ → StringRead → StringRead
+nothingBehind n (accepted bs e) = pick (eqb e n) (accepted bs e) (refused trailing e)
+nothingBehind n (refused number at) = refused number at
 
 -- the string that a text is
 unfoldable pub readString : List ℕ → StringRead
-readString s = whole (length s) (readToken s)
+readString s = nothingBehind (length s) (readToken s)
 
 -- "all else is right, and the result is longer than the room"
 abbrev pub fitted : ℕ → StringRead → StringRead

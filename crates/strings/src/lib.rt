@@ -1,4 +1,4 @@
-// J8 strings: the token reader, the string reader and the string writer.
+// J8 strings, read: the token reader and the string reader.
 pub mod answers;
 pub mod read;
 pub mod singles;

@@ -9,7 +9,7 @@ ghost use Rattle.utf8.specs.Utf8.{fewOf};
 ghost use Rattle.runs.specs.inner.Blocks.{Running};
 ghost use Rattle.units.specs.Units.{unitAt, literalRun};
 ghost use Rattle.strings.specs.Read.{opening, readUnits, readToken, readString, readText, fitted, decodedOf, tokenOf, readInto};
-ghost use Rattle.strings.specs.inner.Turns.{openingOf, readBehind, stepOf, bytesOf, turnOf, turnBytes, Closed, Stored};
+ghost use Rattle.strings.specs.inner.Turns.{openingOf, readBehind, unitTurn, unitBytes, turnOf, turnBytes, Closed, Stored};
 use crate::answers::Decoded;
 use crate::answers::Token;
 use crate::singles;
@@ -31,10 +31,10 @@ pub enum Mark {
 }
 
 // Behind a turn: the next place and the bytes stored so far; or the string's end and its length; or a refusal's number and place.
-pub enum Step {
+pub enum Turned {
     On(usize, usize),
-    Ended(usize, usize),
-    Failed(u32, usize),
+    Finish(usize, usize),
+    Refuse(u32, usize),
 }
 
 // The mark that a text begins with.
@@ -42,19 +42,19 @@ pub fn mark_at(s: &[u8]) -> Mark
     ensures { λ r. ⌜ openingOf r ≡ opening (now (s .entry)) ⌝ }
 {
     let a = slices::byte_at(s, 0, 0);
-    if a == 34 {
+    if a == b'"' {
         return Mark::Opens(Style::Json, 1);
     }
-    if a == 39 {
+    if a == b'\'' {
         return Mark::Opens(Style::Unicode, 1);
     }
-    if slices::byte_at(s, 0, 1) != 39 {
+    if slices::byte_at(s, 0, 1) != b'\'' {
         return Mark::Unopened;
     }
-    if a == 117 {
+    if a == b'u' {
         return Mark::Opens(Style::Unicode, 2);
     }
-    if a == 98 {
+    if a == b'b' {
         return Mark::Opens(Style::Bytes, 2);
     }
     Mark::Unopened
@@ -95,20 +95,20 @@ fn put_few(few: Few, o: usize, out: &mut [u8])
 }
 
 // One unit: its bytes are stored as far as there is room.
-fn unit_turn(t: &[u8; 256], s: &[u8], at: usize, style: Style, o: usize, out: &mut [u8]) -> Step
+fn unit_turn(t: &[u8; 256], s: &[u8], at: usize, style: Style, o: usize, out: &mut [u8]) -> Turned
     requires { ⌜ IsTable (now t) × (at ≤ length (now s)) × (o ≤ at) ⌝ }
-    ensures is { λ r. ⌜ r ≡ stepOf (unitAt style (drop at (now (s .entry)))) at o ⌝ }
-    ensures stored { λ r. ⌜ now (out .exit) ≡ sets (now (out .entry)) o (bytesOf (unitAt style (drop at (now (s .entry))))) ⌝ }
+    ensures is { λ r. ⌜ r ≡ unitTurn (unitAt style (drop at (now (s .entry)))) at o ⌝ }
+    ensures stored { λ r. ⌜ now (out .exit) ≡ sets (now (out .entry)) o (unitBytes (unitAt style (drop at (now (s .entry))))) ⌝ }
 {
     let unit = units::units::unit_at(t, s, at, style);
     match unit {
-        Unit::Close => Step::Ended(at + 1, o),
+        Unit::Close => Turned::Finish(at + 1, o),
         Unit::Took(n, few) => {
             let count = few.count;
             put_few(few, o, out);
-            Step::On(at + n, o + count)
+            Turned::On(at + n, o + count)
         }
-        Unit::Fault(number) => Step::Failed(number, at),
+        Unit::Fault(number) => Turned::Refuse(number, at),
     }
 }
 
@@ -121,7 +121,7 @@ fn turn(
     style: Style,
     o: usize,
     out: &mut [u8],
-) -> Step
+) -> Turned
     requires { ⌜ IsTable (now t) × (at ≤ length (now s)) × (o ≤ at) × (e ≡ at + literalRun style 0 (drop at (now s))) ⌝ }
     ensures is { λ r. ⌜ r ≡ turnOf style (drop at (now (s .entry))) at o ⌝ }
     ensures stored { λ r. ⌜ now (out .exit) ≡ sets (now (out .entry)) o (turnBytes style (drop at (now (s .entry)))) ⌝ }
@@ -151,16 +151,16 @@ pub fn units_from(
     loop {
         let step = turn(t, s, at, e, style, o, out);
         match step {
-            Step::On(next, count) => {
+            Turned::On(next, count) => {
                 let moved = singles::singles_behind(t, s, next, style, e - at, count, out);
                 at = moved.at;
                 o = moved.count;
                 e = literals::run_there(t, s, moved.at, style);
             }
-            Step::Ended(end, count) => {
+            Turned::Finish(end, count) => {
                 return Token::Ended(end, count);
             }
-            Step::Failed(number, place) => {
+            Turned::Refuse(number, place) => {
                 return Token::Failed(number, place);
             }
         }

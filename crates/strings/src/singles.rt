@@ -4,7 +4,7 @@ ghost use lib.ListN.{length};
 ghost use Rattle.utf8.specs.Class.{IsTable};
 ghost use Rattle.strings.specs.inner.Turns.{Advanced};
 use prelude::slices;
-use units::singles;
+use units::single_escapes;
 use units::styles::Style;
 use utf8::classes;
 
@@ -40,10 +40,10 @@ fn singles_before(
             count += 1;
             continue;
         }
-        if b != 92 {
+        if b != b'\\' {
             return Moved { at, count };
         }
-        let unit = singles::escaped(s, at + 1, style);
+        let unit = single_escapes::single_at(s, at + 1, style);
         let n = unit.len;
         if n == 0 {
             return Moved { at, count };

@@ -7,10 +7,12 @@ use Prim.Native.Nat.{ℕ, _+_, _-_, _*_, _≤_}
 use native.Mathlib.Omega.{arith}
 use lib.ListN.{length, take, drop, set, length-append, length-drop, drop-of-length-le}
 use lib.Seq.{sets, take-add, take-length, drop-drop, length-take-le}
+use Rattle.prelude.specs.Bytes.{doubleQuote}
 use Rattle.prelude.proofs.Stores.{sets-append}
 use Rattle.utf8.specs.Utf8.{validFrom, validUtf8}
-use Rattle.utf8.specs.inner.Checks.{Checked}
-use Rattle.units.specs.declared.styles.Style.the-variants.{Json, Bytes}
+use Rattle.utf8.specs.inner.Checks.{ValidAs}
+use Rattle.units.specs.declared.styles.Style.the-variants.{Json}
+use Rattle.units.specs.declared.styles.Form.the-variants.{AsJson, AsBytes}
 use Rattle.units.specs.Units.{literalRun}
 use Rattle.runs.specs.inner.Blocks.{Running}
 use Rattle.units.proofs.LiteralLaws.{run-fits, run-valid}
@@ -30,13 +32,13 @@ module _ (s : List ℕ) (at : ℕ) (k : Running Json s 0 at) where
   run-end : drop (literalRun Json 0 s) s ≡ drop run (drop at s)
   run-end = sym (drop-drop run at s ∙ ap (λ (i : ℕ). drop i s) (let e : at + run ≡ literalRun Json 0 s = omega (arith, k .same) in e))
 
-  written-from : writeUnits Json 0 s ≡ take at s ++ writeUnits Json 0 (drop at s)
+  written-from : writeUnits AsJson 0 s ≡ take at s ++ writeUnits AsJson 0 (drop at s)
   written-from =
       let e : literalRun Json 0 s ≡ at + run = omega (arith, k .same) in
-      write-run Json s
-      ∙ (λ i. (ap (λ (n : ℕ). take n s) e ∙ take-add at run s) i ++ writeUnits Json 0 (run-end i))
-      ∙ append-assoc (take at s) (take run (drop at s)) (writeUnits Json 0 (drop run (drop at s)))
-      ∙ ap (λ (x : List ℕ). take at s ++ x) (sym (write-run Json (drop at s)))
+      write-run AsJson s
+      ∙ (λ i. (ap (λ (n : ℕ). take n s) e ∙ take-add at run s) i ++ writeUnits AsJson 0 (run-end i))
+      ∙ append-assoc (take at s) (take run (drop at s)) (writeUnits AsJson 0 (drop run (drop at s)))
+      ∙ ap (λ (x : List ℕ). take at s ++ x) (sym (write-run AsJson (drop at s)))
 
   pub valid-from : validUtf8 s ≡ validUtf8 (drop at s)
   valid-from = run-valid Json s ∙ ap validUtf8 run-end ∙ sym (run-valid Json (drop at s))
@@ -53,45 +55,45 @@ module _ (s : List ℕ) (at : ℕ) where
   unfolding validFrom
   nothing-left e = let l : length s ≤ at = omega arith in sym (ap (validFrom 0) (drop-of-length-le s l))
 
-  pub ascii-left : Checked s at (length s) → true ≡ validUtf8 (drop at s)
+  pub ascii-left : ValidAs s at (length s) → true ≡ validUtf8 (drop at s)
   unfolding validFrom
   ascii-left k = let l : length s ≤ length s = omega arith in sym (ap (validFrom 0) (drop-of-length-le s l)) ∙ k .same
 
 module _ (s o : List ℕ) (at room : ℕ) (out : List ℕ) (f : Fronted s o at out) where
   -- all of the data
-  pub all-front : at ≡ length s → 6 * length s + 2 ≤ room → Passed (writeString s) room (at + 2) o (set out (at + 1) 34)
+  pub all-front : at ≡ length s → 6 * length s + 2 ≤ room → Passed (writeString s) room (at + 2) o (set out (at + 1) doubleQuote)
   all-front e h =
       let z : literalRun Json 0 (drop at s) ≤ length s - at = rw (length-drop at s) at (run-fits Json (drop at s)) in
       let l : literalRun Json 0 s ≡ length s = omega (arith, f .run .same) in
-      let w : out ≡ sets (set o 0 34) 1 (take (length s) s) = f .stored ∙ ap (λ (i : ℕ). sets (set o 0 34) 1 (take i s)) e in
-      subst (λ (i : ℕ). Passed (writeString s) room (i + 2) o (set out (i + 1) 34)) (sym e) (literal-part s o l (omega arith) refl w refl)
+      let w : out ≡ sets (set o 0 doubleQuote) 1 (take (length s) s) = f .stored ∙ ap (λ (i : ℕ). sets (set o 0 doubleQuote) 1 (take i s)) e in
+      subst (λ (i : ℕ). Passed (writeString s) room (i + 2) o (set out (i + 1) doubleQuote)) (sym e) (literal-part s o l (omega arith) refl w refl)
 
   -- valid data
   module _ (v : true ≡ validUtf8 (drop at s)) where
-    whole : quoted Json s ≡ (34 ∷ take at s) ++ (textOf s at (length s) ++ (34 ∷ []))
+    whole : quoted AsJson s ≡ (doubleQuote ∷ take at s) ++ (textOf s at (length s) ++ (doubleQuote ∷ []))
     unfolding quoted
     whole =
-        ap (λ (x : List ℕ). 34 ∷ (x ++ (34 ∷ []))) (written-from s at (f .run) ∙ ap (λ (x : List ℕ). take at s ++ x) (bytewise (drop at s) (sym v) ∙ ap bytesText (sym (rest s at))))
-        ∙ ap (λ (x : List ℕ). 34 ∷ x) (append-assoc (take at s) (textOf s at (length s)) (34 ∷ []))
+        ap (λ (x : List ℕ). doubleQuote ∷ (x ++ (doubleQuote ∷ []))) (written-from s at (f .run) ∙ ap (λ (x : List ℕ). take at s ++ x) (bytewise (drop at s) (sym v) ∙ ap bytesText (sym (rest s at))))
+        ∙ ap (λ (x : List ℕ). doubleQuote ∷ x) (append-assoc (take at s) (textOf s at (length s)) (doubleQuote ∷ []))
 
-    pub valid-text-behind : (r : ℕ) (out2 : List ℕ) → 6 * length s + 2 ≤ room → Texted s at (length s) (at + 1) out r out2 → Passed (writeString s) room (r + 1) o (set out2 r 34)
+    pub valid-text-behind : (r : ℕ) (out2 : List ℕ) → 6 * length s + 2 ≤ room → Texted s at (length s) (at + 1) out r out2 → Passed (writeString s) room (r + 1) o (set out2 r doubleQuote)
     valid-text-behind r out2 h w =
         let t : List ℕ = textOf s at (length s) in
-        let n : length (34 ∷ take at s) ≡ at + 1 = omega (arith, length-take-le at s (f .run .inside)) in
-        let l : length (quoted Json s) ≡ r + 1 = ap length whole ∙ omega (arith, length-append (34 ∷ take at s) (t ++ (34 ∷ [])), length-append t (34 ∷ []), w .size) in
-        let p : set out2 r 34 ≡ sets o 0 (quoted Json s) =
-        ap (λ (x : List ℕ). set x r 34) (w .stored)
-        ∙ sets-append t (34 ∷ []) out (at + 1) r (sym (w .size))
-        ∙ ap (λ (x : List ℕ). sets x (at + 1) (t ++ (34 ∷ []))) (f .stored)
-        ∙ sets-append (34 ∷ take at s) (t ++ (34 ∷ [])) o 0 (at + 1) (omega arith)
+        let n : length (doubleQuote ∷ take at s) ≡ at + 1 = omega (arith, length-take-le at s (f .run .inside)) in
+        let l : length (quoted AsJson s) ≡ r + 1 = ap length whole ∙ omega (arith, length-append (doubleQuote ∷ take at s) (t ++ (doubleQuote ∷ [])), length-append t (doubleQuote ∷ []), w .size) in
+        let p : set out2 r doubleQuote ≡ sets o 0 (quoted AsJson s) =
+        ap (λ (x : List ℕ). set x r doubleQuote) (w .stored)
+        ∙ sets-append t (doubleQuote ∷ []) out (at + 1) r (sym (w .size))
+        ∙ ap (λ (x : List ℕ). sets x (at + 1) (t ++ (doubleQuote ∷ []))) (f .stored)
+        ∙ sets-append (doubleQuote ∷ take at s) (t ++ (doubleQuote ∷ [])) o 0 (at + 1) (omega arith)
         ∙ ap (sets o 0) (sym whole) in
-        rw (valid-text s (valid-from s at (f .run) ∙ sym v)) (finished (omega (arith, quoted-length Json s)) l p)
+        rw (valid-text s (valid-from s at (f .run) ∙ sym v)) (finished (omega (arith, quoted-length AsJson s)) l p)
 
   -- any other data: its text covers the front
-  pub other-text-over : (r : ℕ) (new : List ℕ) → false ≡ validUtf8 (drop at s) → Passed (quoted Bytes s) room r out new → Passed (writeString s) room r o new
+  pub other-text-over : (r : ℕ) (new : List ℕ) → false ≡ validUtf8 (drop at s) → Passed (quoted AsBytes s) room r out new → Passed (writeString s) room r o new
   other-text-over r new v p =
-      let n : length (34 ∷ take at s) ≤ length (quoted Bytes s) = omega (arith, length-take-le at s (f .run .inside), quoted-least Bytes s, f .run .inside) in
+      let n : length (doubleQuote ∷ take at s) ≤ length (quoted AsBytes s) = omega (arith, length-take-le at s (f .run .inside), quoted-least AsBytes s, f .run .inside) in
       rw (other-text s (valid-from s at (f .run) ∙ sym v)) (record {
         answer = p .answer;
-        stored = λ h. p .stored h ∙ ap (λ (x : List ℕ). sets x 0 (quoted Bytes s)) (f .stored) ∙ sets-again (34 ∷ take at s) (quoted Bytes s) o 0 n;
+        stored = λ h. p .stored h ∙ ap (λ (x : List ℕ). sets x 0 (quoted AsBytes s)) (f .stored) ∙ sets-again (doubleQuote ∷ take at s) (quoted AsBytes s) o 0 n;
       })

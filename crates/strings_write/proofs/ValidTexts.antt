@@ -8,12 +8,14 @@ use native.Mathlib.Omega.{arith}
 use borrow.Author.Tests.{eqb-true, ltb-true, ltb-false, ne-eqb, leb-true}
 use lib.Dec.{ltb, leb, eqb, lit≤}
 use lib.ListN.{take, drop}
+use Rattle.prelude.specs.Bytes.{doubleQuote, backslash}
 use Rattle.prelude.specs.Pick.{pick}
 use Rattle.prelude.proofs.Cases.{split, and-left, and-right, never}
 use Rattle.prelude.proofs.Suffix.{by-suffix}
 use Rattle.utf8.specs.Utf8.{between, charLen, validFrom, positive}
 use Rattle.utf8.proofs.Characters.{tails, low-bound, char-tails, valid-skip}
 use Rattle.units.specs.declared.styles.Style.the-variants.{Json}
+use Rattle.units.specs.declared.styles.Form.the-variants.{AsJson}
 use Rattle.units.specs.Escapes.{lookup}
 use Rattle.units.specs.Units.{literalLen}
 use Rattle.units.specs.Written.{escapeByte}
@@ -27,25 +29,25 @@ use Rattle.strings_write.proofs.WriteSteps.{write-skip}
 -- a byte from 0x80 up
 high-text : (b : ℕ) → 0x80 ≤ b → byteText b ≡ b ∷ []
 high-text b h =
-    unslashed b (or-none _ _ (ne-eqb b 34 (λ z. omega arith)) (ne-eqb b 92 (λ z. omega arith))) (omega arith)
+    unslashed b (or-none _ _ (ne-eqb b doubleQuote (λ z. omega arith)) (ne-eqb b backslash (λ z. omega arith))) (omega arith)
 
-quote-text : 92 ∷ 34 ∷ [] ≡ escapeByte Json 34
+quote-text : backslash ∷ doubleQuote ∷ [] ≡ escapeByte AsJson doubleQuote
 unfolding escapeByte pick lookup
 quote-text = refl
 
-slash-text : 92 ∷ 92 ∷ [] ≡ escapeByte Json 92
+slash-text : backslash ∷ backslash ∷ [] ≡ escapeByte AsJson backslash
 unfolding escapeByte pick lookup
 slash-text = refl
 
 -- a byte where a character stands that isn't literal has its escape
-marked-text : (x : ℕ) (r : List ℕ) → positive (charLen (x ∷ r)) ≡ true → literalLen Json (x ∷ r) ≡ 0 → byteText x ≡ escapeByte Json x
+marked-text : (x : ℕ) (r : List ℕ) → positive (charLen (x ∷ r)) ≡ true → literalLen Json (x ∷ r) ≡ 0 → byteText x ≡ escapeByte AsJson x
 unfolding byteText pick literalLen
 marked-text x r c l =
     split (ltb x 32) (λ a. rw a)
-    (λ a. split (eqb x 34)
-    (λ q. let e : x ≡ 34 = eqb-true x 34 q in rw e quote-text)
-    (λ q. split (eqb x 92)
-    (λ b. let e : x ≡ 92 = eqb-true x 92 b in rw e slash-text)
+    (λ a. split (eqb x doubleQuote)
+    (λ q. let e : x ≡ doubleQuote = eqb-true x doubleQuote q in rw e quote-text)
+    (λ q. split (eqb x backslash)
+    (λ b. let e : x ≡ backslash = eqb-true x backslash b in rw e slash-text)
     (λ b. let z : charLen (x ∷ r) ≡ 0 = simp (a, q, b) at l in
     let y : _≡_ {A = Bool} false true = ap positive (sym z) ∙ c in never cc)))
 
@@ -54,12 +56,12 @@ literal-text : (x : ℕ) (r : List ℕ) (n : ℕ) → literalLen Json (x ∷ r) 
 unfolding literalLen pick
 literal-text x r n l =
     split (ltb x 32)
-    (λ a. let q : eqb x 34 ≡ false = ne-eqb x 34 (λ z. omega (arith, ltb-true x 32 a)) in
-    let b : eqb x 92 ≡ false = ne-eqb x 92 (λ z. omega (arith, ltb-true x 32 a)) in
+    (λ a. let q : eqb x doubleQuote ≡ false = ne-eqb x doubleQuote (λ z. omega (arith, ltb-true x 32 a)) in
+    let b : eqb x backslash ≡ false = ne-eqb x backslash (λ z. omega (arith, ltb-true x 32 a)) in
     let y : _≡_ {A = ℕ} 0 (suc n) = simp (a, q, b) at l in absurd (omega arith))
-    (λ a. split (eqb x 34)
+    (λ a. split (eqb x doubleQuote)
     (λ q. let y : _≡_ {A = ℕ} 0 (suc n) = simp q at l in absurd (omega arith))
-    (λ q. split (eqb x 92)
+    (λ q. split (eqb x backslash)
     (λ b. let y : _≡_ {A = ℕ} 0 (suc n) = simp (q, b) at l in absurd (omega arith))
     (λ b. unslashed x (or-none _ _ q b) (ltb-false x 32 a))))
 
@@ -72,7 +74,7 @@ tails-text low high (suc n) (b ∷ r) h e =
     rw (high-text b (omega arith)) (ap (λ (l : List ℕ). b ∷ l) (tails-text 0x80 0xbf n r (lit≤ tt) (and-right (between low high b) _ e)))
 
 abbrev Same : List ℕ → Type 0
-Same s = validFrom 0 s ≡ true → writeUnits Json 0 s ≡ bytesText s
+Same s = validFrom 0 s ≡ true → writeUnits AsJson 0 s ≡ bytesText s
 
 valid-first : (x : ℕ) (r : List ℕ) → validFrom 0 (x ∷ r) ≡ true → (positive (charLen (x ∷ r)) ≡ true) × (validFrom 0 (drop (pred (charLen (x ∷ r))) r) ≡ true)
 unfolding validFrom
@@ -82,21 +84,21 @@ same-one : (x : ℕ) (r : List ℕ) → ((k : ℕ) → Same (drop k r)) → Same
 unfolding writeUnits bytesText
 same-one x r ih v = go (literalLen Json (x ∷ r)) refl
   where
-    go : (l : ℕ) → literalLen Json (x ∷ r) ≡ l → writeUnits Json 0 (x ∷ r) ≡ bytesText (x ∷ r)
+    go : (l : ℕ) → literalLen Json (x ∷ r) ≡ l → writeUnits AsJson 0 (x ∷ r) ≡ bytesText (x ∷ r)
     go zero e =
         let w = valid-first x r v in
-        let f = escape-written Json x r e in
-        let p : writeUnits Json (pred (charLen (x ∷ r))) r ≡ bytesText r =
-        ap (λ (k : ℕ). writeUnits Json k r) (f .1) ∙ ih 0 (subst (λ (k : ℕ). validFrom 0 (drop k r) ≡ true) (f .1) (w .1)) in
+        let f = escape-written AsJson x r e in
+        let p : writeUnits AsJson (pred (charLen (x ∷ r))) r ≡ bytesText r =
+        ap (λ (k : ℕ). writeUnits AsJson k r) (f .1) ∙ ih 0 (subst (λ (k : ℕ). validFrom 0 (drop k r) ≡ true) (f .1) (w .1)) in
         λ i. (f .0 ∙ sym (marked-text x r (w .0) e)) i ++ p i
     go (suc l) e =
         let m : charLen (x ∷ r) ≡ suc l = literal-char Json (x ∷ r) l e in
         let d : validFrom 0 (drop l r) ≡ true = subst (λ (k : ℕ). validFrom 0 (drop (pred k) r) ≡ true) m (valid-first x r v .1) in
-        let p : writeUnits Json (pred (charLen (x ∷ r))) r ≡ bytesText (drop l r) =
-        ap (λ (k : ℕ). writeUnits Json (pred k) r) m ∙ write-skip Json l r ∙ ih l d in
+        let p : writeUnits AsJson (pred (charLen (x ∷ r))) r ≡ bytesText (drop l r) =
+        ap (λ (k : ℕ). writeUnits AsJson (pred k) r) m ∙ write-skip AsJson l r ∙ ih l d in
         let t : bytesText r ≡ take l r ++ bytesText (drop l r) = tails-text _ _ l r (low-bound _) (char-tails x r l m .1) in
-        (λ i. literal-written Json x r l e i ++ p i) ∙ rw (literal-text x r l e) (ap (λ (q : List ℕ). x ∷ q) (sym t))
+        (λ i. literal-written AsJson x r l e i ++ p i) ∙ rw (literal-text x r l e) (ap (λ (q : List ℕ). x ∷ q) (sym t))
 
-pub bytewise : (s : List ℕ) → validFrom 0 s ≡ true → writeUnits Json 0 s ≡ bytesText s
+pub bytewise : (s : List ℕ) → validFrom 0 s ≡ true → writeUnits AsJson 0 s ≡ bytesText s
 unfolding writeUnits bytesText
 bytewise = by-suffix Same (λ v. refl) same-one

@@ -10,13 +10,16 @@ use borrow.Author.Tests.{le-leb, lt-leb, leb-true, leb-false}
 use lib.Dec.{leb}
 use lib.ListN.{length, getD, take, drop, set, length-drop, length-append, drop-of-length-le}
 use lib.Seq.{sets, length-sets, length-take-le, take-length, drop-drop, drop-cons}
+use Rattle.prelude.specs.Bytes.{doubleQuote}
 use Rattle.prelude.specs.Pick.{pick}
 use Rattle.prelude.proofs.Cases.{split}
 use Rattle.prelude.proofs.Stores.{sets-append, sets-over, empty-front}
 use Rattle.utf8.specs.Utf8.{charLen, validUtf8}
 use Rattle.units.specs.declared.styles.Style.{Style}
-use Rattle.units.specs.declared.styles.Style.the-variants.{Json, Bytes}
-use Rattle.units.specs.Styles.{quote}
+use Rattle.units.specs.declared.styles.Style.the-variants.{Json}
+use Rattle.units.specs.declared.styles.Form.{Form}
+use Rattle.units.specs.declared.styles.Form.the-variants.{AsJson, AsBytes}
+use Rattle.units.specs.Styles.{quote, styleOf}
 use Rattle.units.specs.Units.{literalLen, literalRun}
 use Rattle.units.specs.Written.{escapeByte}
 use Rattle.runs.specs.inner.Blocks.{Running}
@@ -33,40 +36,40 @@ use Rattle.strings_write.proofs.WriteSteps.{write-skip}
 use Rattle.strings_write.proofs.WriteSteps.{write-run}
 
 -- the units of s and the closing quote
-abbrev closed : Style → List ℕ → List ℕ
-closed st s = writeUnits st 0 s ++ (quote st ∷ [])
+abbrev closed : Form → List ℕ → List ℕ
+closed form s = writeUnits form 0 s ++ (quote (styleOf form) ∷ [])
 
 -- the loop's invariant: `done` is written, and the rest of the text is that of the data from `at` on
-pub record Writing (st : Style) (s : List ℕ) (cap : ℕ) (out₀ : List ℕ) (at o : ℕ) (out : List ℕ) : Type 0 where
+pub record Writing (form : Form) (s : List ℕ) (cap : ℕ) (out₀ : List ℕ) (at o : ℕ) (out : List ℕ) : Type 0 where
   pub inside : at ≤ length s
   pub below : o ≤ cap
   pub done : List ℕ
   pub size : length done ≡ o
-  pub same : quoted st s ≡ done ++ closed st (drop at s)
-  pub stored : (t : List ℕ) → out₀ ≡ sets t 0 (mark st) → out ≡ sets t 0 done
+  pub same : quoted form s ≡ done ++ closed form (drop at s)
+  pub stored : (t : List ℕ) → out₀ ≡ sets t 0 (mark form) → out ≡ sets t 0 done
 
-pub begun : {st : Style} {s : List ℕ} {room f : ℕ} {out₀ : List ℕ} → f ≡ length (mark st) → f < room → Writing st s (room - 1) out₀ 0 f out₀
+pub begun : {form : Form} {s : List ℕ} {room f : ℕ} {out₀ : List ℕ} → f ≡ length (mark form) → f < room → Writing form s (room - 1) out₀ 0 f out₀
 unfolding quoted
-begun {st} e h = record { inside = omega arith; below = omega arith; done = mark st; size = sym e; same = refl; stored = λ t w. w }
+begun {form} e h = record { inside = omega arith; below = omega arith; done = mark form; size = sym e; same = refl; stored = λ t w. w }
 
 -- one byte by its escape, where the run stops at once
-escape-step : (st : Style) (s : List ℕ) (at : ℕ) → at < length s → literalRun st 0 (drop at s) ≡ 0
-    → writeUnits st 0 (drop at s) ≡ escapeByte st (getD s at 0) ++ writeUnits st 0 (drop (at + 1) s)
+escape-step : (form : Form) (s : List ℕ) (at : ℕ) → at < length s → literalRun (styleOf form) 0 (drop at s) ≡ 0
+    → writeUnits form 0 (drop at s) ≡ escapeByte form (getD s at 0) ++ writeUnits form 0 (drop (at + 1) s)
 unfolding writeUnits
-escape-step st s at h e =
-    let l : literalLen st (getD s at 0 ∷ drop (suc at) s) ≡ 0 =
-    ap (literalLen st) (sym (drop-cons s at 0 h)) ∙ (rw e at (run-ends st (drop at s))) in
-    let w = escape-written st (getD s at 0) (drop (suc at) s) l in
+escape-step form s at h e =
+    let l : literalLen (styleOf form) (getD s at 0 ∷ drop (suc at) s) ≡ 0 =
+    ap (literalLen (styleOf form)) (sym (drop-cons s at 0 h)) ∙ (rw e at (run-ends (styleOf form) (drop at s))) in
+    let w = escape-written form (getD s at 0) (drop (suc at) s) l in
     let a : suc at ≡ at + 1 = omega arith in
     rw (← a, drop-cons s at 0 h, w .0, w .1) refl
 
-module _ {st : Style} {s : List ℕ} {cap : ℕ} {out₀ : List ℕ} {at o : ℕ} {out : List ℕ} (i : Writing st s cap out₀ at o out) where
+module _ {form : Form} {s : List ℕ} {cap : ℕ} {out₀ : List ℕ} {at o : ℕ} {out : List ℕ} (i : Writing form s cap out₀ at o out) where
   -- the next `u` bytes of the data are written as `p`
-  module _ (p : List ℕ) (u : ℕ) (step : writeUnits st 0 (drop at s) ≡ p ++ writeUnits st 0 (drop (at + u) s)) where
-    parts : closed st (drop at s) ≡ p ++ closed st (drop (at + u) s)
-    parts = ap (λ (x : List ℕ). x ++ (quote st ∷ [])) step ∙ append-assoc p _ _
+  module _ (p : List ℕ) (u : ℕ) (step : writeUnits form 0 (drop at s) ≡ p ++ writeUnits form 0 (drop (at + u) s)) where
+    parts : closed form (drop at s) ≡ p ++ closed form (drop (at + u) s)
+    parts = ap (λ (x : List ℕ). x ++ (quote (styleOf form) ∷ [])) step ∙ append-assoc p _ _
 
-    moved : {out' : List ℕ} → at + u ≤ length s → length p ≤ cap - o → out' ≡ sets out o p → Writing st s cap out₀ (at + u) (o + length p) out'
+    moved : {out' : List ℕ} → at + u ≤ length s → length p ≤ cap - o → out' ≡ sets out o p → Writing form s cap out₀ (at + u) (o + length p) out'
     moved {out'} h f w = record {
       inside = h;
       below = omega (arith, i .below);
@@ -76,62 +79,63 @@ module _ {st : Style} {s : List ℕ} {cap : ℕ} {out₀ : List ℕ} {at o : ℕ
       stored = λ t g. w ∙ ap (λ (x : List ℕ). sets x o p) (i .stored t g) ∙ sets-append (i .done) p t 0 o (omega (arith, i .size));
     }
 
-    stuck : cap - o < length p → suc cap < length (quoted st s)
+    stuck : cap - o < length p → suc cap < length (quoted form s)
     stuck f =
-        let a : length (quoted st s) ≡ length (i .done) + length (closed st (drop at s)) = ap length (i .same) ∙ length-append (i .done) (closed st (drop at s)) in
-        let b : length (closed st (drop at s)) ≡ length p + length (closed st (drop (at + u) s)) = ap length parts ∙ length-append p (closed st (drop (at + u) s)) in
-        let d : length (closed st (drop (at + u) s)) ≡ length (writeUnits st 0 (drop (at + u) s)) + 1 = length-append (writeUnits st 0 (drop (at + u) s)) (quote st ∷ []) in
+        let a : length (quoted form s) ≡ length (i .done) + length (closed form (drop at s)) = ap length (i .same) ∙ length-append (i .done) (closed form (drop at s)) in
+        let b : length (closed form (drop at s)) ≡ length p + length (closed form (drop (at + u) s)) = ap length parts ∙ length-append p (closed form (drop (at + u) s)) in
+        let d : length (closed form (drop (at + u) s)) ≡ length (writeUnits form 0 (drop (at + u) s)) + 1 = length-append (writeUnits form 0 (drop (at + u) s)) (quote (styleOf form) ∷ []) in
         omega (arith, i .size, i .below)
 
-  -- an escape
-  module _ (e m : ℕ) (h : at < length s) (ee : e ≡ at + literalRun st 0 (drop at s)) (z : e ≡ at) (em : m ≡ length (escapeByte st (getD s at 0))) where
-    escape-here : writeUnits st 0 (drop at s) ≡ escapeByte st (getD s at 0) ++ writeUnits st 0 (drop (at + 1) s)
-    escape-here = escape-step st s at h (omega (arith, ee, z))
+  -- an escape; the code has the form's style as a number of its own
+  module _ {st : Style} (es : st ≡ styleOf form) (e m : ℕ) (h : at < length s) (ee : e ≡ at + literalRun st 0 (drop at s)) (z : e ≡ at)
+      (em : m ≡ length (escapeByte form (getD s at 0))) where
+    escape-here : writeUnits form 0 (drop at s) ≡ escapeByte form (getD s at 0) ++ writeUnits form 0 (drop (at + 1) s)
+    escape-here = escape-step form s at h (omega (arith, rw es at ee, z))
 
-    pub escape-moved : {out' : List ℕ} → m ≤ cap - o → out' ≡ sets out o (escapeByte st (getD s at 0)) → Writing st s cap out₀ (at + 1) (o + m) out'
-    escape-moved f w = rw em (moved (escapeByte st (getD s at 0)) 1 escape-here (omega arith) (rw em at f) w)
+    pub escape-moved : {out' : List ℕ} → m ≤ cap - o → out' ≡ sets out o (escapeByte form (getD s at 0)) → Writing form s cap out₀ (at + 1) (o + m) out'
+    escape-moved f w = rw em (moved (escapeByte form (getD s at 0)) 1 escape-here (omega arith) (rw em at f) w)
 
-    pub escape-stuck : cap - o < m → suc cap < length (quoted st s)
-    escape-stuck f = stuck (escapeByte st (getD s at 0)) 1 escape-here (rw em at f)
+    pub escape-stuck : cap - o < m → suc cap < length (quoted form s)
+    escape-stuck f = stuck (escapeByte form (getD s at 0)) 1 escape-here (rw em at f)
 
   -- a run
-  module _ (e : ℕ) (h : at < length s) (ee : e ≡ at + literalRun st 0 (drop at s)) where
+  module _ {st : Style} (es : st ≡ styleOf form) (e : ℕ) (h : at < length s) (ee : e ≡ at + literalRun st 0 (drop at s)) where
     abbrev run : List ℕ
     run = take (e - at) (drop at s)
 
-    count : e - at ≡ literalRun st 0 (drop at s)
-    count = omega (arith, ee)
+    count : e - at ≡ literalRun (styleOf form) 0 (drop at s)
+    count = omega (arith, rw es at ee)
 
     pub run-inside : at + (e - at) ≤ length s
-    run-inside = omega (arith, count, run-fits st (drop at s), length-drop at s)
+    run-inside = omega (arith, count, run-fits (styleOf form) (drop at s), length-drop at s)
 
-    run-here : writeUnits st 0 (drop at s) ≡ run ++ writeUnits st 0 (drop (at + (e - at)) s)
+    run-here : writeUnits form 0 (drop at s) ≡ run ++ writeUnits form 0 (drop (at + (e - at)) s)
     run-here =
-        rw (count) (write-run st (drop at s) ∙ ap (λ (x : List ℕ). take (literalRun st 0 (drop at s)) (drop at s) ++ writeUnits st 0 x) (drop-drop (literalRun st 0 (drop at s)) at s))
+        rw (count) (write-run form (drop at s) ∙ ap (λ (x : List ℕ). take (literalRun (styleOf form) 0 (drop at s)) (drop at s) ++ writeUnits form 0 x) (drop-drop (literalRun (styleOf form) 0 (drop at s)) at s))
 
     run-length : length run ≡ e - at
-    run-length = length-take-le (e - at) (drop at s) (omega (arith, count, run-fits st (drop at s)))
+    run-length = length-take-le (e - at) (drop at s) (omega (arith, count, run-fits (styleOf form) (drop at s)))
 
-    pub run-moved : {out' : List ℕ} → e - at ≤ cap - o → out' ≡ sets out o run → Writing st s cap out₀ e (o + (e - at)) out'
+    pub run-moved : {out' : List ℕ} → e - at ≤ cap - o → out' ≡ sets out o run → Writing form s cap out₀ e (o + (e - at)) out'
     run-moved f w =
-        let a : at + (e - at) ≡ e = omega (arith, ee) in
+        let a : at + (e - at) ≡ e = omega (arith, rw es at ee) in
         rw (a, run-length) at (moved run (e - at) run-here run-inside (omega (arith, run-length)) w)
 
-    pub run-stuck : cap - o < e - at → suc cap < length (quoted st s)
+    pub run-stuck : cap - o < e - at → suc cap < length (quoted form s)
     run-stuck f = stuck run (e - at) run-here (omega (arith, run-length))
 
-  pub kept : (t : List ℕ) → out₀ ≡ sets t 0 (mark st) → length out ≡ length t
+  pub kept : (t : List ℕ) → out₀ ≡ sets t 0 (mark form) → length out ≡ length t
   kept t g = ap length (i .stored t g) ∙ length-sets t 0 (i .done)
 
-  ended : length s ≤ at → quoted st s ≡ i .done ++ (quote st ∷ [])
+  ended : length s ≤ at → quoted form s ≡ i .done ++ (quote (styleOf form) ∷ [])
   unfolding writeUnits
   ended h = i .same ∙ rw (drop-of-length-le s h) refl
 
-  pub last : {out' : List ℕ} (t : List ℕ) → out₀ ≡ sets t 0 (mark st) → length s ≤ at → out' ≡ set out o (quote st)
-      → (length (quoted st s) ≡ o + 1) × (out' ≡ sets t 0 (quoted st s))
+  pub last : {out' : List ℕ} (t : List ℕ) → out₀ ≡ sets t 0 (mark form) → length s ≤ at → out' ≡ set out o (quote (styleOf form))
+      → (length (quoted form s) ≡ o + 1) × (out' ≡ sets t 0 (quoted form s))
   last t g h w = (
-    ap length (ended h) ∙ length-append (i .done) (quote st ∷ []) ∙ omega (arith, i .size),
-    w ∙ ap (λ (x : List ℕ). set x o (quote st)) (i .stored t g) ∙ sets-append (i .done) (quote st ∷ []) t 0 o (omega (arith, i .size)) ∙ ap (sets t 0) (sym (ended h)),
+    ap length (ended h) ∙ length-append (i .done) (quote (styleOf form) ∷ []) ∙ omega (arith, i .size),
+    w ∙ ap (λ (x : List ℕ). set x o (quote (styleOf form))) (i .stored t g) ∙ sets-append (i .done) (quote (styleOf form) ∷ []) t 0 o (omega (arith, i .size)) ∙ ap (sets t 0) (sym (ended h)),
   )
 
 -- a pass that stops at the room, and one that ends
@@ -144,9 +148,9 @@ unfolding pick
 finished {text} {room} h e w = record { answer = rw (le-leb (length text) room h) (sym e); stored = λ g. w }
 
 -- the mark alone passes the room
-pub mark-long : (st : Style) (s : List ℕ) (room f : ℕ) → f ≡ length (mark st) → room ≤ f → room < length (quoted st s)
+pub mark-long : (form : Form) (s : List ℕ) (room f : ℕ) → f ≡ length (mark form) → room ≤ f → room < length (quoted form s)
 unfolding quoted
-mark-long st s room f e h = omega (arith, length-append (mark st) (closed st s), length-append (writeUnits st 0 s) (quote st ∷ []))
+mark-long form s room f e h = omega (arith, length-append (mark form) (closed form s), length-append (writeUnits form 0 s) (quote (styleOf form) ∷ []))
 
 -- what a call answers and leaves
 abbrev Wrote-It : List ℕ → List ℕ → Written → List ℕ → Type 0
@@ -166,8 +170,8 @@ unfolding pick
 one-pass text out {n} {new} h p = wrote text out n new h (p .answer ∙ rw (le-leb (length text) (length out) h)) (p .stored h)
 
 -- room for the longest text of n bytes
-pub room-enough : (st to : Style) (n room : ℕ) → st ≡ to → length (mark to) + limit to n + 1 ≤ room → (s : List ℕ) → length s ≡ n → length (quoted st s) ≤ room
-room-enough st to n room e h s l =
+pub room-enough : (form to : Form) (n room : ℕ) → form ≡ to → length (mark to) + limit to n + 1 ≤ room → (s : List ℕ) → length s ≡ n → length (quoted form s) ≤ room
+room-enough form to n room e h s l =
     rw e (omega (arith, quoted-length to s, ap (limit to) l))
 
 -- the first pass over the empty part `l`, and the second over the buffer
@@ -196,68 +200,68 @@ module _ (text l out : List ℕ) {n : ℕ} {l₀ : List ℕ} (pos : 0 < length t
       let f : length text ≤ length out = fits h in
       wrote text out n new f (count-is f) (q .stored f ∙ ap (λ (x : List ℕ). sets x 0 text) e)
 
-pub quoted-positive : (st : Style) (s : List ℕ) → 0 < length (quoted st s)
+pub quoted-positive : (form : Form) (s : List ℕ) → 0 < length (quoted form s)
 unfolding quoted
-quoted-positive st s = omega (arith, length-append (mark st) (closed st s), length-append (writeUnits st 0 s) (quote st ∷ []))
+quoted-positive form s = omega (arith, length-append (mark form) (closed form s), length-append (writeUnits form 0 s) (quote (styleOf form) ∷ []))
 
-pub stored-mark : (st to : Style) (out new : List ℕ) → st ≡ to → new ≡ sets out 0 (mark to) → (length (mark to) ≡ length (mark st)) × (new ≡ sets out 0 (mark st))
-stored-mark st to out new e w = rw e (refl, w)
+pub stored-mark : (form to : Form) (out new : List ℕ) → form ≡ to → new ≡ sets out 0 (mark to) → (length (mark to) ≡ length (mark form)) × (new ≡ sets out 0 (mark form))
+stored-mark form to out new e w = rw e (refl, w)
 
 -- valid data takes the `""` form
-pub valid-text : (s : List ℕ) → validUtf8 s ≡ true → writeString s ≡ quoted Json s
+pub valid-text : (s : List ℕ) → validUtf8 s ≡ true → writeString s ≡ quoted AsJson s
 unfolding writeString pick
 valid-text s e = rw e
 
 -- data that is one run of literal characters
-pub literal-text : (s : List ℕ) → literalRun Json 0 s ≡ length s → quoted Json s ≡ 34 ∷ (s ++ (34 ∷ []))
+pub literal-text : (s : List ℕ) → literalRun Json 0 s ≡ length s → quoted AsJson s ≡ doubleQuote ∷ (s ++ (doubleQuote ∷ []))
 unfolding quoted writeUnits
 literal-text s e =
-    let u : writeUnits Json 0 s ≡ s =
-    write-run Json s ∙ rw (e, drop-of-length-le s {i = length s} (omega arith), take-length s) (append-nil s) in
+    let u : writeUnits AsJson 0 s ≡ s =
+    write-run AsJson s ∙ rw (e, drop-of-length-le s {i = length s} (omega arith), take-length s) (append-nil s) in
     rw u
 
 module _ (s out : List ℕ) (e : literalRun Json 0 s ≡ length s) where
-  text-length : length (quoted Json s) ≡ length s + 2
-  text-length = ap length (literal-text s e) ∙ (let l : length (s ++ (34 ∷ [])) ≡ length s + 1 = length-append s (34 ∷ []) in omega arith)
+  text-length : length (quoted AsJson s) ≡ length s + 2
+  text-length = ap length (literal-text s e) ∙ (let l : length (s ++ (doubleQuote ∷ [])) ≡ length s + 1 = length-append s (doubleQuote ∷ []) in omega arith)
 
   -- what the stores of a quote, the data and a quote leave
-  literal-stored : {o1 o2 o3 : List ℕ} → o1 ≡ set out 0 34 → o2 ≡ sets o1 1 (take (length s) s) → o3 ≡ set o2 (length s + 1) 34 → o3 ≡ sets out 0 (quoted Json s)
+  literal-stored : {o1 o2 o3 : List ℕ} → o1 ≡ set out 0 doubleQuote → o2 ≡ sets o1 1 (take (length s) s) → o3 ≡ set o2 (length s + 1) doubleQuote → o3 ≡ sets out 0 (quoted AsJson s)
   literal-stored {o1} {o2} {o3} p q r =
-      r ∙ ap (λ (x : List ℕ). set x (length s + 1) 34) (q ∙ (λ i. sets (p i) 1 (take-length s i)))
-      ∙ sets-append s (34 ∷ []) (set out 0 34) 1 (length s + 1) (omega arith) ∙ ap (sets out 0) (sym (literal-text s e))
+      r ∙ ap (λ (x : List ℕ). set x (length s + 1) doubleQuote) (q ∙ (λ i. sets (p i) 1 (take-length s i)))
+      ∙ sets-append s (doubleQuote ∷ []) (set out 0 doubleQuote) 1 (length s + 1) (omega arith) ∙ ap (sets out 0) (sym (literal-text s e))
 
-  pub literal-full : length out < length s + 2 → Wrote-It (quoted Json s) out (Full 12) out
-  literal-full h = full (quoted Json s) out (omega (arith, text-length))
+  pub literal-full : length out < length s + 2 → Wrote-It (quoted AsJson s) out (Full 12) out
+  literal-full h = full (quoted AsJson s) out (omega (arith, text-length))
 
-  pub literal-wrote : {o1 o2 o3 : List ℕ} → length s + 2 ≤ length out → o1 ≡ set out 0 34 → o2 ≡ sets o1 1 (take (length s) s) → o3 ≡ set o2 (length s + 1) 34
-      → Wrote-It (quoted Json s) out (Wrote (length s + 2)) o3
-  literal-wrote {o1} {o2} {o3} h p q r = wrote (quoted Json s) out (length s + 2) o3 (omega (arith, text-length)) (sym text-length) (literal-stored p q r)
+  pub literal-wrote : {o1 o2 o3 : List ℕ} → length s + 2 ≤ length out → o1 ≡ set out 0 doubleQuote → o2 ≡ sets o1 1 (take (length s) s) → o3 ≡ set o2 (length s + 1) doubleQuote
+      → Wrote-It (quoted AsJson s) out (Wrote (length s + 2)) o3
+  literal-wrote {o1} {o2} {o3} h p q r = wrote (quoted AsJson s) out (length s + 2) o3 (omega (arith, text-length)) (sym text-length) (literal-stored p q r)
 
   -- the same as one pass, in a room
   pub literal-over : {room : ℕ} {new : List ℕ} → room < length s + 2 → Passed (writeString s) room 0 out new
   literal-over h = rw (valid-text s (all-literal Json s e)) (stopped (omega (arith, text-length)))
 
-  pub literal-part : {room : ℕ} {o1 o2 o3 : List ℕ} → length s + 2 ≤ room → o1 ≡ set out 0 34 → o2 ≡ sets o1 1 (take (length s) s) → o3 ≡ set o2 (length s + 1) 34
+  pub literal-part : {room : ℕ} {o1 o2 o3 : List ℕ} → length s + 2 ≤ room → o1 ≡ set out 0 doubleQuote → o2 ≡ sets o1 1 (take (length s) s) → o3 ≡ set o2 (length s + 1) doubleQuote
       → Passed (writeString s) room (length s + 2) out o3
   literal-part h p q r = rw (valid-text s (all-literal Json s e)) (finished (omega (arith, text-length)) text-length (literal-stored p q r))
 
 -- the form that the data takes
-pub other-text : (s : List ℕ) → validUtf8 s ≡ false → writeString s ≡ quoted Bytes s
+pub other-text : (s : List ℕ) → validUtf8 s ≡ false → writeString s ≡ quoted AsBytes s
 unfolding writeString pick
 other-text s e = rw e
 
 module _ (s : List ℕ) (r : Written) (out new : List ℕ) where
-  pub valid-form : validUtf8 s ≡ true → Wrote-It (quoted Json s) out r new → Wrote-It (writeString s) out r new
+  pub valid-form : validUtf8 s ≡ true → Wrote-It (quoted AsJson s) out r new → Wrote-It (writeString s) out r new
   valid-form e w = subst (λ (x : List ℕ). Wrote-It x out r new) (sym (valid-text s e)) w
 
-  pub other-form : validUtf8 s ≡ false → Wrote-It (quoted Bytes s) out r new → Wrote-It (writeString s) out r new
+  pub other-form : validUtf8 s ≡ false → Wrote-It (quoted AsBytes s) out r new → Wrote-It (writeString s) out r new
   other-form e w = subst (λ (x : List ℕ). Wrote-It x out r new) (sym (other-text s e)) w
 
-pub valid-pass : (s : List ℕ) (room : ℕ) {v : Bool} {r : ℕ} {out new : List ℕ} → v ≡ validUtf8 s → v ≡ true → Passed (quoted Json s) room r out new
+pub valid-pass : (s : List ℕ) (room : ℕ) {v : Bool} {r : ℕ} {out new : List ℕ} → v ≡ validUtf8 s → v ≡ true → Passed (quoted AsJson s) room r out new
     → Passed (writeString s) room r out new
 valid-pass s room {v} {r} {out} {new} e h w = subst (λ (x : List ℕ). Passed x room r out new) (sym (valid-text s (sym e ∙ h))) w
 
-pub other-pass : (s : List ℕ) (room : ℕ) {v : Bool} {r : ℕ} {out new : List ℕ} → v ≡ validUtf8 s → v ≡ false → Passed (quoted Bytes s) room r out new
+pub other-pass : (s : List ℕ) (room : ℕ) {v : Bool} {r : ℕ} {out new : List ℕ} → v ≡ validUtf8 s → v ≡ false → Passed (quoted AsBytes s) room r out new
     → Passed (writeString s) room r out new
 other-pass s room {v} {r} {out} {new} e h w = subst (λ (x : List ℕ). Passed x room r out new) (sym (other-text s (sym e ∙ h))) w
 

@@ -1,42 +1,43 @@
 -- Writing a J8 string: "one form for each byte string".
 -- Assumes nothing.
 use Prim.Native.Nat.{ℕ, zero, suc, pred}
+use Prim.Native.Char.{code}
 use mathlib.Core.List.{List, [], _∷_, _++_}
 use lib.Dec.{leb}
 use lib.ListN.{length, drop}
+use Rattle.prelude.specs.Bytes.{doubleQuote, singleQuote}
 use Rattle.prelude.specs.Pick.{pick}
 use Rattle.prelude.specs.Refusals.{noRoom}
 use Rattle.utf8.specs.Utf8.{charLen, validUtf8}
-use Rattle.units.specs.declared.styles.Style.{Style}
-use Rattle.units.specs.declared.styles.Style.the-variants.{Json, Unicode, Bytes}
-use Rattle.units.specs.Styles.{quote}
+use Rattle.units.specs.declared.styles.Form.{Form}
+use Rattle.units.specs.declared.styles.Form.the-variants.{AsJson, AsBytes}
+use Rattle.units.specs.Styles.{quote, styleOf}
 use Rattle.units.specs.Written.{written}
 use Rattle.strings_write.specs.declared.answers.Written.{Written}
 use Rattle.strings_write.specs.declared.answers.Written.the-variants.{Wrote, Full}
 
 -- the units of a byte string; k bytes are skipped
-unfoldable pub writeUnits : Style → ℕ → List ℕ → List ℕ
-writeUnits st k [] = []
-writeUnits st zero (x ∷ r) = written st (charLen (x ∷ r)) x r ++ writeUnits st (pred (charLen (x ∷ r))) r
-writeUnits st (suc k) (x ∷ r) = writeUnits st k r
+unfoldable pub writeUnits : Form → ℕ → List ℕ → List ℕ
+writeUnits form k [] = []
+writeUnits form zero (x ∷ r) = written form (charLen (x ∷ r)) x r ++ writeUnits form (pred (charLen (x ∷ r))) r
+writeUnits form (suc k) (x ∷ r) = writeUnits form k r
 
--- the mark that the writer puts before a style's units
-abbrev pub mark : Style → List ℕ
-mark Json = 34 ∷ []
-mark Unicode = 117 ∷ 39 ∷ []
-mark Bytes = 98 ∷ 39 ∷ []
+-- the mark that the writer puts before a form's units
+abbrev pub mark : Form → List ℕ
+mark AsJson = doubleQuote ∷ []
+mark AsBytes = code "b" ∷ singleQuote ∷ []
 
--- the text of a byte string in a style
-unfoldable pub quoted : Style → List ℕ → List ℕ
-quoted st s = mark st ++ (writeUnits st 0 s ++ (quote st ∷ []))
+-- the text of a byte string in a form
+unfoldable pub quoted : Form → List ℕ → List ℕ
+quoted form s = mark form ++ (writeUnits form 0 s ++ (quote (styleOf form) ∷ []))
 
 -- "Anything else goes as `b''`"; the form by itself
 abbrev pub writeBytes : List ℕ → List ℕ
-writeBytes s = quoted Bytes s
+writeBytes s = quoted AsBytes s
 
 -- "valid UTF-8 goes as `""`"
 unfoldable pub writeString : List ℕ → List ℕ
-writeString s = pick (validUtf8 s) (quoted Json s) (writeBytes s)
+writeString s = pick (validUtf8 s) (quoted AsJson s) (writeBytes s)
 
 -- the answer for a text in a room: "Writing refuses only with 12"
 unfoldable pub writtenIn : ℕ → List ℕ → Written

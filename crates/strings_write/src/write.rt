@@ -8,6 +8,7 @@ ghost use lib.Seq.{sets};
 ghost use Rattle.utf8.specs.Class.{IsTable};
 ghost use Rattle.utf8.specs.Utf8.{validUtf8};
 ghost use Rattle.units.specs.declared.styles.Style.the-variants.{Json};
+ghost use Rattle.units.specs.declared.styles.Form.the-variants.{AsJson};
 ghost use Rattle.runs.specs.inner.Blocks.{Running};
 ghost use Rattle.units.specs.Units.{literalRun};
 ghost use Rattle.strings_write.specs.Write.{mark, quoted, writeBytes, writeString, writtenIn, wroteInto};
@@ -15,46 +16,43 @@ ghost use Rattle.strings_write.specs.inner.Passes.{Passed};
 ghost use Rattle.bytewise.specs.inner.Bytewise.{Fronted, Onward};
 use crate::answers::Written;
 use bytewise::front;
-use bytewise::texts;
+use bytewise::rest;
 use prelude::refusals;
 use prelude::slices;
 use runs::blocks;
 use runs::literals;
 use units::styles;
+use units::styles::Form;
 use units::styles::Style;
 use units::written;
 use utf8::chars;
 use utf8::classes;
 
-// Stores the opening mark of a style, as far as there is room; its length.
-fn put_mark(style: Style, out: &mut [u8]) -> usize
-    ensures { λ r. ⌜ (r ≡ length (mark style)) × (now (out .exit) ≡ sets (now (out .entry)) 0 (mark style)) ⌝ }
+// Stores the opening mark of a form, as far as there is room; its length.
+fn put_mark(form: Form, out: &mut [u8]) -> usize
+    ensures { λ r. ⌜ (r ≡ length (mark form)) × (now (out .exit) ≡ sets (now (out .entry)) 0 (mark form)) ⌝ }
 {
-    match style {
-        Style::Json => {
-            slices::put(34, 0, out);
+    match form {
+        Form::AsJson => {
+            slices::put(b'"', 0, out);
             1
         }
-        Style::Unicode => {
-            let text = [117u8, 39];
-            slices::copy_run(&text, 0, 2, 0, out);
-            2
-        }
-        Style::Bytes => {
-            let text = [98u8, 39];
+        Form::AsBytes => {
+            let text = [b'b', b'\''];
             slices::copy_run(&text, 0, 2, 0, out);
             2
         }
     }
 }
 
-// Writes the data in a style, as far as the buffer reaches: the text's length, or 0 as soon as it passes the room.
+// Writes the data in a form, as far as the buffer reaches: the text's length, or 0 as soon as it passes the room.
 // Every text has two bytes, so 0 is no length; and the count stops at the room, so it can't run over.
-fn pass(t: &[u8; 256], style: Style, s: &[u8], room: usize, out: &mut [u8]) -> usize
+fn pass(t: &[u8; 256], form: Form, s: &[u8], room: usize, out: &mut [u8]) -> usize
     requires { ⌜ IsTable (now t) ⌝ }
-    ensures { λ r. ⌜ Passed (quoted style (now (s .entry))) room r (now (out .entry)) (now (out .exit)) ⌝ }
+    ensures { λ r. ⌜ Passed (quoted form (now (s .entry))) room r (now (out .entry)) (now (out .exit)) ⌝ }
 {
-    let first = put_mark(style, out);
+    let style = styles::style_of(form);
+    let first = put_mark(form, out);
     if room <= first {
         return 0;
     }
@@ -65,11 +63,11 @@ fn pass(t: &[u8; 256], style: Style, s: &[u8], room: usize, out: &mut [u8]) -> u
         let e = literals::short_run(t, s, at, style);
         if e == at {
             let x = s[at];
-            let m = written::escape_len(style, x);
+            let m = written::escape_len(form, x);
             if cap - o < m {
                 return 0;
             }
-            written::put_escape(style, x, o, out);
+            written::put_escape(form, x, o, out);
             o += m;
             at += 1;
         } else {
@@ -82,7 +80,7 @@ fn pass(t: &[u8; 256], style: Style, s: &[u8], room: usize, out: &mut [u8]) -> u
             at = e;
         }
     }
-    slices::put(styles::quote_of(style), o, out);
+    slices::put(styles::quote_in(form), o, out);
     o + 1
 }
 
@@ -92,9 +90,9 @@ pub fn write_part(t: &[u8; 256], valid: bool, s: &[u8], room: usize, out: &mut [
     ensures { λ r. ⌜ Passed (writeString (now (s .entry))) room r (now (out .entry)) (now (out .exit)) ⌝ }
 {
     if valid {
-        return pass(t, Style::Json, s, room, out);
+        return pass(t, Form::AsJson, s, room, out);
     }
-    pass(t, Style::Bytes, s, room, out)
+    pass(t, Form::AsBytes, s, room, out)
 }
 
 // The text of data that is one run of literal characters: its length, or 0 where it passes the room.
@@ -106,9 +104,9 @@ fn literal_part(s: &[u8], room: usize, out: &mut [u8]) -> usize
     if room < size + 2 {
         return 0;
     }
-    slices::put(34, 0, out);
+    slices::put(b'"', 0, out);
     slices::copy_run(s, 0, size, 1, out);
-    slices::put(34, size + 1, out);
+    slices::put(b'"', size + 1, out);
     size + 2
 }
 
@@ -173,15 +171,15 @@ fn write_behind(t: &[u8; 256], s: &[u8], at: usize, room: usize, out: &mut [u8])
 {
     let j = judge(t, s, at, out);
     if j.at == s.len() {
-        out[j.at + 1] = 34;
+        out[j.at + 1] = b'"';
         return j.at + 2;
     }
     if j.valid {
-        let o = texts::put_rest(t, s, j.at, j.at + 1, out);
-        out[o] = 34;
+        let o = rest::put_rest(t, s, j.at, j.at + 1, out);
+        out[o] = b'"';
         return o + 1;
     }
-    pass(t, Style::Bytes, s, room, out)
+    pass(t, Form::AsBytes, s, room, out)
 }
 
 // The same for any data. In an ample room what stands as it is is stored as it is tested, and nothing is measured.
@@ -194,58 +192,57 @@ pub fn write_run(t: &[u8; 256], s: &[u8], room: usize, out: &mut [u8]) -> usize
     }
     let e = front::put_front(s, out);
     if e == s.len() {
-        out[e + 1] = 34;
+        out[e + 1] = b'"';
         return e + 2;
     }
     write_behind(t, s, e, room, out)
 }
 
-// Whether every text of n bytes of data in a style fits a room.
-fn roomy(style: Style, n: usize, room: usize) -> bool
-    ensures { λ r. ⌜ (r ≡ true → (s : List ℕ) → length s ≡ n → length (quoted style s) ≤ room) ⌝ }
+// Whether every text of n bytes of data in a form fits a room.
+fn roomy(form: Form, n: usize, room: usize) -> bool
+    ensures { λ r. ⌜ (r ≡ true → (s : List ℕ) → length s ≡ n → length (quoted form s) ≤ room) ⌝ }
 {
     if room < 3 {
         return false;
     }
-    match style {
-        Style::Json => n <= (room - 2) / 6,
-        Style::Unicode => n <= (room - 3) / 6,
-        Style::Bytes => n <= (room - 3) / 4,
+    match form {
+        Form::AsJson => n <= (room - 2) / 6,
+        Form::AsBytes => n <= (room - 3) / 4,
     }
 }
 
-// The text of the data in a style, or 12: one pass over no buffer to measure it, one to store it. Where the room is known to suffice,
+// The text of the data in a form, or 12: one pass over no buffer to measure it, one to store it. Where the room is known to suffice,
 // nothing is measured.
-fn write_quoted(t: &[u8; 256], style: Style, s: &[u8], out: &mut [u8]) -> Written
+fn write_quoted(t: &[u8; 256], form: Form, s: &[u8], out: &mut [u8]) -> Written
     requires { ⌜ IsTable (now t) ⌝ }
-    ensures answer { λ r. ⌜ r ≡ writtenIn (length (now (out .entry))) (quoted style (now (s .entry))) ⌝ }
-    ensures stored { λ r. ⌜ now (out .exit) ≡ wroteInto (quoted style (now (s .entry))) (now (out .entry)) ⌝ }
+    ensures answer { λ r. ⌜ r ≡ writtenIn (length (now (out .entry))) (quoted form (now (s .entry))) ⌝ }
+    ensures stored { λ r. ⌜ now (out .exit) ≡ wroteInto (quoted form (now (s .entry))) (now (out .entry)) ⌝ }
 {
     let room = out.len();
-    if roomy(style, s.len(), room) {
-        return Written::Wrote(pass(t, style, s, room, out));
+    if roomy(form, s.len(), room) {
+        return Written::Wrote(pass(t, form, s, room, out));
     }
-    let n = pass(t, style, s, room, &mut out[..0]);
+    let n = pass(t, form, s, room, &mut out[..0]);
     if n == 0 {
         return Written::Full(refusals::NO_ROOM);
     }
-    pass(t, style, s, room, out);
+    pass(t, form, s, room, out);
     Written::Wrote(n)
 }
 
 // The text of data that is one run of literal characters: a quote, the data, a quote.
 fn write_literal(s: &[u8], out: &mut [u8]) -> Written
     requires { ⌜ literalRun Json 0 (now s) ≡ length (now s) ⌝ }
-    ensures answer { λ r. ⌜ r ≡ writtenIn (length (now (out .entry))) (quoted Json (now (s .entry))) ⌝ }
-    ensures stored { λ r. ⌜ now (out .exit) ≡ wroteInto (quoted Json (now (s .entry))) (now (out .entry)) ⌝ }
+    ensures answer { λ r. ⌜ r ≡ writtenIn (length (now (out .entry))) (quoted AsJson (now (s .entry))) ⌝ }
+    ensures stored { λ r. ⌜ now (out .exit) ≡ wroteInto (quoted AsJson (now (s .entry))) (now (out .entry)) ⌝ }
 {
     let n = s.len();
     if out.len() < n + 2 {
         return Written::Full(refusals::NO_ROOM);
     }
-    slices::put(34, 0, out);
+    slices::put(b'"', 0, out);
     slices::copy_run(s, 0, n, 1, out);
-    slices::put(34, n + 1, out);
+    slices::put(b'"', n + 1, out);
     Written::Wrote(n + 2)
 }
 
@@ -265,9 +262,9 @@ fn write_from(s: &[u8], at: usize, out: &mut [u8]) -> Written
         return Written::Wrote(write_run(&t, s, room, out));
     }
     if chars::valid_in(&t, &s[e..]) {
-        return write_quoted(&t, Style::Json, s, out);
+        return write_quoted(&t, Form::AsJson, s, out);
     }
-    write_quoted(&t, Style::Bytes, s, out)
+    write_quoted(&t, Form::AsBytes, s, out)
 }
 
 // Writes the data as a J8 string: its text in front of out, or 12 and out as it was. Where blocks reach the end, no table is made. They are
@@ -290,5 +287,5 @@ pub fn write_bytes(s: &[u8], out: &mut [u8]) -> Written
     ensures stored { λ r. ⌜ now (out .exit) ≡ wroteInto (writeBytes (now (s .entry))) (now (out .entry)) ⌝ }
 {
     let t = classes::table();
-    write_quoted(&t, Style::Bytes, s, out)
+    write_quoted(&t, Form::AsBytes, s, out)
 }

@@ -17,7 +17,7 @@ use Rattle.units.specs.declared.styles.Style.{Style}
 use Rattle.units.specs.declared.styles.Style.the-variants.{Json, Unicode, Bytes}
 use Rattle.units.specs.Styles.{quote, StringUnit, close, took, fault}
 use Rattle.units.specs.Hex.{hexVal, hexDigits, hexFrom, hexRun, hexNumber}
-use Rattle.units.specs.Escapes.{lookup, letters, lettersOf, high, isLow, lowHalf, codeUnit, fourDigits, scalar, isBraced, braced, codePoint, rawByte, short, escape}
+use Rattle.units.specs.Escapes.{lookup, letters, lettersOf, high, isLow, lowHalf, codeUnit, fourDigits, scalar, isBraced, braced, codePoint, rawByte, letterEscape, escape}
 use Rattle.units.specs.Units.{literal, unitAt}
 use Rattle.units.proofs.WrittenBack.{Each, lookup-each}
 use Rattle.prelude.specs.Bytes.{IsBytes}
@@ -115,7 +115,7 @@ raw-bytes Json r = tt
 raw-bytes Unicode r = tt
 raw-bytes Bytes r = pick-case UnitBytes (eqb (hexRun 2 r) 2) _ _ (λ e. small-bytes (hexNumber 2 r ∷ []) (hex-below 2 0 1 r (omega arith), tt)) (λ e. tt)
 
-short-bytes : (b : ℕ) → ((b ≡ 0 → ⊥) → b < 256) → UnitBytes (short b)
+short-bytes : (b : ℕ) → ((b ≡ 0 → ⊥) → b < 256) → UnitBytes (letterEscape b)
 short-bytes zero h = tt
 short-bytes (suc b) h = small-bytes (suc b ∷ []) (h (λ z. omega arith), tt)
 

@@ -10,7 +10,7 @@ use lib.Seq.{drop-drop, drop-append-seam, take-append-seam}
 use Rattle.prelude.specs.Pick.{pick}
 use Rattle.prelude.proofs.Picks.{pick-case}
 use Rattle.utf8.specs.Utf8.{validUtf8}
-use Rattle.units.specs.declared.styles.Style.the-variants.{Json, Bytes}
+use Rattle.units.specs.declared.styles.Form.the-variants.{AsJson, AsBytes}
 use Rattle.prelude.specs.Bytes.{IsBytes}
 use Rattle.strings.specs.Read.{opening}
 use Rattle.strings_write.specs.Write.{quoted, writeString}
@@ -41,7 +41,7 @@ use Rattle.trees.proofs.Leaves.{Token, string-token, number-is, number-
 pub written-begins : (s r : List ℕ) → (startOf (writeString s ++ r) ≡ StringStart) × Heads (writeString s)
 unfolding writeString quoted startOf opening begins solid isSpace pick
 written-begins s r =
-    pick-case (λ w. (startOf (w ++ r) ≡ StringStart) × Heads w) (validUtf8 s) (quoted Json s) (quoted Bytes s) (λ e. (refl, refl)) (λ e. (refl, refl))
+    pick-case (λ w. (startOf (w ++ r) ≡ StringStart) × Heads w) (validUtf8 s) (quoted AsJson s) (quoted AsBytes s) (λ e. (refl, refl)) (λ e. (refl, refl))
 
 pub number-heads : (w : List ℕ) → (numberKind w ≡ 0 → ⊥) → Heads w
 unfolding numberKind

@@ -2,6 +2,7 @@
 -- the bytes past the end, all 0, are no digit, letter or brace.
 -- Assumes nothing.
 use Prim.Native.Nat.{ℕ, zero, suc, _+_, _-_, _≤_, _<_}
+use Prim.Native.Char.{code}
 use mathlib.Core.Bool.{false}
 use mathlib.Core.List.{List, [], _∷_}
 use mathlib.Core.Path.{_≡_, refl, sym, ap, _∙_}
@@ -10,6 +11,7 @@ use lib.Dec.{leb, eqb}
 use borrow.Author.Tests.{le-leb, lt-leb, eq-eqb, ne-eqb}
 use lib.ListN.{length, getD, drop, length-drop}
 use lib.Seq.{drop-drop}
+use Rattle.prelude.specs.Bytes.{backslash}
 use Rattle.prelude.proofs.Picks.{pick-true, pick-false, and-yes, nots, tests}
 use Rattle.prelude.proofs.Rest.{getD-inside}
 use Rattle.prelude.specs.Pick.{pick}
@@ -19,7 +21,7 @@ use Rattle.units.specs.declared.styles.Style.{Style}
 use Rattle.units.specs.declared.styles.Style.the-variants.{Json, Unicode, Bytes}
 use Rattle.units.specs.Styles.{StringUnit, took, fault}
 use Rattle.units.specs.Hex.{hexRun, hexNumber}
-use Rattle.units.specs.Escapes.{lookup, lettersOf, isLow, lowHalf, codeUnit, fourDigits, scalar, isBraced, braced, codePoint, rawByte, short, escape}
+use Rattle.units.specs.Escapes.{lookup, lettersOf, isLow, lowHalf, codeUnit, fourDigits, scalar, isBraced, braced, codePoint, rawByte, letterEscape, escape}
 use Rattle.units.proofs.HexLaws.{run-inside}
 
 pub scalar-below : (u : StringUnit) (n v : ℕ) → u ≡ took n (encode v) → v < 0xd800 → u ≡ scalar n v
@@ -32,9 +34,9 @@ unfolding codeUnit
 unit-below v w h = search tests
 
 -- a letter's byte that isn't 0
-pub short-some : (u : StringUnit) (b : ℕ) → u ≡ took 2 (b ∷ []) → (b ≡ 0 → ⊥) → u ≡ short b
-short-some u zero e h = absurd (h refl)
-short-some u (suc b) e h = e
+pub letter-some : (u : StringUnit) (b : ℕ) → u ≡ took 2 (b ∷ []) → (b ≡ 0 → ⊥) → u ≡ letterEscape b
+letter-some u zero e h = absurd (h refl)
+letter-some u (suc b) e h = e
 
 -- `\y` and two digits
 pub raw-two : (u : StringUnit) (r : List ℕ) (n v : ℕ) → n ≡ hexRun 2 r → v ≡ hexNumber 2 r → n ≡ 2 → u ≡ took 4 (v ∷ []) → u ≡ rawByte Bytes r
@@ -59,7 +61,7 @@ unfolding braced pick
 braced-law [] = refl
 braced-law (c ∷ r) = refl
 
-escape-law : (st : Style) (r : List ℕ) → escape st r ≡ pick (eqb (getD r 0 0) 117) (codePoint st (drop 1 r)) (pick (eqb (getD r 0 0) 121) (rawByte st (drop 1 r)) (short (lookup (getD r 0 0) (lettersOf st))))
+escape-law : (st : Style) (r : List ℕ) → escape st r ≡ pick (eqb (getD r 0 0) (code "u")) (codePoint st (drop 1 r)) (pick (eqb (getD r 0 0) (code "y")) (rawByte st (drop 1 r)) (letterEscape (lookup (getD r 0 0) (lettersOf st))))
 unfolding escape lookup pick
 escape-law Json [] = refl
 escape-law Unicode [] = refl
@@ -73,11 +75,11 @@ module _ (s : List ℕ) (at : ℕ) where
     unfolding lowHalf
     low-none = sym (pick-false _ _ _ no)
 
-  pub low-first : (a : ℕ) → a ≡ getD (drop at s) 0 0 → (a ≡ 92 → ⊥) → 0 ≡ lowHalf (drop at s)
-  low-first a e h = let z : eqb (getD (drop at s) 0 0) 92 ≡ false = ne-eqb _ _ (λ q. h (e ∙ q)) in low-none (search nots)
+  pub low-first : (a : ℕ) → a ≡ getD (drop at s) 0 0 → (a ≡ backslash → ⊥) → 0 ≡ lowHalf (drop at s)
+  low-first a e h = let z : eqb (getD (drop at s) 0 0) backslash ≡ false = ne-eqb _ _ (λ q. h (e ∙ q)) in low-none (search nots)
 
-  pub low-second : (a : ℕ) → a ≡ getD (drop at s) 1 0 → (a ≡ 117 → ⊥) → 0 ≡ lowHalf (drop at s)
-  low-second a e h = let z : eqb (getD (drop at s) 1 0) 117 ≡ false = ne-eqb _ _ (λ q. h (e ∙ q)) in low-none (search nots)
+  pub low-second : (a : ℕ) → a ≡ getD (drop at s) 1 0 → (a ≡ code "u" → ⊥) → 0 ≡ lowHalf (drop at s)
+  low-second a e h = let z : eqb (getD (drop at s) 1 0) (code "u") ≡ false = ne-eqb _ _ (λ q. h (e ∙ q)) in low-none (search nots)
 
   module _ (n v : ℕ) (en : n ≡ hexRun 4 (drop (at + 2) s)) (ev : v ≡ hexNumber 4 (drop (at + 2) s)) where
     behind : drop 2 (drop at s) ≡ drop (at + 2) s
@@ -92,7 +94,7 @@ module _ (s : List ℕ) (at : ℕ) where
     pub low-over : 0xdfff < v → 0 ≡ lowHalf (drop at s)
     low-over h = let z : leb (hexNumber 4 (drop 2 (drop at s))) 0xdfff ≡ false = rw (behind, ← ev) (lt-leb _ _ h) in low-none (search nots)
 
-    pub low-yes : (a b : ℕ) → a ≡ getD (drop at s) 0 0 → a ≡ 92 → b ≡ getD (drop at s) 1 0 → b ≡ 117 → n ≡ 4 → 0xdc00 ≤ v → v ≤ 0xdfff → v ≡ lowHalf (drop at s)
+    pub low-yes : (a b : ℕ) → a ≡ getD (drop at s) 0 0 → a ≡ backslash → b ≡ getD (drop at s) 1 0 → b ≡ code "u" → n ≡ 4 → 0xdc00 ≤ v → v ≤ 0xdfff → v ≡ lowHalf (drop at s)
     unfolding lowHalf
     low-yes a b ea ha eb hb hn l h =
         rw behind
@@ -121,8 +123,8 @@ module _ (s : List ℕ) (at : ℕ) where
     brace-none : fault badEscape ≡ braced (drop at s)
     brace-none = sym (braced-law (drop at s) ∙ rw (drop-drop 1 at s) (pick-false _ _ _ no))
 
-  pub brace-first : (a : ℕ) → a ≡ getD (drop at s) 0 0 → (a ≡ 123 → ⊥) → fault badEscape ≡ braced (drop at s)
-  brace-first a e h = let z : eqb (getD (drop at s) 0 0) 123 ≡ false = ne-eqb _ _ (λ q. h (e ∙ q)) in brace-none (search nots)
+  pub brace-first : (a : ℕ) → a ≡ getD (drop at s) 0 0 → (a ≡ code "{" → ⊥) → fault badEscape ≡ braced (drop at s)
+  brace-first a e h = let z : eqb (getD (drop at s) 0 0) (code "{") ≡ false = ne-eqb _ _ (λ q. h (e ∙ q)) in brace-none (search nots)
 
   module _ (n : ℕ) (en : n ≡ hexRun 7 (drop (at + 1) s)) where
     pub brace-under : n < 1 → fault badEscape ≡ braced (drop at s)
@@ -132,10 +134,10 @@ module _ (s : List ℕ) (at : ℕ) where
     brace-over h = let z : leb (hexRun 7 (drop (at + 1) s)) 6 ≡ false = rw (← en) (lt-leb _ _ h) in brace-none (search nots)
 
     module _ (b : ℕ) (eb : b ≡ getD (drop (at + 1) s) n 0) where
-      pub brace-last : (b ≡ 125 → ⊥) → fault badEscape ≡ braced (drop at s)
-      brace-last h = let z : eqb (getD (drop (at + 1) s) (hexRun 7 (drop (at + 1) s)) 0) 125 ≡ false = rw (← en) (ne-eqb _ _ (λ q. h (eb ∙ q))) in brace-none (search nots)
+      pub brace-last : (b ≡ code "}" → ⊥) → fault badEscape ≡ braced (drop at s)
+      brace-last h = let z : eqb (getD (drop (at + 1) s) (hexRun 7 (drop (at + 1) s)) 0) (code "}") ≡ false = rw (← en) (ne-eqb _ _ (λ q. h (eb ∙ q))) in brace-none (search nots)
 
-      pub brace-yes : (u : StringUnit) (a v : ℕ) → a ≡ getD (drop at s) 0 0 → a ≡ 123 → 1 ≤ n → n ≤ 6 → b ≡ 125 → v ≡ hexNumber 7 (drop (at + 1) s) → u ≡ scalar (4 + n) v → u ≡ braced (drop at s)
+      pub brace-yes : (u : StringUnit) (a v : ℕ) → a ≡ getD (drop at s) 0 0 → a ≡ code "{" → 1 ≤ n → n ≤ 6 → b ≡ code "}" → v ≡ hexNumber 7 (drop (at + 1) s) → u ≡ scalar (4 + n) v → u ≡ braced (drop at s)
       brace-yes u a v ea ha l h hb ev e =
           e ∙ sym (braced-law (drop at s) ∙ rw (drop-drop 1 at s)
           (rw (← ev, ← en, ← ea, ← eb)
@@ -143,22 +145,22 @@ module _ (s : List ℕ) (at : ℕ) where
 
   -- an escape by its first byte
   module _ (a : ℕ) (ea : a ≡ getD (drop at s) 0 0) where
-    pub first-inside : a ≡ 117 → at + 1 ≤ length s
+    pub first-inside : a ≡ code "u" → at + 1 ≤ length s
     first-inside h =
         omega (arith, getD-inside (drop at s) 0 (λ z. let f : ⊥ = omega arith in f), length-drop at s)
 
     module _ (st : Style) (u : StringUnit) where
-      from-first : u ≡ pick (eqb a 117) (codePoint st (drop (at + 1) s)) (pick (eqb a 121) (rawByte st (drop (at + 1) s)) (short (lookup a (lettersOf st)))) → u ≡ escape st (drop at s)
+      from-first : u ≡ pick (eqb a (code "u")) (codePoint st (drop (at + 1) s)) (pick (eqb a (code "y")) (rawByte st (drop (at + 1) s)) (letterEscape (lookup a (lettersOf st)))) → u ≡ escape st (drop at s)
       from-first e = sym (escape-law st (drop at s) ∙ rw (drop-drop 1 at s, ← ea) (sym e))
 
-      pub escape-u : a ≡ 117 → u ≡ codePoint st (drop (at + 1) s) → u ≡ escape st (drop at s)
+      pub escape-u : a ≡ code "u" → u ≡ codePoint st (drop (at + 1) s) → u ≡ escape st (drop at s)
       escape-u h e = from-first (e ∙ sym (pick-true _ _ _ (eq-eqb _ _ h)))
 
-      pub escape-y : a ≡ 121 → u ≡ rawByte st (drop (at + 1) s) → u ≡ escape st (drop at s)
+      pub escape-y : a ≡ code "y" → u ≡ rawByte st (drop (at + 1) s) → u ≡ escape st (drop at s)
       escape-y h e =
           from-first
-          (e ∙ sym (pick-false _ _ _ (ne-eqb a 117 (λ q. let f : ⊥ = omega arith in f)) ∙ pick-true _ _ _ (eq-eqb _ _ h)))
+          (e ∙ sym (pick-false _ _ _ (ne-eqb a (code "u") (λ q. let f : ⊥ = omega arith in f)) ∙ pick-true _ _ _ (eq-eqb _ _ h)))
 
-      pub escape-letter : (b : ℕ) → (a ≡ 117 → ⊥) → (a ≡ 121 → ⊥) → b ≡ lookup a (lettersOf st) → u ≡ short b → u ≡ escape st (drop at s)
+      pub escape-letter : (b : ℕ) → (a ≡ code "u" → ⊥) → (a ≡ code "y" → ⊥) → b ≡ lookup a (lettersOf st) → u ≡ letterEscape b → u ≡ escape st (drop at s)
       escape-letter b h k eb e =
           from-first (e ∙ rw eb (sym (pick-false _ _ _ (ne-eqb _ _ h) ∙ pick-false _ _ _ (ne-eqb _ _ k))))

@@ -10,6 +10,7 @@ use lib.Dec.{ltb, leb, eqb}
 use lib.ListN.{length, getD, drop}
 use lib.Seq.{drop-cons, getD-drop}
 use borrow.Author.Tests.{lt-ltb, le-ltb, eq-eqb, ne-eqb}
+use Rattle.prelude.specs.Bytes.{doubleQuote, singleQuote, backslash}
 use Rattle.prelude.specs.Pick.{pick}
 use Rattle.prelude.proofs.Cases.{split}
 use Rattle.prelude.proofs.Tables.{allBelow}
@@ -26,7 +27,7 @@ abbrev byClass : ℕ → ℕ → ℕ
 byClass bare k = pick (eqb k 0) 1 (pick (ltb k 6) (pick (eqb k bare) 1 0) 2)
 
 abbrev byByte : Style → ℕ → ℕ → ℕ
-byByte st x k = pick (eqb x (quote st)) 0 (pick (eqb x 92) 0 (pick (ltb x 32) 0 (pick (ltb k 5) 1 (pick (ltb k 6) 0 2))))
+byByte st x k = pick (eqb x (quote st)) 0 (pick (eqb x backslash) 0 (pick (ltb x 32) 0 (pick (ltb k 5) 1 (pick (ltb k 6) 0 2))))
 
 agrees : (st : Style) → allBelow (λ b. eqb (byClass (bareClass st) (classOf b)) (byByte st b (classOf b))) 0xf5 ≡ true
 unfolding classOf pick
@@ -35,15 +36,15 @@ agrees Unicode = refl
 agrees Bytes = refl
 
 no-quote : (st : Style) (x : ℕ) → 0xf5 ≤ x → eqb x (quote st) ≡ false
-no-quote Json x h = ne-eqb x 34 (λ z. omega arith)
-no-quote Unicode x h = ne-eqb x 39 (λ z. omega arith)
-no-quote Bytes x h = ne-eqb x 39 (λ z. omega arith)
+no-quote Json x h = ne-eqb x doubleQuote (λ z. omega arith)
+no-quote Unicode x h = ne-eqb x singleQuote (λ z. omega arith)
+no-quote Bytes x h = ne-eqb x singleQuote (λ z. omega arith)
 
 byte-agrees : (st : Style) (x : ℕ) → byClass (bareClass st) (classOf x) ≡ byByte st x (classOf x)
 unfolding pick
 byte-agrees st =
     by-byte (byClass (bareClass st)) (λ x. byByte st x (classOf x)) (agrees st)
-    (λ x h. rw (class-last x h, no-quote st x h, ne-eqb x 92 (λ z. omega arith), le-ltb x 32 (omega arith)))
+    (λ x h. rw (class-last x h, no-quote st x h, ne-eqb x backslash (λ z. omega arith), le-ltb x 32 (omega arith)))
 
 -- as many as a lead announces are m
 abbrev with : ℕ → ℕ → ℕ
@@ -58,11 +59,11 @@ with-class bare k m =
     (λ e. split (ltb k 6) (λ d. split (eqb k bare) (λ c. simp (e, d, c)) (λ c. simp (e, d, c))) (λ d. simp (e, d)))
 
 with-byte : (st : Style) (x k m : ℕ)
-    → pick (eqb x (quote st)) 0 (pick (eqb x 92) 0 (pick (ltb x 32) 0 (pick (ltb k 5) 1 (pick (ltb k 6) 0 m)))) ≡ with (byByte st x k) m
+    → pick (eqb x (quote st)) 0 (pick (eqb x backslash) 0 (pick (ltb x 32) 0 (pick (ltb k 5) 1 (pick (ltb k 6) 0 m)))) ≡ with (byByte st x k) m
 unfolding pick
 with-byte st x k m =
     split (eqb x (quote st)) (λ e. simp e)
-    (λ e. split (eqb x 92) (λ d. simp (e, d))
+    (λ e. split (eqb x backslash) (λ d. simp (e, d))
     (λ d. split (ltb x 32) (λ c. simp (e, d, c))
     (λ c. split (ltb k 5) (λ b. simp (e, d, c, b))
     (λ b. split (ltb k 6) (λ a. simp (e, d, c, b, a)) (λ a. simp (e, d, c, b, a))))))

@@ -10,6 +10,7 @@ use lib.Dec.{ltb, eqb, lit<, lit≤}
 use lib.ListN.{length, getD, take, drop, length-drop, drop-of-length-le}
 use lib.Seq.{drop-drop, take-add, length-take-le}
 use borrow.Author.Tests.{ltb-false, ne-eqb}
+use Rattle.prelude.specs.Bytes.{backslash}
 use Rattle.prelude.specs.Pick.{pick}
 use Rattle.prelude.proofs.Cases.{split}
 use Rattle.prelude.proofs.Suffix.{by-suffix}
@@ -17,9 +18,10 @@ use Rattle.utf8.specs.Utf8.{charLen, validFrom}
 use Rattle.utf8.proofs.Characters.{char-le, char-length, char-take, valid-char, valid-step}
 use Rattle.units.specs.declared.styles.Style.{Style}
 use Rattle.units.specs.declared.styles.Style.the-variants.{Json, Unicode, Bytes}
-use Rattle.units.specs.Styles.{quote, took}
+use Rattle.units.specs.declared.styles.Form.{Form}
+use Rattle.units.specs.Styles.{quote, took, styleOf}
 use Rattle.units.specs.Escapes.{lookup}
-use Rattle.units.specs.Units.{unitAt, literalLen, literalRun, onward}
+use Rattle.units.specs.Units.{unitAt, literalLen, literalRun, orStop}
 use Rattle.units.specs.Written.{escaped, written}
 
 pub quote-ascii : (st : Style) → (32 ≤ quote st) × (quote st < 128)
@@ -30,7 +32,7 @@ quote-ascii Bytes = (lit≤ tt, lit< tt)
 -- the first byte of a literal character
 record Literal (st : Style) (x : ℕ) (r : List ℕ) (n : ℕ) : Type 0 where
   no-quote : eqb x (quote st) ≡ false
-  no-slash : eqb x 92 ≡ false
+  no-slash : eqb x backslash ≡ false
   no-control : ltb x 32 ≡ false
   size : charLen (x ∷ r) ≡ suc n
 
@@ -38,7 +40,7 @@ literal-is : (st : Style) (x : ℕ) (r : List ℕ) (n : ℕ) → literalLen st (
 unfolding literalLen pick
 literal-is st x r n e =
     split (eqb x (quote st)) (λ a. absurd (omega (arith, rw a at e)))
-    (λ a. split (eqb x 92) (λ b. absurd (omega (arith, simp (a, b) at e)))
+    (λ a. split (eqb x backslash) (λ b. absurd (omega (arith, simp (a, b) at e)))
     (λ b. split (ltb x 32) (λ c. absurd (omega (arith, simp (a, b, c) at e)))
     (λ c. record { no-quote = a; no-slash = b; no-control = c; size = simp (a, b, c) at e })))
 
@@ -61,17 +63,17 @@ literal-unit st [] n e = absurd (omega (arith, literal-nil st))
 literal-unit st (x ∷ r) n e = let l = literal-is st x r n e in simp (l .no-quote, l .no-slash, l .no-control, l .size)
 
 -- as it is written
-no-escape : (st : Style) (x : ℕ) → eqb x (quote st) ≡ false → eqb x 92 ≡ false → ltb x 32 ≡ false → lookup x (escaped st) ≡ 0
+no-escape : (form : Form) (x : ℕ) → eqb x (quote (styleOf form)) ≡ false → eqb x backslash ≡ false → ltb x 32 ≡ false → lookup x (escaped form) ≡ 0
 unfolding lookup pick
-no-escape st x q b c =
+no-escape form x q b c =
     let h : 32 ≤ x = ltb-false x 32 c in
     simp (q, b, ne-eqb x 8 (λ z. omega arith), ne-eqb x 12 (λ z. omega arith), ne-eqb x 10 (λ z. omega arith), ne-eqb x 13 (λ z. omega arith), ne-eqb x 9 (λ z. omega arith))
 
-pub literal-written : (st : Style) (x : ℕ) (r : List ℕ) (n : ℕ) → literalLen st (x ∷ r) ≡ suc n → written st (charLen (x ∷ r)) x r ≡ x ∷ take n r
+pub literal-written : (form : Form) (x : ℕ) (r : List ℕ) (n : ℕ) → literalLen (styleOf form) (x ∷ r) ≡ suc n → written form (charLen (x ∷ r)) x r ≡ x ∷ take n r
 unfolding written pick
-literal-written st x r n e =
-    let l = literal-is st x r n e in
-    simp (l .size, no-escape st x (l .no-quote) (l .no-slash) (l .no-control), l .no-control)
+literal-written form x r n e =
+    let l = literal-is (styleOf form) x r n e in
+    simp (l .size, no-escape form x (l .no-quote) (l .no-slash) (l .no-control), l .no-control)
 
 -- what holds of no bytes where no literal character stands, and of a literal character and a run behind it, holds of every run
 pub run-skip : (st : Style) (k : ℕ) (s : List ℕ) → k ≤ length s → literalRun st k s ≡ k + literalRun st 0 (drop k s)
@@ -86,7 +88,7 @@ module _ (st : Style) (P : List ℕ → ℕ → Type 0) (stop : (s : List ℕ) �
   unfolding literalRun
   one x r ih = go (literalLen st (x ∷ r)) refl
     where
-      go : (n : ℕ) → literalLen st (x ∷ r) ≡ n → P (x ∷ r) (onward n (λ m. literalRun st m r))
+      go : (n : ℕ) → literalLen st (x ∷ r) ≡ n → P (x ∷ r) (orStop n (λ m. literalRun st m r))
       go zero e = stop (x ∷ r) e
       go (suc n) e =
           let f : suc n ≤ suc (length r) = rw (literal-char st (x ∷ r) n e) at (char-le (x ∷ r)) in

@@ -1,19 +1,21 @@
 -- Each unit of `u''` denotes one character: a literal one is one, an escape the pattern of a scalar value or an ASCII byte.
 -- Assumes nothing.
 use Prim.Native.Nat.{ℕ, zero, suc, _<_, suc-le-suc}
+use Prim.Native.Char.{code}
 use mathlib.Core.List.{List, [], _∷_, append-nil}
 use mathlib.Core.Path.{_≡_, refl}
 use native.Mathlib.Omega.{arith}
 use lib.Dec.{ltb, eqb, lit<}
 use lib.Seq.{length-take-le}
 use borrow.Author.Tests.{ltb-false, le-leb}
+use Rattle.prelude.specs.Bytes.{singleQuote, backslash}
 use Rattle.prelude.proofs.Picks.{pick-case}
 use Rattle.utf8.specs.Utf8.{between, charLen, charBy}
 use Rattle.utf8.proofs.Characters.{char-length, char-take, ascii-len}
 use Rattle.utf8.proofs.Encoded.{OneChar, encode-char}
 use Rattle.units.specs.declared.styles.Style.the-variants.{Unicode}
 use Rattle.units.specs.Styles.{StringUnit, close, took, fault}
-use Rattle.units.specs.Escapes.{lookup, lettersOf, scalar, isBraced, braced, rawByte, short, escape}
+use Rattle.units.specs.Escapes.{lookup, lettersOf, scalar, isBraced, braced, rawByte, letterEscape, escape}
 use Rattle.units.specs.Units.{literal, unitAt}
 use Rattle.units.proofs.WrittenBack.{lookup-each}
 
@@ -37,9 +39,9 @@ unfolding braced
 braced-whole [] = tt
 braced-whole (c ∷ r) = pick-case Whole (isBraced c r) _ _ (λ e. scalar-whole _ _) (λ e. tt)
 
-short-whole : (b : ℕ) → ((b ≡ 0 → ⊥) → b < 0x80) → Whole (short b)
-short-whole zero h = tt
-short-whole (suc b) h = ascii-len (suc b) [] (h (λ z. omega arith))
+letter-whole : (b : ℕ) → ((b ≡ 0 → ⊥) → b < 0x80) → Whole (letterEscape b)
+letter-whole zero h = tt
+letter-whole (suc b) h = ascii-len (suc b) [] (h (λ z. omega arith))
 
 letters-ascii : (c : ℕ) → (lookup c (lettersOf Unicode) ≡ 0 → ⊥) → lookup c (lettersOf Unicode) < 0x80
 letters-ascii =
@@ -50,8 +52,8 @@ escape-whole : (r : List ℕ) → Whole (escape Unicode r)
 unfolding escape rawByte
 escape-whole [] = tt
 escape-whole (c ∷ r) =
-    pick-case Whole (eqb c 117) _ _ (λ e. braced-whole r)
-    (λ e. pick-case Whole (eqb c 121) _ _ (λ d. tt) (λ d. short-whole (lookup c (lettersOf Unicode)) (letters-ascii c)))
+    pick-case Whole (eqb c (code "u")) _ _ (λ e. braced-whole r)
+    (λ e. pick-case Whole (eqb c (code "y")) _ _ (λ d. tt) (λ d. letter-whole (lookup c (lettersOf Unicode)) (letters-ascii c)))
 
 literal-whole : (x : ℕ) (r : List ℕ) (n : ℕ) → charLen (x ∷ r) ≡ n → Whole (literal (charBy n (x ∷ r)) (x ∷ r))
 literal-whole x r zero e = tt
@@ -61,6 +63,6 @@ pub unit-whole : (s : List ℕ) → Whole (unitAt Unicode s)
 unfolding unitAt
 unit-whole [] = tt
 unit-whole (x ∷ r) =
-    pick-case Whole (eqb x 39) _ _ (λ e. tt)
-    (λ e. pick-case Whole (eqb x 92) _ _ (λ d. escape-whole r)
+    pick-case Whole (eqb x singleQuote) _ _ (λ e. tt)
+    (λ e. pick-case Whole (eqb x backslash) _ _ (λ d. escape-whole r)
     (λ d. pick-case Whole (ltb x 32) _ _ (λ l. tt) (λ l. literal-whole x r (charLen (x ∷ r)) refl)))

@@ -1,6 +1,7 @@
 -- Units that denote one byte, by the few bytes that tell them: the tests on them decide each `pick` of the definition.
 -- Assumes nothing.
 use Prim.Native.Nat.{ℕ, zero, suc, _+_, _<_}
+use Prim.Native.Char.{code}
 use mathlib.Core.List.{List, [], _∷_}
 use mathlib.Core.Path.{_≡_, refl, sym, ap, _∙_}
 use native.Mathlib.Omega.{arith}
@@ -8,6 +9,7 @@ use native.Mathlib.Numerals.{add-one}
 use borrow.Author.Tests.{lt-ltb, eq-eqb, ne-eqb}
 use lib.ListN.{length, getD, take, drop}
 use lib.Seq.{drop-cons}
+use Rattle.prelude.specs.Bytes.{singleQuote, backslash}
 use Rattle.prelude.specs.Pick.{pick}
 use Rattle.prelude.proofs.Picks.{pick-true, pick-false}
 use Rattle.utf8.specs.Class.{classOf}
@@ -16,9 +18,9 @@ use Rattle.units.specs.declared.styles.Style.{Style}
 use Rattle.units.specs.declared.styles.Style.the-variants.{Json, Unicode, Bytes}
 use Rattle.units.specs.Styles.{quote, took}
 use Rattle.units.specs.Hex.{hexRun, hexNumber}
-use Rattle.units.specs.Escapes.{lookup, letters, lettersOf, lowHalf, codeUnit, fourDigits, rawByte, short, escape}
+use Rattle.units.specs.Escapes.{lookup, letters, lettersOf, lowHalf, codeUnit, fourDigits, rawByte, letterEscape, escape}
 use Rattle.units.specs.Units.{unitAt}
-use Rattle.units.proofs.EscapeLaws.{unit-below, short-some, raw-two}
+use Rattle.units.proofs.EscapeLaws.{unit-below, letter-some, raw-two}
 use Rattle.units.proofs.LiteralClasses.{plain-char}
 use Rattle.units.proofs.LiteralLaws.{literal-unit}
 use Rattle.units.proofs.UnitLaws.{unit-escape}
@@ -41,19 +43,19 @@ two-raw r n v en ev h = sym (raw-two (took 4 (v ∷ [])) r n v en ev h refl)
 -- behind a backslash and the byte a
 module _ (st : Style) (a : ℕ) (r : List ℕ) where
   module _ (n b : ℕ) where
-    pub by-number : st ≡ Json → a ≡ 117 → (0 < n → fourDigits r ≡ took n (b ∷ [])) → 0 < n → escape st (a ∷ r) ≡ took n (b ∷ [])
+    pub by-number : st ≡ Json → a ≡ code "u" → (0 < n → fourDigits r ≡ took n (b ∷ [])) → 0 < n → escape st (a ∷ r) ≡ took n (b ∷ [])
     unfolding escape pick
     by-number e h f l = rw (e, h) (f l)
 
-    pub by-byte : st ≡ Bytes → a ≡ 121 → (0 < n → rawByte Bytes r ≡ took n (b ∷ [])) → 0 < n → escape st (a ∷ r) ≡ took n (b ∷ [])
+    pub by-byte : st ≡ Bytes → a ≡ code "y" → (0 < n → rawByte Bytes r ≡ took n (b ∷ [])) → 0 < n → escape st (a ∷ r) ≡ took n (b ∷ [])
     unfolding escape pick
     by-byte e h f l = rw (e, h) (f l)
 
-  pub unicode-quote : st ≡ Unicode → a ≡ 39 → escape st (a ∷ r) ≡ took 2 (39 ∷ [])
+  pub unicode-quote : st ≡ Unicode → a ≡ singleQuote → escape st (a ∷ r) ≡ took 2 (singleQuote ∷ [])
   unfolding escape lookup pick
   unicode-quote e h = rw (e, h) refl
 
-  pub bytes-quote : st ≡ Bytes → a ≡ 39 → escape st (a ∷ r) ≡ took 2 (39 ∷ [])
+  pub bytes-quote : st ≡ Bytes → a ≡ singleQuote → escape st (a ∷ r) ≡ took 2 (singleQuote ∷ [])
   unfolding escape lookup pick
   bytes-quote e h = rw (e, h) refl
 
@@ -64,14 +66,14 @@ no-letter k z a b e h q = h (e ∙ ap (λ (x : ℕ). lookup x letters) q ∙ z)
 letter-of : (st : Style) (a b : ℕ) → b ≡ lookup a letters → (b ≡ 0 → ⊥) → b ≡ lookup a (lettersOf st)
 unfolding lookup pick
 letter-of Json a b e h = e
-letter-of Unicode a b e h = e ∙ sym (pick-false _ _ _ (ne-eqb a 39 (no-letter 39 refl a b e h)))
-letter-of Bytes a b e h = e ∙ sym (pick-false _ _ _ (ne-eqb a 39 (no-letter 39 refl a b e h)))
+letter-of Unicode a b e h = e ∙ sym (pick-false _ _ _ (ne-eqb a singleQuote (no-letter singleQuote refl a b e h)))
+letter-of Bytes a b e h = e ∙ sym (pick-false _ _ _ (ne-eqb a singleQuote (no-letter singleQuote refl a b e h)))
 
 letter-escape : (st : Style) (a b : ℕ) (r : List ℕ) → b ≡ lookup a letters → (b ≡ 0 → ⊥) → escape st (a ∷ r) ≡ took 2 (b ∷ [])
 unfolding escape lookup pick
 letter-escape st a b r e h =
-    pick-false _ _ _ (ne-eqb a 117 (no-letter 117 refl a b e h)) ∙ pick-false _ _ _ (ne-eqb a 121 (no-letter 121 refl a b e h))
-    ∙ rw (← letter-of st a b e h) (sym (short-some (took 2 (b ∷ [])) b refl h))
+    pick-false _ _ _ (ne-eqb a (code "u") (no-letter (code "u") refl a b e h)) ∙ pick-false _ _ _ (ne-eqb a (code "y") (no-letter (code "y") refl a b e h))
+    ∙ rw (← letter-of st a b e h) (sym (letter-some (took 2 (b ∷ [])) b refl h))
 
 -- the same at a place of a text
 module _ (st : Style) (s : List ℕ) (at : ℕ) (h : at < length s) where
@@ -86,10 +88,10 @@ module _ (st : Style) (s : List ℕ) (at : ℕ) (h : at < length s) where
   plain-unit k e z =
       literal-unit st (drop at s) 0 (sym (plain-char st s at k h e z)) ∙ rw (drop-cons s at 0 h) refl
 
-  no-slash : (u : Style) → quote u ≡ 92 → ⊥
+  no-slash : (u : Style) → quote u ≡ backslash → ⊥
   no-slash Json e = omega arith
   no-slash Unicode e = omega arith
   no-slash Bytes e = omega arith
 
-  pub slash-unit : getD s at 0 ≡ 92 → unitAt st (drop at s) ≡ escape st (drop (at + 1) s)
+  pub slash-unit : getD s at 0 ≡ backslash → unitAt st (drop at s) ≡ escape st (drop (at + 1) s)
   slash-unit e = sym (unit-escape st s at h (quote st) refl (escape st (drop (at + 1) s)) (λ q. no-slash st (sym q ∙ e)) e refl)

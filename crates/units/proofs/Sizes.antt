@@ -2,6 +2,7 @@
 -- takes, and a literal character to fit and to denote itself.
 -- Assumes nothing.
 use Prim.Native.Nat.{ℕ, zero, suc, _+_, _-_, _*_, _≤_, _<_, zero-le, suc-le-suc}
+use Prim.Native.Char.{code}
 use mathlib.Core.Bool.{true, false, _&&_}
 use mathlib.Core.List.{List, [], _∷_}
 use mathlib.Core.Path.{_≡_, refl}
@@ -10,6 +11,7 @@ use lib.Dec.{ltb, eqb, lit<}
 use lib.ListN.{length, take, drop, getD, length-drop}
 use lib.Seq.{length-take-le}
 use borrow.Author.Tests.{eqb-true, ltb-true, leb-true}
+use Rattle.prelude.specs.Bytes.{backslash}
 use Rattle.prelude.specs.Pick.{pick}
 use Rattle.prelude.specs.Refusals.{cutOff}
 use Rattle.prelude.proofs.Cases.{split, and-left, and-right}
@@ -22,7 +24,7 @@ use Rattle.units.specs.declared.styles.Style.{Style}
 use Rattle.units.specs.declared.styles.Style.the-variants.{Json, Unicode, Bytes}
 use Rattle.units.specs.Styles.{quote, StringUnit, close, took, fault}
 use Rattle.units.specs.Hex.{hexVal, hexDigits, hexRun}
-use Rattle.units.specs.Escapes.{lookup, lettersOf, high, isLow, lowHalf, codeUnit, fourDigits, scalar, isBraced, braced, codePoint, rawByte, short, escape}
+use Rattle.units.specs.Escapes.{lookup, lettersOf, high, isLow, lowHalf, codeUnit, fourDigits, scalar, isBraced, braced, codePoint, rawByte, letterEscape, escape}
 use Rattle.units.specs.Units.{literal, unitAt}
 
 -- an escape with m bytes from its backslash on: it fits, and denotes fewer bytes than it takes; or no refusal for a text's end
@@ -41,7 +43,7 @@ low-length : (r : List ℕ) → 0 < lowHalf r → 6 ≤ length r
 unfolding lowHalf pick
 low-length r h =
     split (isLow r)
-    (λ e. let n : hexRun 4 (drop 2 r) ≡ 4 = eqb-true _ 4 (and-right (eqb (getD r 0 0) 92 && eqb (getD r 1 0) 117) _ (and-left _ _ e)) in
+    (λ e. let n : hexRun 4 (drop 2 r) ≡ 4 = eqb-true _ 4 (and-right (eqb (getD r 0 0) backslash && eqb (getD r 1 0) (code "u")) _ (and-left _ _ e)) in
     omega (arith, run-le 4 (drop 2 r), length-drop 2 r))
     (λ e. omega (arith, rw e at h))
 
@@ -71,9 +73,9 @@ unfolding braced
 braced-sized [] = lit< tt
 braced-sized (c ∷ r) =
     pick-case (Sized (suc (suc (suc (length r))))) (isBraced c r) _ _
-    (λ e. let b : between 1 6 (hexRun 7 r) ≡ true = and-right (eqb c 123) _ (and-left _ (eqb (getD r (hexRun 7 r) 0) 125) e) in
+    (λ e. let b : between 1 6 (hexRun 7 r) ≡ true = and-right (eqb c (code "{")) _ (and-left _ (eqb (getD r (hexRun 7 r) 0) (code "}")) e) in
     let l : 1 ≤ hexRun 7 r = leb-true 1 _ (and-left _ _ b) in
-    let q : getD r (hexRun 7 r) 0 ≡ 125 = eqb-true _ 125 (and-right (eqb c 123 && between 1 6 (hexRun 7 r)) _ e) in
+    let q : getD r (hexRun 7 r) 0 ≡ code "}" = eqb-true _ (code "}") (and-right (eqb c (code "{") && between 1 6 (hexRun 7 r)) _ e) in
     let i : hexRun 7 r < length r = getD-inside r (hexRun 7 r) (λ z. omega arith) in
     scalar-sized _ _ _ (omega arith) (omega arith))
     (λ e. lit< tt)
@@ -92,16 +94,16 @@ raw-sized Bytes r =
     (λ e. let n : hexRun 2 r ≡ 2 = eqb-true _ 2 e in (lit< tt, omega (arith, run-le 2 r)))
     (λ e. lit< tt)
 
-short-sized : (m b : ℕ) → Sized (suc (suc m)) (short b)
-short-sized m zero = lit< tt
-short-sized m (suc b) = (lit< tt, omega arith)
+letter-sized : (m b : ℕ) → Sized (suc (suc m)) (letterEscape b)
+letter-sized m zero = lit< tt
+letter-sized m (suc b) = (lit< tt, omega arith)
 
 pub escape-sized : (st : Style) (r : List ℕ) → Sized (suc (length r)) (escape st r)
 unfolding escape
 escape-sized st [] = lit< tt
 escape-sized st (c ∷ r) =
-    pick-case (Sized (suc (suc (length r)))) (eqb c 117) _ _ (λ e. point-sized st r)
-    (λ e. pick-case (Sized (suc (suc (length r)))) (eqb c 121) _ _ (λ d. raw-sized st r) (λ d. short-sized (length r) (lookup c (lettersOf st))))
+    pick-case (Sized (suc (suc (length r)))) (eqb c (code "u")) _ _ (λ e. point-sized st r)
+    (λ e. pick-case (Sized (suc (suc (length r)))) (eqb c (code "y")) _ _ (λ d. raw-sized st r) (λ d. letter-sized (length r) (lookup c (lettersOf st))))
 
 -- what stands first in s, where no closing quote does: a unit that fits and denotes itself or fewer bytes; or no refusal for a text's end
 abbrev pub Fits : List ℕ → StringUnit → Type 0
@@ -122,7 +124,7 @@ pub unit-fits : (st : Style) (x : ℕ) (r : List ℕ) → eqb x (quote st) ≡ f
 unfolding unitAt pick
 unit-fits st x r e =
     rw e
-    (pick-case (Fits (x ∷ r)) (eqb x 92) _ _ (λ d. escape-fits (x ∷ r) (escape st r) (escape-sized st r))
+    (pick-case (Fits (x ∷ r)) (eqb x backslash) _ _ (λ d. escape-fits (x ∷ r) (escape st r) (escape-sized st r))
     (λ d. pick-case (Fits (x ∷ r)) (ltb x 32) _ _ (λ l. lit< tt) (λ l. literal-fits (charLen (x ∷ r)) (x ∷ r) (char-le (x ∷ r)))))
 
 no-unit : (st : Style) (x : ℕ) (r : List ℕ) → eqb x (quote st) ≡ true → unitAt st (x ∷ r) ≡ close

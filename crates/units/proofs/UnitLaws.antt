@@ -10,6 +10,7 @@ use borrow.Author.Tests.{lt-ltb, le-ltb, eq-eqb, ne-eqb}
 use lib.Dec.{ltb, eqb}
 use lib.ListN.{length, getD, take, drop, drop-of-length-le}
 use lib.Seq.{drop-cons}
+use Rattle.prelude.specs.Bytes.{backslash}
 use Rattle.prelude.specs.Pick.{pick}
 use Rattle.prelude.specs.Refusals.{cutOff, control}
 use Rattle.prelude.proofs.Picks.{pick-true, pick-false}
@@ -56,7 +57,7 @@ front (suc k) (suc n) i r h l =
 pub few-front : (r : List ℕ) (n a b c d : ℕ) → a ≡ getD r 0 0 → b ≡ getD r 1 0 → c ≡ getD r 2 0 → d ≡ getD r 3 0 → n ≤ 4 → n ≤ length r → take n (a ∷ b ∷ c ∷ d ∷ []) ≡ take n r
 few-front r n a b c d ea eb ec ed h l = rw (ea, eb, ec, ed) (front 4 n 0 r h (omega arith))
 
-unit-law : (st : Style) (l : List ℕ) (x : ℕ) (r : List ℕ) → l ≡ x ∷ r → unitAt st l ≡ pick (eqb x (quote st)) close (pick (eqb x 92) (escape st r) (pick (ltb x 32) (fault control) (literal (charAt l) l)))
+unit-law : (st : Style) (l : List ℕ) (x : ℕ) (r : List ℕ) → l ≡ x ∷ r → unitAt st l ≡ pick (eqb x (quote st)) close (pick (eqb x backslash) (escape st r) (pick (ltb x 32) (fault control) (literal (charAt l) l)))
 unfolding unitAt
 unit-law st l x r e = rw e refl
 
@@ -69,17 +70,17 @@ module _ (st : Style) (s : List ℕ) (at : ℕ) where
     abbrev x : ℕ
     x = getD s at 0
 
-    law : unitAt st (drop at s) ≡ pick (eqb x q) close (pick (eqb x 92) (escape st (drop (at + 1) s)) (pick (ltb x 32) (fault control) (literal (charAt (drop at s)) (drop at s))))
+    law : unitAt st (drop at s) ≡ pick (eqb x q) close (pick (eqb x backslash) (escape st (drop (at + 1) s)) (pick (ltb x 32) (fault control) (literal (charAt (drop at s)) (drop at s))))
     law = unit-law st (drop at s) x (drop (suc at) s) (drop-cons s at 0 h) ∙ rw (add-one at, eq) refl
 
     pub unit-close : x ≡ q → close ≡ unitAt st (drop at s)
     unit-close e = sym (law ∙ pick-true _ _ _ (eq-eqb _ _ e))
 
     module _ (u : StringUnit) (nq : x ≡ q → ⊥) where
-      pub unit-escape : x ≡ 92 → u ≡ escape st (drop (at + 1) s) → u ≡ unitAt st (drop at s)
+      pub unit-escape : x ≡ backslash → u ≡ escape st (drop (at + 1) s) → u ≡ unitAt st (drop at s)
       unit-escape e i = i ∙ sym (law ∙ pick-false _ _ _ (ne-eqb _ _ nq) ∙ pick-true _ _ _ (eq-eqb _ _ e))
 
-      module _ (nb : x ≡ 92 → ⊥) where
+      module _ (nb : x ≡ backslash → ⊥) where
         pub unit-control : x < 32 → u ≡ fault control → u ≡ unitAt st (drop at s)
         unit-control e i =
             i ∙ sym (law ∙ pick-false _ _ _ (ne-eqb _ _ nq) ∙ pick-false _ _ _ (ne-eqb _ _ nb) ∙ pick-true _ _ _ (lt-ltb _ _ e))

@@ -1,6 +1,7 @@
 -- One unit written is one unit read, whatever follows it: hex digits read back by a table of sixteen, letters by a table of pairs,
 -- and a character as it is.
 -- Assumes nothing.
+use Prim.Native.Char.{code}
 use Prim.Native.Nat.{ℕ, zero, suc, pred, _+_, _*_, _/_, _%_, _<_}
 use mathlib.Core.Bool.{true, false}
 use mathlib.Core.List.{List, [], _∷_, _++_}
@@ -10,16 +11,17 @@ use lib.Dec.{ltb, eqb, lit<}
 use lib.ListN.{length, take}
 use lib.Seq.{take-at, length-take-le}
 use borrow.Author.Tests.{eqb-true, eqb-false, lt-ltb, lt-leb, ltb-true, le-ltb}
+use Rattle.prelude.specs.Bytes.{backslash}
 use Rattle.prelude.specs.Pick.{pick}
 use Rattle.prelude.proofs.Cases.{split}
 use Rattle.prelude.proofs.Tables.{at-below}
 use Rattle.utf8.specs.Utf8.{charLen, encode, positive}
 use Rattle.utf8.proofs.Characters.{char-length, char-take, ascii-len}
-use Rattle.units.specs.declared.styles.Style.{Style}
-use Rattle.units.specs.declared.styles.Style.the-variants.{Json, Unicode, Bytes}
-use Rattle.units.specs.Styles.{quote, took}
+use Rattle.units.specs.declared.styles.Form.{Form}
+use Rattle.units.specs.declared.styles.Form.the-variants.{AsJson, AsBytes}
+use Rattle.units.specs.Styles.{quote, took, styleOf}
 use Rattle.units.specs.Hex.{hexVal, hexDigits, hexFrom}
-use Rattle.units.specs.Escapes.{lookup, codeUnit, fourDigits, scalar, braced, rawByte, escape}
+use Rattle.units.specs.Escapes.{lookup, codeUnit, fourDigits, rawByte, escape}
 use Rattle.units.specs.Units.{unitAt}
 use Rattle.units.specs.Written.{hexDigit, byNumber, escaped, written}
 use Rattle.units.proofs.LiteralLaws.{quote-ascii}
@@ -28,27 +30,18 @@ pub digit-back : (d : ℕ) → d < 16 → hexVal (hexDigit d) ≡ d
 unfolding hexDigit hexVal pick
 digit-back d h = eqb-true (hexVal (hexDigit d)) d (at-below (λ (k : ℕ). eqb (hexVal (hexDigit k)) k) 16 refl d h)
 
-zero-digit : hexVal 48 ≡ 0
+zero-digit : hexVal (code "0") ≡ 0
 unfolding hexVal pick
 zero-digit = refl
-
-brace-digit : hexVal 125 ≡ 16
-unfolding hexVal pick
-brace-digit = refl
 
 code-small : (x w : ℕ) → x < 128 → codeUnit x w ≡ took 6 (x ∷ [])
 unfolding codeUnit encode pick
 code-small x w h = simp (lt-leb 0xd800 x (omega arith), lt-ltb x 0x80 h)
 
-scalar-small : (x n : ℕ) → x < 128 → scalar n x ≡ took n (x ∷ [])
-unfolding scalar encode pick
-scalar-small x n h = simp (lt-leb 0xd800 x (omega arith), le-ltb 0x10ffff x (omega arith), lt-ltb x 0x80 h)
-
--- the bytes that a style writes by their number
-abbrev pub Numbered : Style → ℕ → Type 0
-Numbered Json x = x < 128
-Numbered Unicode x = x < 128
-Numbered Bytes x = x < 256
+-- the bytes that a form writes by their number
+abbrev pub Numbered : Form → ℕ → Type 0
+Numbered AsJson x = x < 128
+Numbered AsBytes x = x < 256
 
 module _ (x : ℕ) (h : x < 256) where
   high-digit : hexVal (hexDigit (x / 16)) ≡ x / 16
@@ -66,15 +59,12 @@ module _ (x : ℕ) (h : x < 256) where
   two-digits : (0 + x / 16) * 16 + x % 16 ≡ x
   two-digits = omega arith
 
-pub number-back : (st : Style) (x : ℕ) (t : List ℕ) → Numbered st x → unitAt st (byNumber st x ++ t) ≡ took (length (byNumber st x)) (x ∷ [])
-unfolding unitAt escape fourDigits braced rawByte hexDigits hexFrom byNumber pick
-number-back Json x t n =
+pub number-back : (form : Form) (x : ℕ) (t : List ℕ) → Numbered form x → unitAt (styleOf form) (byNumber form x ++ t) ≡ took (length (byNumber form x)) (x ∷ [])
+unfolding unitAt escape fourDigits rawByte hexDigits hexFrom byNumber pick
+number-back AsJson x t n =
     let h : x < 256 = omega arith in
     simp (high-digit x h, low-digit x h, zero-digit, high-less x h, low-less x h) (simp (two-digits x h) (code-small x _ n))
-number-back Unicode x t n =
-    let h : x < 256 = omega arith in
-    simp (high-digit x h, low-digit x h, brace-digit, high-less x h, low-less x h) (simp (two-digits x h) (scalar-small x _ n))
-number-back Bytes x t n = simp (high-digit x n, low-digit x n, high-less x n, low-less x n) (ap (λ (v : ℕ). took 4 (v ∷ [])) (two-digits x n))
+number-back AsBytes x t n = simp (high-digit x n, low-digit x n, high-less x n, low-less x n) (ap (λ (v : ℕ). took 4 (v ∷ [])) (two-digits x n))
 
 -- what holds of each pair of a table holds of what is looked up in it
 abbrev pub Each : (ℕ → ℕ → Type 0) → List (ℕ × ℕ) → Type 0
@@ -89,57 +79,54 @@ lookup-each P (e ∷ t) h x ne =
     (λ q. rw (q, eqb-true x (e .0) q) (h .0))
     (λ q. rw q (lookup-each P t (h .1) x (rw q at ne)))
 
-pub letter-back : (st : Style) (t : List ℕ) (x : ℕ) → (lookup x (escaped st) ≡ 0 → ⊥) → unitAt st (92 ∷ lookup x (escaped st) ∷ t) ≡ took 2 (x ∷ [])
+pub letter-back : (form : Form) (t : List ℕ) (x : ℕ) → (lookup x (escaped form) ≡ 0 → ⊥) → unitAt (styleOf form) (backslash ∷ lookup x (escaped form) ∷ t) ≡ took 2 (x ∷ [])
 unfolding unitAt escape lookup pick
-letter-back st t = lookup-each (λ k v. unitAt st (92 ∷ v ∷ t) ≡ took 2 (k ∷ [])) (escaped st) (each st)
+letter-back form t = lookup-each (λ k v. unitAt (styleOf form) (backslash ∷ v ∷ t) ≡ took 2 (k ∷ [])) (escaped form) (each form)
   where
-    each : (st : Style) → Each (λ k v. unitAt st (92 ∷ v ∷ t) ≡ took 2 (k ∷ [])) (escaped st)
-    each Json = (refl, (refl, (refl, (refl, (refl, (refl, (refl, tt)))))))
-    each Unicode = (refl, (refl, (refl, (refl, (refl, (refl, (refl, tt)))))))
-    each Bytes = (refl, (refl, (refl, (refl, (refl, (refl, (refl, tt)))))))
+    each : (form : Form) → Each (λ k v. unitAt (styleOf form) (backslash ∷ v ∷ t) ≡ took 2 (k ∷ [])) (escaped form)
+    each AsJson = (refl, (refl, (refl, (refl, (refl, (refl, (refl, tt)))))))
+    each AsBytes = (refl, (refl, (refl, (refl, (refl, (refl, (refl, tt)))))))
 
-pub escaped-ascii : (st : Style) (x : ℕ) → (lookup x (escaped st) ≡ 0 → ⊥) → x < 128
-escaped-ascii st = lookup-each (λ k v. k < 128) (escaped st) (quote-ascii st .1, (lit< tt, (lit< tt, (lit< tt, (lit< tt, (lit< tt, (lit< tt, tt)))))))
+pub escaped-ascii : (form : Form) (x : ℕ) → (lookup x (escaped form) ≡ 0 → ⊥) → x < 128
+escaped-ascii form = lookup-each (λ k v. k < 128) (escaped form) (quote-ascii (styleOf form) .1, (lit< tt, (lit< tt, (lit< tt, (lit< tt, (lit< tt, (lit< tt, tt)))))))
 
 -- a byte without an escape is neither the quote nor a backslash
-pub unescaped : (st : Style) (x : ℕ) → lookup x (escaped st) ≡ 0 → (eqb x (quote st) ≡ false) × (eqb x 92 ≡ false)
+pub unescaped : (form : Form) (x : ℕ) → lookup x (escaped form) ≡ 0 → (eqb x (quote (styleOf form)) ≡ false) × (eqb x backslash ≡ false)
 unfolding lookup pick
-unescaped st x e =
-    split (eqb x (quote st)) (λ q. absurd (omega (arith, rw q at e, quote-ascii st .0)))
-    (λ q. (q, split (eqb x 92) (λ p. absurd (omega (arith, simp (q, p) at e))) (λ p. p)))
+unescaped form x e =
+    split (eqb x (quote (styleOf form))) (λ q. absurd (omega (arith, rw q at e, quote-ascii (styleOf form) .0)))
+    (λ q. (q, split (eqb x backslash) (λ p. absurd (omega (arith, simp (q, p) at e))) (λ p. p)))
 
 ascii-one : (x : ℕ) (r : List ℕ) (n : ℕ) → x < 128 → charLen (x ∷ r) ≡ suc n → n ≡ 0
 ascii-one x r n h e = omega (arith, ascii-len x r h)
 
-plain-back : (st : Style) (x : ℕ) (r t : List ℕ) (n : ℕ) → charLen (x ∷ r) ≡ suc n → lookup x (escaped st) ≡ 0 → ltb x 32 ≡ false
-    → unitAt st (x ∷ (take n r ++ t)) ≡ took (suc n) (x ∷ take n r)
+plain-back : (form : Form) (x : ℕ) (r t : List ℕ) (n : ℕ) → charLen (x ∷ r) ≡ suc n → lookup x (escaped form) ≡ 0 → ltb x 32 ≡ false
+    → unitAt (styleOf form) (x ∷ (take n r ++ t)) ≡ took (suc n) (x ∷ take n r)
 unfolding unitAt pick
-plain-back st x r t n c e l =
-    let (q, b) = unescaped st x e in
+plain-back form x r t n c e l =
+    let (q, b) = unescaped form x e in
     let h : length (take n r) ≡ n = length-take-le n r (char-length x r n c) in
     simp (q, b, l, char-take x r t n c, take-at (take n r) t n h)
 
--- the styles that write the character of n bytes, or a byte where n is 0
-abbrev pub Writes : Style → ℕ → Type 0
-Writes Json n = positive n ≡ true
-Writes Unicode n = positive n ≡ true
-Writes Bytes n = Unit
+-- the forms that write the character of n bytes, or a byte where n is 0
+abbrev pub Writes : Form → ℕ → Type 0
+Writes AsJson n = positive n ≡ true
+Writes AsBytes n = Unit
 
-numbered : (st : Style) (x n : ℕ) → Writes st n → x < 256 → (positive n ≡ true → x < 128) → Numbered st x
-numbered Json x n w h a = a w
-numbered Unicode x n w h a = a w
-numbered Bytes x n w h a = h
+numbered : (form : Form) (x n : ℕ) → Writes form n → x < 256 → (positive n ≡ true → x < 128) → Numbered form x
+numbered AsJson x n w h a = a w
+numbered AsBytes x n w h a = h
 
-pub unit-back : (st : Style) (x : ℕ) (r t : List ℕ) (n : ℕ) → Writes st n → x < 256 → charLen (x ∷ r) ≡ n
-    → unitAt st (written st n x r ++ t) ≡ took (length (written st n x r)) (x ∷ take (pred n) r)
+pub unit-back : (form : Form) (x : ℕ) (r t : List ℕ) (n : ℕ) → Writes form n → x < 256 → charLen (x ∷ r) ≡ n
+    → unitAt (styleOf form) (written form n x r ++ t) ≡ took (length (written form n x r)) (x ∷ take (pred n) r)
 unfolding written pick
-unit-back st x r t zero w h c = number-back st x t (numbered st x zero w h (λ e. let z : _≡_ {A = ℕ} 0 1 = cc in omega arith))
-unit-back st x r t (suc n) w h c =
-    split (eqb (lookup x (escaped st)) 0)
+unit-back form x r t zero w h c = number-back form x t (numbered form x zero w h (λ e. let z : _≡_ {A = ℕ} 0 1 = cc in omega arith))
+unit-back form x r t (suc n) w h c =
+    split (eqb (lookup x (escaped form)) 0)
     (λ e. split (ltb x 32)
     (λ l. let a : x < 128 = omega (arith, ltb-true x 32 l) in
-    simp (e, l, ascii-one x r n a c) (number-back st x t (numbered st x (suc n) w h (λ q. a))))
+    simp (e, l, ascii-one x r n a c) (number-back form x t (numbered form x (suc n) w h (λ q. a))))
     (λ l. let d : length (take n r) ≡ n = length-take-le n r (char-length x r n c) in
-    simp (e, l, d) (plain-back st x r t n c (eqb-true _ 0 e) l)))
-    (λ e. let ne : lookup x (escaped st) ≡ 0 → ⊥ = eqb-false _ 0 e in
-    simp (e, ascii-one x r n (escaped-ascii st x ne) c) (letter-back st t x ne))
+    simp (e, l, d) (plain-back form x r t n c (eqb-true _ 0 e) l)))
+    (λ e. let ne : lookup x (escaped form) ≡ 0 → ⊥ = eqb-false _ 0 e in
+    simp (e, ascii-one x r n (escaped-ascii form x ne) c) (letter-back form t x ne))

@@ -14,86 +14,82 @@ use Rattle.prelude.proofs.Cases.{and-left, and-right}
 use Rattle.prelude.proofs.Picks.{pick-case}
 use Rattle.utf8.specs.Utf8.{between, charLen}
 use Rattle.utf8.proofs.Characters.{tails, low-bound, char-tails, char-length}
-use Rattle.units.specs.declared.styles.Style.{Style}
-use Rattle.units.specs.declared.styles.Style.the-variants.{Json, Unicode, Bytes}
+use Rattle.units.specs.declared.styles.Form.{Form}
+use Rattle.units.specs.declared.styles.Form.the-variants.{AsJson, AsBytes}
+use Rattle.units.specs.Styles.{styleOf}
 use Rattle.units.specs.Escapes.{lookup}
 use Rattle.units.specs.Written.{hexDigit, byNumber, escaped, written}
 use Rattle.units.proofs.LiteralLaws.{quote-ascii}
 use Rattle.units.proofs.WrittenBack.{lookup-each}
 
 -- every byte is 0x20 or above
-abbrev pub Plain : List ℕ → Type 0
-Plain [] = Unit
-Plain (x ∷ r) = (32 ≤ x) × Plain r
+abbrev pub Printed : List ℕ → Type 0
+Printed [] = Unit
+Printed (x ∷ r) = (32 ≤ x) × Printed r
 
-pub plain-append : (s t : List ℕ) → Plain s → Plain t → Plain (s ++ t)
-plain-append [] t h g = g
-plain-append (x ∷ s) t h g = (h .0, plain-append s t (h .1) g)
+pub printed-append : (s t : List ℕ) → Printed s → Printed t → Printed (s ++ t)
+printed-append [] t h g = g
+printed-append (x ∷ s) t h g = (h .0, printed-append s t (h .1) g)
 
-digit-plain : (d : ℕ) → 32 ≤ hexDigit d
+digit-printed : (d : ℕ) → 32 ≤ hexDigit d
 unfolding hexDigit
-digit-plain d = pick-case (λ v. 32 ≤ v) (ltb d 10) _ _ (λ e. omega arith) (λ e. omega arith)
+digit-printed d = pick-case (λ v. 32 ≤ v) (ltb d 10) _ _ (λ e. omega arith) (λ e. omega arith)
 
-number-plain : (st : Style) (x : ℕ) → Plain (byNumber st x)
+number-printed : (form : Form) (x : ℕ) → Printed (byNumber form x)
 unfolding byNumber
-number-plain Json x = (lit≤ tt, (lit≤ tt, (lit≤ tt, (lit≤ tt, (digit-plain _, (digit-plain _, tt))))))
-number-plain Unicode x = (lit≤ tt, (lit≤ tt, (lit≤ tt, (digit-plain _, (digit-plain _, (lit≤ tt, tt))))))
-number-plain Bytes x = (lit≤ tt, (lit≤ tt, (digit-plain _, (digit-plain _, tt))))
+number-printed AsJson x = (lit≤ tt, (lit≤ tt, (lit≤ tt, (lit≤ tt, (digit-printed _, (digit-printed _, tt))))))
+number-printed AsBytes x = (lit≤ tt, (lit≤ tt, (digit-printed _, (digit-printed _, tt))))
 
-letter-plain : (st : Style) (x : ℕ) → (lookup x (escaped st) ≡ 0 → ⊥) → 32 ≤ lookup x (escaped st)
-letter-plain st =
-    lookup-each (λ k v. 32 ≤ v) (escaped st) (quote-ascii st .0, (lit≤ tt, (lit≤ tt, (lit≤ tt, (lit≤ tt, (lit≤ tt, (lit≤ tt, tt)))))))
+letter-printed : (form : Form) (x : ℕ) → (lookup x (escaped form) ≡ 0 → ⊥) → 32 ≤ lookup x (escaped form)
+letter-printed form =
+    lookup-each (λ k v. 32 ≤ v) (escaped form) (quote-ascii (styleOf form) .0, (lit≤ tt, (lit≤ tt, (lit≤ tt, (lit≤ tt, (lit≤ tt, (lit≤ tt, tt)))))))
 
-tails-plain : (low high n : ℕ) (r : List ℕ) → 0x80 ≤ low → tails low high n r ≡ true → Plain (take n r)
+tails-printed : (low high n : ℕ) (r : List ℕ) → 0x80 ≤ low → tails low high n r ≡ true → Printed (take n r)
 unfolding tails
-tails-plain low high zero r h e = tt
-tails-plain low high (suc n) [] h e = tt
-tails-plain low high (suc n) (b ∷ r) h e = (
+tails-printed low high zero r h e = tt
+tails-printed low high (suc n) [] h e = tt
+tails-printed low high (suc n) (b ∷ r) h e = (
   omega (arith, leb-true low b (and-left (leb low b) _ (and-left (between low high b) _ e))),
-  tails-plain 0x80 0xbf n r (lit≤ tt) (and-right (between low high b) _ e),
+  tails-printed 0x80 0xbf n r (lit≤ tt) (and-right (between low high b) _ e),
 )
 
-pub written-plain : (st : Style) (n x : ℕ) (r : List ℕ) → charLen (x ∷ r) ≡ n → Plain (written st n x r)
+pub written-printed : (form : Form) (n x : ℕ) (r : List ℕ) → charLen (x ∷ r) ≡ n → Printed (written form n x r)
 unfolding written
-written-plain st zero x r c = number-plain st x
-written-plain st (suc n) x r c =
-    pick-case Plain (eqb (lookup x (escaped st)) 0) _ _
-    (λ e. pick-case Plain (ltb x 32) _ _ (λ l. number-plain st x) (λ l. (ltb-false x 32 l, tails-plain _ _ n r (low-bound _) (char-tails x r n c .1))))
-    (λ e. (lit≤ tt, (letter-plain st x (eqb-false _ 0 e), tt)))
+written-printed form zero x r c = number-printed form x
+written-printed form (suc n) x r c =
+    pick-case Printed (eqb (lookup x (escaped form)) 0) _ _
+    (λ e. pick-case Printed (ltb x 32) _ _ (λ l. number-printed form x) (λ l. (ltb-false x 32 l, tails-printed _ _ n r (low-bound _) (char-tails x r n c .1))))
+    (λ e. (lit≤ tt, (letter-printed form x (eqb-false _ 0 e), tt)))
 
--- the longest escape that a style writes
-abbrev pub widest : Style → ℕ
-widest Json = 6
-widest Unicode = 6
-widest Bytes = 4
+-- the longest escape that a form writes
+abbrev pub widest : Form → ℕ
+widest AsJson = 6
+widest AsBytes = 4
 
-number-length : (st : Style) (x : ℕ) → (2 ≤ widest st) × (length (byNumber st x) ≡ widest st)
+number-length : (form : Form) (x : ℕ) → (2 ≤ widest form) × (length (byNumber form x) ≡ widest form)
 unfolding byNumber
-number-length Json x = (lit≤ tt, refl)
-number-length Unicode x = (lit≤ tt, refl)
-number-length Bytes x = (lit≤ tt, refl)
+number-length AsJson x = (lit≤ tt, refl)
+number-length AsBytes x = (lit≤ tt, refl)
 
 abbrev Within : ℕ → List ℕ → Type 0
 Within m l = length l ≤ m
 
-pub written-length : (st : Style) (n x : ℕ) (r : List ℕ) → charLen (x ∷ r) ≡ n → length (written st n x r) ≤ widest st + pred n
+pub written-length : (form : Form) (n x : ℕ) (r : List ℕ) → charLen (x ∷ r) ≡ n → length (written form n x r) ≤ widest form + pred n
 unfolding written
-written-length st zero x r c = omega (arith, number-length st x)
-written-length st (suc n) x r c =
-    let w : 2 ≤ widest st = number-length st x .0 in
-    pick-case (Within (widest st + n)) (eqb (lookup x (escaped st)) 0) _ _
-    (λ e. pick-case (Within (widest st + n)) (ltb x 32) _ _
-    (λ l. omega (arith, number-length st x .1))
+written-length form zero x r c = omega (arith, number-length form x)
+written-length form (suc n) x r c =
+    let w : 2 ≤ widest form = number-length form x .0 in
+    pick-case (Within (widest form + n)) (eqb (lookup x (escaped form)) 0) _ _
+    (λ e. pick-case (Within (widest form + n)) (ltb x 32) _ _
+    (λ l. omega (arith, number-length form x .1))
     (λ l. omega (arith, length-take-le n r (char-length x r n c))))
     (λ e. omega arith)
 
 -- at most so many bytes for n bytes
-abbrev pub limit : Style → ℕ → ℕ
-limit Json n = 6 * n
-limit Unicode n = 6 * n
-limit Bytes n = 4 * n
+abbrev pub limit : Form → ℕ → ℕ
+limit AsJson n = 6 * n
+limit AsBytes n = 4 * n
 
-pub limit-more : (st : Style) (a b n m : ℕ) → a ≤ widest st + n → b ≤ limit st m → a + b ≤ limit st (suc n + m)
-limit-more Json a b n m h g = omega arith
-limit-more Unicode a b n m h g = omega arith
-limit-more Bytes a b n m h g = omega arith
+pub limit-more : (form : Form) (a b n m : ℕ) → a ≤ widest form + n → b ≤ limit form m → a + b ≤ limit form (suc n + m)
+limit-more AsJson a b n m h g = omega arith
+limit-more AsBytes a b n m h g = omega arith

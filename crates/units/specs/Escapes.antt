@@ -1,10 +1,12 @@
 -- One escape of a J8 string, by document 01's list, a sentence of it quoted at each definition.
 -- Assumes nothing.
 use Prim.Native.Nat.{ℕ, zero, suc, _+_, _-_, _*_}
+use Prim.Native.Char.{code}
 use mathlib.Core.Bool.{Bool, true, false, _&&_}
 use mathlib.Core.List.{List, [], _∷_}
 use lib.Dec.{ltb, eqb}
 use lib.ListN.{getD, drop}
+use Rattle.prelude.specs.Bytes.{backspace, TAB, LF, formFeed, CR, doubleQuote, singleQuote, backslash}
 use Rattle.prelude.specs.Pick.{pick}
 use Rattle.prelude.specs.Refusals.{badEscape, surrogate, tooLarge, byteEscape}
 use Rattle.utf8.specs.Utf8.{between, encode}
@@ -20,13 +22,15 @@ lookup x (e ∷ t) = pick (eqb x (e .0)) (e .1) (lookup x t)
 
 -- "All styles: `\"` `\\` `\/` `\b` `\f` `\n` `\r` `\t`": what follows the backslash, and the byte that it denotes
 abbrev pub letters : List (ℕ × ℕ)
-letters = (34, 34) ∷ (92, 92) ∷ (47, 47) ∷ (98, 8) ∷ (102, 12) ∷ (110, 10) ∷ (114, 13) ∷ (116, 9) ∷ []
+letters =
+    (doubleQuote, doubleQuote) ∷ (backslash, backslash) ∷ (code "/", code "/") ∷
+    (code "b", backspace) ∷ (code "f", formFeed) ∷ (code "n", LF) ∷ (code "r", CR) ∷ (code "t", TAB) ∷ []
 
 -- "Single-quoted only: `\'`"
 abbrev pub lettersOf : Style → List (ℕ × ℕ)
 lettersOf Json = letters
-lettersOf Unicode = (39, 39) ∷ letters
-lettersOf Bytes = (39, 39) ∷ letters
+lettersOf Unicode = (singleQuote, singleQuote) ∷ letters
+lettersOf Bytes = (singleQuote, singleQuote) ∷ letters
 
 -- "A high half (d800 to dbff)", "an escaped low half (dc00 to dfff)"
 abbrev pub high : ℕ → Bool
@@ -37,7 +41,7 @@ low v = between 0xdc00 0xdfff v
 
 -- an escaped low half stands first; its number, 0 where none does
 abbrev pub isLow : List ℕ → Bool
-isLow r = eqb (getD r 0 0) 92 && eqb (getD r 1 0) 117 && eqb (hexRun 4 (drop 2 r)) 4 && low (hexNumber 4 (drop 2 r))
+isLow r = eqb (getD r 0 0) backslash && eqb (getD r 1 0) (code "u") && eqb (hexRun 4 (drop 2 r)) 4 && low (hexNumber 4 (drop 2 r))
 
 unfoldable pub lowHalf : List ℕ → ℕ
 lowHalf r = pick (isLow r) (hexNumber 4 (drop 2 r)) 0
@@ -60,7 +64,7 @@ scalar n v = pick (between 0xd800 0xdfff v) (fault surrogate) (pick (ltb 0x10fff
 
 -- "`\u{h}` with one to six hex digits"; c is the byte behind the `\u`, and r follows it
 abbrev pub isBraced : ℕ → List ℕ → Bool
-isBraced c r = eqb c 123 && between 1 6 (hexRun 7 r) && eqb (getD r (hexRun 7 r) 0) 125
+isBraced c r = eqb c (code "{") && between 1 6 (hexRun 7 r) && eqb (getD r (hexRun 7 r) 0) (code "}")
 
 unfoldable pub braced : List ℕ → StringUnit
 braced [] = fault badEscape
@@ -79,14 +83,14 @@ rawByte Unicode r = fault byteEscape
 rawByte Bytes r = pick (eqb (hexRun 2 r) 2) (took 4 (hexNumber 2 r ∷ [])) (fault badEscape)
 
 -- a two-byte escape for the byte b; 0 stands for no such escape
-abbrev pub short : ℕ → StringUnit
-short zero = fault badEscape
-short (suc b) = took 2 (suc b ∷ [])
+abbrev pub letterEscape : ℕ → StringUnit
+letterEscape zero = fault badEscape
+letterEscape (suc b) = took 2 (suc b ∷ [])
 
 -- an escape; the argument follows its backslash
 unfoldable pub escape : Style → List ℕ → StringUnit
 escape st [] = fault badEscape
 escape st (c ∷ r) =
-    pick (eqb c 117) (codePoint st r)
-    (pick (eqb c 121) (rawByte st r)
-    (short (lookup c (lettersOf st))))
+    pick (eqb c (code "u")) (codePoint st r)
+    (pick (eqb c (code "y")) (rawByte st r)
+    (letterEscape (lookup c (lettersOf st))))

@@ -1,6 +1,7 @@
 -- Hex digits: "Hex digits may be of either case."
 -- Assumes nothing.
 use Prim.Native.Nat.{ℕ, zero, suc, _+_, _-_, _*_}
+use Prim.Native.Char.{code}
 use mathlib.Core.List.{List, [], _∷_}
 use lib.Dec.{ltb, leb}
 use lib.ListN.{length}
@@ -9,12 +10,12 @@ use Rattle.prelude.specs.Pick.{pick}
 -- the value of a digit, 16 where it is none
 unfoldable pub hexVal : ℕ → ℕ
 hexVal c =
-    pick (ltb c 0x30) 16
-    (pick (leb c 0x39) (c - 0x30)
-    (pick (ltb c 0x41) 16
-    (pick (leb c 0x46) (c - 0x37)
-    (pick (ltb c 0x61) 16
-    (pick (leb c 0x66) (c - 0x57) 16)))))
+    pick (ltb c (code "0")) 16
+    (pick (leb c (code "9")) (c - code "0")
+    (pick (ltb c (code "A")) 16
+    (pick (leb c (code "F")) (c - code "A" + 10)
+    (pick (ltb c (code "a")) 16
+    (pick (leb c (code "f")) (c - code "a" + 10) 16)))))
 
 -- the digits that stand first, k at most
 unfoldable pub hexDigits : ℕ → List ℕ → List ℕ

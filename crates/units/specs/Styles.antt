@@ -1,24 +1,32 @@
--- The three styles of a J8 string: `""`; `u''`, which `''` means; `b''`.
+-- The three styles of a J8 string: `""`; `u''`, which `''` means; `b''`. Writing takes the first and the last.
 -- Assumes nothing.
 use Prim.Native.Nat.{ℕ, _≤_}
 use mathlib.Core.List.{List}
+use Rattle.prelude.specs.Bytes.{doubleQuote, singleQuote}
 use Rattle.utf8.specs.Utf8.{fewOf}
 use Rattle.units.specs.declared.styles.Style.{Style}
 use Rattle.units.specs.declared.styles.Style.the-variants.{Json, Unicode, Bytes}
+use Rattle.units.specs.declared.styles.Form.{Form}
+use Rattle.units.specs.declared.styles.Form.the-variants.{AsJson, AsBytes}
 use Rattle.units.specs.declared.styles.Unit.{Unit as Found}
 use Rattle.units.specs.declared.styles.Unit.the-variants.{Close, Took, Fault}
 
 -- the closing quote
 abbrev pub quote : Style → ℕ
-quote Json = 34
-quote Unicode = 39
-quote Bytes = 39
+quote Json = doubleQuote
+quote Unicode = singleQuote
+quote Bytes = singleQuote
 
 -- the class of the quote that may stand bare: "In single-quoted styles `"` may stand bare, in `""` a `'` may."
 abbrev pub bareClass : Style → ℕ
 bareClass Json = 3
 bareClass Unicode = 2
 bareClass Bytes = 2
+
+-- "valid UTF-8 goes as `""`", "Anything else goes as `b''`": the style that a written form is read in
+abbrev pub styleOf : Form → Style
+styleOf AsJson = Json
+styleOf AsBytes = Bytes
 
 -- what stands at the head of a text: the closing quote; n bytes that denote these bytes; or a refusal, at the unit's place
 pub data StringUnit : Type 0 where

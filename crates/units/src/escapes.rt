@@ -6,7 +6,7 @@ ghost use lib.ListN.{length, drop};
 ghost use Rattle.utf8.specs.Utf8.{encode};
 ghost use Rattle.units.specs.Styles.{took, unitOf, FewOf};
 ghost use Rattle.units.specs.declared.styles.Style.the-variants.{Unicode, Bytes};
-ghost use Rattle.units.specs.Escapes.{lookup, letters, lettersOf, lowHalf, codeUnit, fourDigits, scalar, braced, codePoint, rawByte, short, escape};
+ghost use Rattle.units.specs.Escapes.{lookup, letters, lettersOf, lowHalf, codeUnit, fourDigits, scalar, braced, codePoint, rawByte, letterEscape, escape};
 use crate::hex;
 use crate::styles::Style;
 use crate::styles::Unit;
@@ -19,50 +19,50 @@ use utf8::encoding::Few;
 pub fn common(c: u8) -> u8
     ensures { λ r. ⌜ r ≡ lookup c letters ⌝ }
 {
-    if c == 34 {
-        return 34;
+    if c == b'"' {
+        return b'"';
     }
-    if c == 92 {
-        return 92;
+    if c == b'\\' {
+        return b'\\';
     }
-    if c == 47 {
-        return 47;
+    if c == b'/' {
+        return b'/';
     }
-    if c == 98 {
-        return 8;
+    if c == b'b' {
+        return b'\x08';
     }
-    if c == 102 {
-        return 12;
+    if c == b'f' {
+        return b'\x0c';
     }
-    if c == 110 {
-        return 10;
+    if c == b'n' {
+        return b'\n';
     }
-    if c == 114 {
-        return 13;
+    if c == b'r' {
+        return b'\r';
     }
-    if c == 116 {
-        return 9;
+    if c == b't' {
+        return b'\t';
     }
     0
 }
 
 // In the single-quoted styles `'` is a letter too.
-fn single(c: u8) -> u8
+fn single_quoted(c: u8) -> u8
     ensures { λ r. ⌜ r ≡ lookup c (lettersOf Unicode) ⌝ }
 {
-    if c == 39 {
-        return 39;
+    if c == b'\'' {
+        return b'\'';
     }
     common(c)
 }
 
-fn letter(c: u8, style: Style) -> u8
+fn byte_of(c: u8, style: Style) -> u8
     ensures { λ r. ⌜ r ≡ lookup c (lettersOf style) ⌝ }
 {
     match style {
         Style::Json => common(c),
-        Style::Unicode => single(c),
-        Style::Bytes => single(c),
+        Style::Unicode => single_quoted(c),
+        Style::Bytes => single_quoted(c),
     }
 }
 
@@ -98,10 +98,10 @@ fn low_half(s: &[u8], at: usize) -> u32
     ensures is { λ r. ⌜ r ≡ lowHalf (drop at (now (s .entry))) ⌝ }
     ensures half { λ r. ⌜ (r ≤ 0xdfff) × (0 < r → 0xdc00 ≤ r) ⌝ }
 {
-    if slices::byte_at(s, at, 0) != 92 {
+    if slices::byte_at(s, at, 0) != b'\\' {
         return 0;
     }
-    if slices::byte_at(s, at, 1) != 117 {
+    if slices::byte_at(s, at, 1) != b'u' {
         return 0;
     }
     let d = hex::digits_at(s, at + 2, 4);
@@ -178,7 +178,7 @@ fn braced(s: &[u8], at: usize) -> Unit
     ensures is { λ r. ⌜ unitOf r ≡ braced (drop at (now (s .entry))) ⌝ }
     ensures few { λ r. ⌜ FewOf r ⌝ }
 {
-    if slices::byte_at(s, at, 0) != 123 {
+    if slices::byte_at(s, at, 0) != b'{' {
         return Unit::Fault(refusals::BAD_ESCAPE);
     }
     let d = hex::digits_at(s, at + 1, 7);
@@ -189,7 +189,7 @@ fn braced(s: &[u8], at: usize) -> Unit
     if 6 < n {
         return Unit::Fault(refusals::BAD_ESCAPE);
     }
-    if slices::byte_at(s, at + 1, n) == 125 {
+    if slices::byte_at(s, at + 1, n) == b'}' {
         return scalar(4 + n, d.value);
     }
     Unit::Fault(refusals::BAD_ESCAPE)
@@ -235,8 +235,8 @@ fn raw_byte(s: &[u8], at: usize, style: Style) -> Unit
 }
 
 // A backslash and one letter, which denotes the byte b, or nothing where b is 0.
-fn short(b: u8) -> Unit
-    ensures is { λ r. ⌜ unitOf r ≡ short b ⌝ }
+fn letter_escape(b: u8) -> Unit
+    ensures is { λ r. ⌜ unitOf r ≡ letterEscape b ⌝ }
     ensures few { λ r. ⌜ FewOf r ⌝ }
 {
     if b == 0 {
@@ -252,11 +252,11 @@ pub fn escape_at(s: &[u8], at: usize, style: Style) -> Unit
     ensures few { λ r. ⌜ FewOf r ⌝ }
 {
     let c = slices::byte_at(s, at, 0);
-    if c == 117 {
+    if c == b'u' {
         return code_point(s, at + 1, style);
     }
-    if c == 121 {
+    if c == b'y' {
         return raw_byte(s, at + 1, style);
     }
-    short(letter(c, style))
+    letter_escape(byte_of(c, style))
 }

@@ -16,23 +16,23 @@ fn hex_val(b: u8) -> u8
     ensures is { λ r. ⌜ r ≡ hexVal b ⌝ }
     ensures small { λ r. ⌜ r ≤ 16 ⌝ }
 {
-    if b < 0x30 {
+    if b < b'0' {
         return 16;
     }
-    if b <= 0x39 {
-        return b - 0x30;
+    if b <= b'9' {
+        return b - b'0';
     }
-    if b < 0x41 {
+    if b < b'A' {
         return 16;
     }
-    if b <= 0x46 {
-        return b - 0x37;
+    if b <= b'F' {
+        return b - b'A' + 10;
     }
-    if b < 0x61 {
+    if b < b'a' {
         return 16;
     }
-    if b <= 0x66 {
-        return b - 0x57;
+    if b <= b'f' {
+        return b - b'a' + 10;
     }
     16
 }

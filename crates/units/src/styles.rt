@@ -1,6 +1,6 @@
-// The styles of a J8 string, and what a unit is.
+// The styles of a J8 string, the forms that writing takes, and what a unit is.
 ghost use mathlib.Core.Path.{_≡_};
-ghost use Rattle.units.specs.Styles.{quote};
+ghost use Rattle.units.specs.Styles.{quote, styleOf};
 use utf8::encoding::Few;
 
 // `""`; `u''`, which `''` means; `b''`.
@@ -8,6 +8,12 @@ pub enum Style {
     Json,
     Unicode,
     Bytes,
+}
+
+// What the writer writes: `""` for valid UTF-8, `b''` for anything else.
+pub enum Form {
+    AsJson,
+    AsBytes,
 }
 
 // The closing quote; a unit of so many bytes, with the bytes that it denotes; the number of a refusal at the unit's place.
@@ -22,8 +28,28 @@ pub fn quote_of(style: Style) -> u8
     ensures { λ r. ⌜ r ≡ quote style ⌝ }
 {
     match style {
-        Style::Json => 34,
-        Style::Unicode => 39,
-        Style::Bytes => 39,
+        Style::Json => b'"',
+        Style::Unicode => b'\'',
+        Style::Bytes => b'\'',
+    }
+}
+
+// The style that a form is read in.
+pub fn style_of(form: Form) -> Style
+    ensures { λ r. ⌜ r ≡ styleOf form ⌝ }
+{
+    match form {
+        Form::AsJson => Style::Json,
+        Form::AsBytes => Style::Bytes,
+    }
+}
+
+// The closing quote of a form.
+pub fn quote_in(form: Form) -> u8
+    ensures { λ r. ⌜ r ≡ quote (styleOf form) ⌝ }
+{
+    match form {
+        Form::AsJson => b'"',
+        Form::AsBytes => b'\'',
     }
 }

@@ -57,7 +57,7 @@ pub fn unit_at(t: &[u8; 256], s: &[u8], at: usize, style: Style) -> Unit
     if b == styles::quote_of(style) {
         return Unit::Close;
     }
-    if b == 92 {
+    if b == b'\\' {
         return escapes::escape_at(s, at + 1, style);
     }
     if b < 32 {

@@ -7,7 +7,7 @@ ghost use lib.Seq.{sets};
 ghost use Rattle.units.specs.Escapes.{lookup};
 ghost use Rattle.units.specs.Written.{hexDigit, byNumber, escaped, escapeByte};
 use crate::styles;
-use crate::styles::Style;
+use crate::styles::Form;
 use prelude::slices;
 
 fn hex_digit(d: u8) -> u8
@@ -15,47 +15,46 @@ fn hex_digit(d: u8) -> u8
     ensures { λ r. ⌜ r ≡ hexDigit d ⌝ }
 {
     if d < 10 {
-        return 48 + d;
+        return b'0' + d;
     }
-    87 + d
+    b'a' + (d - 10)
 }
 
 // What follows the backslash of a byte's two-byte escape, 0 where it has none.
-fn letter_of(style: Style, x: u8) -> u8
-    ensures { λ r. ⌜ r ≡ lookup x (escaped style) ⌝ }
+fn letter_of(form: Form, x: u8) -> u8
+    ensures { λ r. ⌜ r ≡ lookup x (escaped form) ⌝ }
 {
-    let q = styles::quote_of(style);
+    let q = styles::quote_in(form);
     if x == q {
         return q;
     }
-    if x == 92 {
-        return 92;
+    if x == b'\\' {
+        return b'\\';
     }
-    if x == 8 {
-        return 98;
+    if x == b'\x08' {
+        return b'b';
     }
-    if x == 12 {
-        return 102;
+    if x == b'\x0c' {
+        return b'f';
     }
-    if x == 10 {
-        return 110;
+    if x == b'\n' {
+        return b'n';
     }
-    if x == 13 {
-        return 114;
+    if x == b'\r' {
+        return b'r';
     }
-    if x == 9 {
-        return 116;
+    if x == b'\t' {
+        return b't';
     }
     0
 }
 
-fn number_len(style: Style, x: u8) -> usize
-    ensures { λ r. ⌜ r ≡ length (byNumber style x) ⌝ }
+fn number_len(form: Form, x: u8) -> usize
+    ensures { λ r. ⌜ r ≡ length (byNumber form x) ⌝ }
 {
-    match style {
-        Style::Json => 6,
-        Style::Unicode => 6,
-        Style::Bytes => 4,
+    match form {
+        Form::AsJson => 6,
+        Form::AsBytes => 4,
     }
 }
 
@@ -75,45 +74,41 @@ fn put_two(a: u8, b: u8, o: usize, out: &mut [u8])
 }
 
 // Stores a byte by its number, each digit if there is room for it.
-fn put_number(style: Style, x: u8, o: usize, out: &mut [u8])
-    ensures { λ r. ⌜ now (out .exit) ≡ sets (now (out .entry)) o (byNumber style x) ⌝ }
+fn put_number(form: Form, x: u8, o: usize, out: &mut [u8])
+    ensures { λ r. ⌜ now (out .exit) ≡ sets (now (out .entry)) o (byNumber form x) ⌝ }
 {
     let h = hex_digit(x / 16);
     let l = hex_digit(x % 16);
-    match style {
-        Style::Json => {
-            let text = [92u8, 117, 48, 48, h, l];
+    match form {
+        Form::AsJson => {
+            let text = [b'\\', b'u', b'0', b'0', h, l];
             slices::copy_run(&text, 0, 6, o, out);
         }
-        Style::Unicode => {
-            let text = [92u8, 117, 123, h, l, 125];
-            slices::copy_run(&text, 0, 6, o, out);
-        }
-        Style::Bytes => {
-            let text = [92u8, 121, h, l];
+        Form::AsBytes => {
+            let text = [b'\\', b'y', h, l];
             slices::copy_run(&text, 0, 4, o, out);
         }
     }
 }
 
 // How long the escape of a byte is.
-pub fn escape_len(style: Style, x: u8) -> usize
-    ensures { λ r. ⌜ r ≡ length (escapeByte style x) ⌝ }
+pub fn escape_len(form: Form, x: u8) -> usize
+    ensures { λ r. ⌜ r ≡ length (escapeByte form x) ⌝ }
 {
-    if letter_of(style, x) != 0 {
+    if letter_of(form, x) != 0 {
         return 2;
     }
-    number_len(style, x)
+    number_len(form, x)
 }
 
 // Stores the escape of a byte, as far as there is room.
-pub fn put_escape(style: Style, x: u8, o: usize, out: &mut [u8])
-    ensures { λ r. ⌜ now (out .exit) ≡ sets (now (out .entry)) o (escapeByte style x) ⌝ }
+pub fn put_escape(form: Form, x: u8, o: usize, out: &mut [u8])
+    ensures { λ r. ⌜ now (out .exit) ≡ sets (now (out .entry)) o (escapeByte form x) ⌝ }
 {
-    let k = letter_of(style, x);
+    let k = letter_of(form, x);
     if k != 0 {
-        put_two(92, k, o, out);
+        put_two(b'\\', k, o, out);
         return;
     }
-    put_number(style, x, o, out);
+    put_number(form, x, o, out);
 }

@@ -13,9 +13,9 @@ use Rattle.prelude.specs.Pick.{pick}
 use Rattle.prelude.proofs.Picks.{pick-case}
 use Rattle.prelude.proofs.Suffix.{by-suffix}
 use Rattle.utf8.specs.Utf8.{validUtf8}
-use Rattle.units.specs.declared.styles.Style.{Style}
-use Rattle.units.specs.declared.styles.Style.the-variants.{Json, Unicode, Bytes}
-use Rattle.units.specs.Styles.{quote}
+use Rattle.units.specs.declared.styles.Form.{Form}
+use Rattle.units.specs.declared.styles.Form.the-variants.{AsJson, AsBytes}
+use Rattle.units.specs.Styles.{quote, styleOf}
 use Rattle.strings.specs.Read.{opening, readString}
 use Rattle.strings_write.specs.Write.{writeUnits, mark, quoted, writeString}
 use Rattle.prelude.specs.Bytes.{IsBytes}
@@ -27,38 +27,35 @@ use Rattle.lines.proofs.LineEnds.{trim-stop}
 use Rattle.lines_write.proofs.LineTexts.{next, right-step, right-first, right-size, right-kind}
 
 -- a text in quotes begins and ends with marks, which are no blanks
-no-leads : (st : Style) (r : List ℕ) → leads (mark st ++ r) ≡ 0
+no-leads : (form : Form) (r : List ℕ) → leads (mark form ++ r) ≡ 0
 unfolding leads blank pick
-no-leads Json r = refl
-no-leads Unicode r = refl
-no-leads Bytes r = refl
+no-leads AsJson r = refl
+no-leads AsBytes r = refl
 
-quote-kept : (st : Style) → blank (quote st) ≡ false
+quote-kept : (form : Form) → blank (quote (styleOf form)) ≡ false
 unfolding blank pick
-quote-kept Json = refl
-quote-kept Unicode = refl
-quote-kept Bytes = refl
+quote-kept AsJson = refl
+quote-kept AsBytes = refl
 
-quoted-strip : (st : Style) (s : List ℕ) → strip (quoted st s) ≡ quoted st s
+quoted-strip : (form : Form) (s : List ℕ) → strip (quoted form s) ≡ quoted form s
 unfolding strip quoted
-quoted-strip st s =
-    let u : List ℕ = writeUnits st 0 s in
-    rw (no-leads st (u ++ (quote st ∷ [])), ← append-assoc (mark st) u (quote st ∷ [])) (trim-stop (quote st) (quote-kept st) (mark st ++ u))
+quoted-strip form s =
+    let u : List ℕ = writeUnits form 0 s in
+    rw (no-leads form (u ++ (quote (styleOf form) ∷ [])), ← append-assoc (mark form) u (quote (styleOf form) ∷ [])) (trim-stop (quote (styleOf form)) (quote-kept form) (mark form ++ u))
 
-quoted-opens : (st : Style) (s : List ℕ) → readStripped (quoted st s) ≡ fromString (readString (quoted st s))
+quoted-opens : (form : Form) (s : List ℕ) → readStripped (quoted form s) ≡ fromString (readString (quoted form s))
 unfolding readStripped quoted opening pick
-quoted-opens Json s = refl
-quoted-opens Unicode s = refl
-quoted-opens Bytes s = refl
+quoted-opens AsJson s = refl
+quoted-opens AsBytes s = refl
 
 written-strip : (s : List ℕ) → strip (writeString s) ≡ writeString s
 unfolding writeString
-written-strip s = pick-case (λ w. strip w ≡ w) (validUtf8 s) _ _ (λ e. quoted-strip Json s) (λ e. quoted-strip Bytes s)
+written-strip s = pick-case (λ w. strip w ≡ w) (validUtf8 s) _ _ (λ e. quoted-strip AsJson s) (λ e. quoted-strip AsBytes s)
 
 written-opens : (s : List ℕ) → readStripped (writeString s) ≡ fromString (readString (writeString s))
 unfolding writeString
 written-opens s =
-    pick-case (λ w. readStripped w ≡ fromString (readString w)) (validUtf8 s) _ _ (λ e. quoted-opens Json s) (λ e. quoted-opens Bytes s)
+    pick-case (λ w. readStripped w ≡ fromString (readString w)) (validUtf8 s) _ _ (λ e. quoted-opens AsJson s) (λ e. quoted-opens AsBytes s)
 
 written-line : (s : List ℕ) → IsBytes s → readLine (writeString s) ≡ holds (kindOf s) s
 unfolding readLine

@@ -12,10 +12,10 @@ use lib.Seq.{append-snoc, length-take-le}
 use Rattle.prelude.specs.Bytes.{IsBytes, LF}
 use Rattle.prelude.specs.Limits.{uploadMax, lineMax}
 use Rattle.prelude.specs.Pick.{pick}
-use Rattle.units.proofs.WrittenUnits.{Plain}
+use Rattle.units.proofs.WrittenUnits.{Printed as Plain}
 use Rattle.strings_write.specs.Write.{writeString}
 use Rattle.string_claims.proofs.RoundTrip.{bytes-drop}
-use Rattle.string_claims.proofs.Plain.{write-plain}
+use Rattle.string_claims.proofs.Printed.{write-printed as write-plain}
 use Rattle.lines.specs.Records.{headSize, lineRecord, none, lineFault}
 use Rattle.lines_write.specs.Write.{sizeAt, payloadAt, rightRecord, rightRecords, lineAt, linesFrom, writeQuoted}
 use Rattle.lines_write.proofs.LineTexts.{lines-step, right-size}

@@ -52,8 +52,8 @@ at-stop s i h e = rw (drop-cons s i 0) (run-stop (getD s i 0) (drop (suc i) s) (
 pub at-end : (s : List ℕ) (i : ℕ) → length s ≤ i → plainRun (drop i s) ≡ 0
 at-end s i h = omega (arith, run-within (drop i s), length-drop i s)
 
-pub or-none : (a b : ℕ) → bitOr a b ≡ 0 → (a ≡ 0) × (b ≡ 0)
-or-none a b e = (omega (arith, or-add-and a b, and-le-r a b, and-le-l a b), omega (arith, or-add-and a b, and-le-r a b, and-le-l a b))
+pub or-zero : (a b : ℕ) → bitOr a b ≡ 0 → (a ≡ 0) × (b ≡ 0)
+or-zero a b e = (omega (arith, or-add-and a b, and-le-r a b, and-le-l a b), omega (arith, or-add-and a b, and-le-r a b, and-le-l a b))
 
 -- one more class in front of those or-ed already
 pub one-more : (s : List ℕ) (i j k w : ℕ) → j ≡ suc i → i < length s → eqb w 0 ≡ leb k (plainRun (drop j s))
@@ -63,7 +63,7 @@ one-more s i j k w ej h e =
     (λ p. let q : classOf (getD s i 0) ≡ 0 = eqb-true _ _ p in
     rw (q, or-zero-l w, at-plain s i h q, leb·suc-suc k (plainRun (drop (suc i) s)), ← ej) e)
     (λ p. let q : (classOf (getD s i 0) ≡ 0 → ⊥) = eqb-false _ _ p in
-    rw (at-stop s i h q, leb·suc-zero k) (ne-eqb (bitOr (classOf (getD s i 0)) w) 0 (λ z. q (or-none (classOf (getD s i 0)) w z .0))))
+    rw (at-stop s i h q, leb·suc-zero k) (ne-eqb (bitOr (classOf (getD s i 0)) w) 0 (λ z. q (or-zero (classOf (getD s i 0)) w z .0))))
 
 pub last-one : (s : List ℕ) (i : ℕ) → i < length s → eqb (classOf (getD s i 0)) 0 ≡ leb 1 (plainRun (drop i s))
 last-one s i h =

@@ -6,6 +6,7 @@ use mathlib.Core.List.{List, [], _∷_}
 use Prim.Native.Nat.{ℕ, suc, _<_}
 use lib.Dec.{ltb, eqb}
 use lib.ListN.{getD}
+use Rattle.prelude.specs.Bytes.{doubleQuote, singleQuote, backslash}
 use Rattle.prelude.specs.Pick.{pick}
 
 -- 0 plain, 1 control, 2 `"`, 3 `'`, 4 backslash, 5 continuation, 6 lead of two bytes, 7 lead of three, 8 the lead e0,
@@ -13,9 +14,9 @@ use Rattle.prelude.specs.Pick.{pick}
 unfoldable pub classOf : ℕ → ℕ
 classOf b =
     pick (ltb b 0x20) 1
-    (pick (eqb b 0x22) 2
-    (pick (eqb b 0x27) 3
-    (pick (eqb b 0x5c) 4
+    (pick (eqb b doubleQuote) 2
+    (pick (eqb b singleQuote) 3
+    (pick (eqb b backslash) 4
     (pick (ltb b 0x80) 0
     (pick (ltb b 0xc0) 5
     (pick (ltb b 0xc2) 13

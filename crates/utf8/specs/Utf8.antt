@@ -55,11 +55,11 @@ charLen [] = 0
 charLen (a ∷ r) = lenBy (classOf a) (getD r 0 0) (getD r 1 0) (getD r 2 0)
 
 -- the refusal where no well-formed character stands at the head
-abbrev pub faultAt : List ℕ → ℕ
-faultAt s = illFormed
+abbrev pub charFault : List ℕ → ℕ
+charFault s = illFormed
 
 abbrev pub charBy : ℕ → List ℕ → Char
-charBy zero s = Bad (faultAt s)
+charBy zero s = Bad (charFault s)
 charBy (suc n) s = Good (suc n)
 
 -- the character check: what stands at the head of the rest of a text

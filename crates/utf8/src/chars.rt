@@ -5,7 +5,7 @@ ghost use Prim.Native.Nat.{_+_, _<_, _≤_};
 ghost use lib.ListN.{length, getD, drop};
 ghost use Rattle.utf8.specs.Class.{IsTable};
 ghost use Rattle.utf8.specs.Utf8.{between, lowOf, highOf, twoBytes, threeBytes, fourBytes, longLen, charAt, validUtf8};
-ghost use Rattle.utf8.specs.inner.Checks.{AllAscii, Checked, CheckedUntil};
+ghost use Rattle.utf8.specs.inner.Checks.{AllAscii, ValidAs, ValidUntil};
 use crate::classes;
 use prelude::refusals;
 use prelude::slices;
@@ -147,7 +147,7 @@ pub fn any_high(s: &[u8], at: usize, n: usize) -> bool
 // A place behind blocks of n bytes of ASCII. A caller's n is a constant, so that a block is still compared at once.
 fn ascii_blocks(s: &[u8], from: usize, n: usize) -> usize
     requires { ⌜ (from ≤ length (now s)) × (0 < n) ⌝ }
-    ensures { λ r. ⌜ Checked (now (s .entry)) from r ⌝ }
+    ensures { λ r. ⌜ ValidAs (now (s .entry)) from r ⌝ }
 {
     let mut at = from;
     while n <= s.len() - at {
@@ -162,7 +162,7 @@ fn ascii_blocks(s: &[u8], from: usize, n: usize) -> usize
 // Whether the bytes from a place on are known to be ASCII: by blocks, and where less than one is left by the last one of the text.
 pub fn ascii_from(s: &[u8], from: usize) -> bool
     requires { ⌜ from ≤ length (now s) ⌝ }
-    ensures { λ r. ⌜ (r ≡ true → Checked (now (s .entry)) from (length (now (s .entry)))) ⌝ }
+    ensures { λ r. ⌜ (r ≡ true → ValidAs (now (s .entry)) from (length (now (s .entry)))) ⌝ }
 {
     let n = s.len();
     if n < 16 {
@@ -191,7 +191,7 @@ fn near_len(s: &[u8], at: usize, k: u8) -> usize
 // The place behind the characters from a place on, one by one until an end is reached, or where none stands.
 fn chars_until(t: &[u8; 256], s: &[u8], from: usize, end: usize) -> usize
     requires { ⌜ IsTable (now t) × (from ≤ length (now s)) × (end ≤ length (now s)) ⌝ }
-    ensures { λ r. ⌜ CheckedUntil (now (s .entry)) from end r ⌝ }
+    ensures { λ r. ⌜ ValidUntil (now (s .entry)) from end r ⌝ }
 {
     let mut at = from;
     while at < end {
@@ -212,17 +212,6 @@ fn chars_until(t: &[u8; 256], s: &[u8], from: usize, end: usize) -> usize
     at
 }
 
-// A place k bytes on, or the end.
-fn block_on(n: usize, at: usize, k: usize) -> usize
-    requires { ⌜ (at ≤ n) × (0 < k) ⌝ }
-    ensures { λ r. ⌜ (r ≤ n) × (at < n → at < r) ⌝ }
-{
-    if n - at < k {
-        return n;
-    }
-    at + k
-}
-
 // Whether a text is valid UTF-8, with the table lent. What ends the blocks is passed one by one, and then they are tried again.
 pub fn valid_in(t: &[u8; 256], s: &[u8]) -> bool
     requires { ⌜ IsTable (now t) ⌝ }
@@ -231,7 +220,7 @@ pub fn valid_in(t: &[u8; 256], s: &[u8]) -> bool
     let mut at = 0;
     while at < s.len() {
         let mid = ascii_blocks(s, at, 16);
-        let end = block_on(s.len(), mid, 16);
+        let end = slices::soon(s.len(), mid, 16);
         let next = chars_until(t, s, mid, end);
         if next < end {
             return false;
@@ -250,7 +239,7 @@ pub fn valid_near(t: &[u8; 256], s: &[u8]) -> bool
     let mut at = 0;
     while at < s.len() {
         let mid = ascii_blocks(s, at, 8);
-        let end = block_on(s.len(), mid, 8);
+        let end = slices::soon(s.len(), mid, 8);
         let next = chars_until(t, s, mid, end);
         if next < end {
             return false;

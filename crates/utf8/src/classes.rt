@@ -314,7 +314,7 @@ fn plain_eight(t: &[u8; 256], s: &[u8], i: usize) -> bool
 }
 
 // The place behind the whole eights from a place on that are plain.
-pub fn eights(t: &[u8; 256], s: &[u8], from: usize) -> usize
+pub fn plain_eights(t: &[u8; 256], s: &[u8], from: usize) -> usize
     requires { ⌜ IsTable (now t) × (from ≤ length (now s)) ⌝ }
     ensures { λ r. ⌜ r ≡ from + 8 * (plainRun (drop from (now (s .entry))) / 8) ⌝ }
 {

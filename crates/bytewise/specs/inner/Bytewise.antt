@@ -7,15 +7,17 @@ use mathlib.Core.Path.{_≡_}
 use lib.Dec.{ltb, eqb}
 use lib.ListN.{length, getD, take, drop}
 use lib.Seq.{sets}
+use Rattle.prelude.specs.Bytes.{doubleQuote, backslash}
 use Rattle.prelude.specs.Pick.{pick}
 use Rattle.units.specs.declared.styles.Style.the-variants.{Json}
+use Rattle.units.specs.declared.styles.Form.the-variants.{AsJson}
 use Rattle.utf8.specs.Utf8.{tail}
 use Rattle.runs.specs.inner.Blocks.{Running, owed}
 use Rattle.units.specs.Written.{escapeByte}
 
 -- a byte of valid data in `""`: by its escape where it is a control, the quote or the backslash, or else as it is
 unfoldable pub byteText : ℕ → List ℕ
-byteText x = pick (ltb x 32) (escapeByte Json x) (pick (eqb x 34 || eqb x 92) (92 ∷ x ∷ []) (x ∷ []))
+byteText x = pick (ltb x 32) (escapeByte AsJson x) (pick (eqb x doubleQuote || eqb x backslash) (backslash ∷ x ∷ []) (x ∷ []))
 
 unfoldable pub bytesText : List ℕ → List ℕ
 bytesText [] = []
@@ -41,7 +43,7 @@ pub record Texted (s : List ℕ) (from at o : ℕ) (out : List ℕ) (r : ℕ) (n
 -- the bytes before a place are literal characters and stand behind the opening quote
 pub record Fronted (s out : List ℕ) (at : ℕ) (new : List ℕ) : Type 0 where
   pub run : Running Json s 0 at
-  pub stored : new ≡ sets out 0 (34 ∷ take at s)
+  pub stored : new ≡ sets out 0 (doubleQuote ∷ take at s)
 
 -- the same from one place to another, whatever stood in the buffer before
 abbrev pub Onward : List ℕ → ℕ → ℕ → List ℕ → List ℕ → Type 0

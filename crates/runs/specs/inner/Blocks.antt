@@ -6,6 +6,7 @@ use mathlib.Core.List.{List}
 use mathlib.Core.Path.{_≡_}
 use lib.Dec.{leb}
 use lib.ListN.{length, getD, drop}
+use Rattle.prelude.specs.Bytes.{backslash}
 use Rattle.utf8.specs.Utf8.{tail}
 use Rattle.units.specs.declared.styles.Style.{Style}
 use Rattle.units.specs.Units.{literalLen, literalRun}
@@ -25,14 +26,14 @@ pub record Ran (st : Style) (s : List ℕ) (from end at : ℕ) : Type 0 where
 pub record Alone (q b : ℕ) : Type 0 where
   pub printed : 32 ≤ b
   pub ascii : b < 128
-  pub no-slash : b ≡ 92 → ⊥
+  pub no-slash : b ≡ backslash → ⊥
   pub no-quote : b ≡ q → ⊥
 
 -- a byte of a literal character of one or two bytes, and the byte behind it: a continuation behind a lead and nowhere else
 pub record Paired (q b c : ℕ) : Type 0 where
   pub printed : 32 ≤ b
   pub short : b < 0xe0
-  pub no-slash : b ≡ 92 → ⊥
+  pub no-slash : b ≡ backslash → ⊥
   pub no-quote : b ≡ q → ⊥
   pub lead : 0xc0 ≤ b → 0xc2 ≤ b
   pub behind-lead : 0xc0 ≤ b → tail c ≡ true
@@ -43,7 +44,7 @@ pub record Paired (q b c : ℕ) : Type 0 where
 pub record Tripled (q b c d : ℕ) : Type 0 where
   pub printed : 32 ≤ b
   pub short : b < 0xf0
-  pub no-slash : b ≡ 92 → ⊥
+  pub no-slash : b ≡ backslash → ⊥
   pub no-quote : b ≡ q → ⊥
   pub lead : 0xc0 ≤ b → 0xc2 ≤ b
   pub after-e0 : b ≡ 0xe0 → 0xa0 ≤ c
@@ -65,9 +66,9 @@ abbrev pub AllTripled : ℕ → List ℕ → ℕ → ℕ → Type 0
 AllTripled q s at n = (k : ℕ) → k < n → Tripled q (getD s (at + k) 0) (getD s (at + k + 1) 0) (getD s (at + k + 2) 0)
 
 -- how many bytes at a place belong to the character before it, by whether the first is a continuation
-abbrev pub taken : Bool → ℕ
-taken true = 1
-taken false = 0
+abbrev pub continued : Bool → ℕ
+continued true = 1
+continued false = 0
 
 -- the same of up to two bytes, by whether each is a continuation
 abbrev pub owed : Bool → Bool → ℕ

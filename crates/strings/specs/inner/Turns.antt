@@ -10,9 +10,9 @@ use Rattle.units.specs.Styles.{quote, StringUnit, close, took, fault}
 use Rattle.units.specs.Units.{unitAt, literalRun}
 use Rattle.strings.specs.declared.read.Mark.{Mark}
 use Rattle.strings.specs.declared.read.Mark.the-variants.{Opens, Unopened}
-use Rattle.strings.specs.declared.read.Step.{Step}
-use Rattle.strings.specs.declared.read.Step.the-variants.{On, Ended, Failed}
-use Rattle.strings.specs.Read.{StringRead, accepted, refused, more, readUnits, whole, fitted, Opening, opens, unopened}
+use Rattle.strings.specs.declared.read.Turned.{Turned}
+use Rattle.strings.specs.declared.read.Turned.the-variants.{On, Finish, Refuse}
+use Rattle.strings.specs.Read.{StringRead, accepted, refused, more, readUnits, nothingBehind, fitted, Opening, opens, unopened}
 
 -- the code's opening mark as the definition's
 abbrev pub openingOf : Mark → Opening
@@ -21,25 +21,25 @@ openingOf Unopened = unopened
 
 -- a whole text whose opening mark is n bytes long, read into a room of so many bytes
 abbrev pub readBehind : Style → ℕ → ℕ → List ℕ → StringRead
-readBehind st n room s = fitted room (whole (length s) (readUnits st n 0 (drop n s)))
+readBehind st n room s = fitted room (nothingBehind (length s) (readUnits st n 0 (drop n s)))
 
 -- behind a unit at the place `at`, with o bytes before it
-abbrev pub stepOf : StringUnit → ℕ → ℕ → Step
-stepOf close at o = Ended (at + 1) o
-stepOf (took n bs) at o = On (at + n) (o + length bs)
-stepOf (fault number) at o = Failed number at
+abbrev pub unitTurn : StringUnit → ℕ → ℕ → Turned
+unitTurn close at o = Finish (at + 1) o
+unitTurn (took n bs) at o = On (at + n) (o + length bs)
+unitTurn (fault number) at o = Refuse number at
 
-abbrev pub bytesOf : StringUnit → List ℕ
-bytesOf close = []
-bytesOf (took n bs) = bs
-bytesOf (fault number) = []
+abbrev pub unitBytes : StringUnit → List ℕ
+unitBytes close = []
+unitBytes (took n bs) = bs
+unitBytes (fault number) = []
 
 -- behind the run and the unit at the head of r, and the bytes that they denote
-unfoldable pub turnOf : Style → List ℕ → ℕ → ℕ → Step
-turnOf st r at o = stepOf (unitAt st (drop (literalRun st 0 r) r)) (at + literalRun st 0 r) (o + literalRun st 0 r)
+unfoldable pub turnOf : Style → List ℕ → ℕ → ℕ → Turned
+turnOf st r at o = unitTurn (unitAt st (drop (literalRun st 0 r) r)) (at + literalRun st 0 r) (o + literalRun st 0 r)
 
 unfoldable pub turnBytes : Style → List ℕ → List ℕ
-turnBytes st r = take (literalRun st 0 r) r ++ bytesOf (unitAt st (drop (literalRun st 0 r) r))
+turnBytes st r = take (literalRun st 0 r) r ++ unitBytes (unitAt st (drop (literalRun st 0 r) r))
 
 -- the closing quote stands at a place and is the text's last byte
 pub record Closed (st : Style) (s : List ℕ) (e : ℕ) : Type 0 where

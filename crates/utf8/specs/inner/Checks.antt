@@ -10,12 +10,12 @@ abbrev pub AllAscii : List ℕ → ℕ → ℕ → Type 0
 AllAscii s at n = (k : ℕ) → k < n → getD s (at + k) 0 < 0x80
 
 -- what is left from a place on is valid exactly if it is from another on
-pub record Checked (s : List ℕ) (from at : ℕ) : Type 0 where
+pub record ValidAs (s : List ℕ) (from at : ℕ) : Type 0 where
   pub onward : from ≤ at
   pub inside : at ≤ length s
   pub same : validFrom 0 (drop at s) ≡ validFrom 0 (drop from s)
 
 -- the same, and if that place is before the end, no character stands there
-pub record CheckedUntil (s : List ℕ) (from end at : ℕ) : Type 0 where
-  pub checked : Checked s from at
+pub record ValidUntil (s : List ℕ) (from end at : ℕ) : Type 0 where
+  pub alike : ValidAs s from at
   pub stop : at < end → charLen (drop at s) ≡ 0

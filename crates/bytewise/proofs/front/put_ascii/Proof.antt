@@ -9,8 +9,8 @@ use Rattle.bytewise.proofs.Fronts.{onward-then}
 returns : tie.Need-returns
 returns c = search needs
 
-put-fours-requires : tie.Need-put-fours-requires
-put-fours-requires c κs = search needs
+put-two-fours-requires : tie.Need-put-two-fours-requires
+put-two-fours-requires c κs = search needs
 
 same-length : tie.Need-same-length
 same-length c = search needs
@@ -18,8 +18,8 @@ same-length c = search needs
 returns-2 : tie.Need-returns-2
 returns-2 c = search needs
 
-put-eights-requires : tie.Need-put-eights-requires
-put-eights-requires c κs = search needs
+put-two-eights-requires : tie.Need-put-two-eights-requires
+put-two-eights-requires c κs = search needs
 
 same-length-2 : tie.Need-same-length-2
 same-length-2 c = search needs
@@ -45,10 +45,10 @@ put-ascii-spec =
     tie.close
     (tie.spec
     returns
-    put-fours-requires
+    put-two-fours-requires
     same-length
     returns-2
-    put-eights-requires
+    put-two-eights-requires
     same-length-2
     returns-3
     put-blocks-requires

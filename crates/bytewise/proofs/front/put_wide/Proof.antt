@@ -19,15 +19,15 @@ put-threes-requires c κs = search needs
 put-last-threes-requires : tie.Need-put-last-threes-requires
 put-last-threes-requires c κs = search needs
 
-put-singles-requires : tie.Need-put-singles-requires
-put-singles-requires c κs = search needs
+put-one-by-one-requires : tie.Need-put-one-by-one-requires
+put-one-by-one-requires c κs = search needs
 
 same-length : tie.Need-same-length
 same-length c = search needs
 
 returns-3 : tie.Need-returns-3
 returns-3 c =
-    (c .before .before .put-singles .ensures .0, λ o f. c .before .before .put-singles .ensures .1 o (c .before .before .before .before .before .before .put-last-threes .ensures .1 o (c .before .before .before .before .before .before .before .before .before .before .put-threes .ensures .1 o f)))
+    (c .before .before .put-one-by-one .ensures .0, λ o f. c .before .before .put-one-by-one .ensures .1 o (c .before .before .before .before .before .before .put-last-threes .ensures .1 o (c .before .before .before .before .before .before .before .before .before .before .put-threes .ensures .1 o f)))
 
 pub put-wide-spec : {M : Type 1} → statement M
 put-wide-spec =
@@ -38,6 +38,6 @@ put-wide-spec =
     returns-2
     put-threes-requires
     put-last-threes-requires
-    put-singles-requires
+    put-one-by-one-requires
     same-length
     returns-3)

@@ -4,7 +4,8 @@ use borrow.Author.Needs.{needs}
 use Rattle.runs.proofs.blocks.last_alone.Statement.{statement}
 use Rattle.runs.proofs.blocks.last_alone.Tie as tie
 use native.Mathlib.Omega.{arith}
-use Rattle.runs.proofs.BlockLaws.{or-left, or-right, over-two, least-near}
+use Rattle.prelude.proofs.Cases.{or-left, or-right}
+use Rattle.runs.proofs.BlockLaws.{over-two, least-near}
 
 returns : tie.Need-returns
 returns c = search needs

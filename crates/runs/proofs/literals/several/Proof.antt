@@ -8,12 +8,12 @@ use Rattle.runs.proofs.LiteralRuns.{begun}
 sub-if1 : tie.Need-sub-if1
 sub-if1 c = search needs
 
-eights-requires : tie.Need-eights-requires
-eights-requires c κs = search needs
+plain-eights-requires : tie.Need-plain-eights-requires
+plain-eights-requires c κs = search needs
 
 returns : tie.Need-returns
 returns c =
-    begun _ _ _ _ (c .before .before .before .pre .1) (c .eights .ensures)
+    begun _ _ _ _ (c .before .before .before .pre .1) (c .plain-eights .ensures)
 
 strides-requires : tie.Need-strides-requires
 strides-requires c κs = search needs
@@ -22,4 +22,4 @@ returns-2 : tie.Need-returns-2
 returns-2 c = search needs
 
 pub several-spec : {M : Type 1} → statement M
-several-spec = tie.close (tie.spec sub-if1 eights-requires returns strides-requires returns-2)
+several-spec = tie.close (tie.spec sub-if1 plain-eights-requires returns strides-requires returns-2)

@@ -17,14 +17,14 @@ json-requires c κs = search needs
 enum-told-2 : tie.Need-enum-told-2
 enum-told-2 c = search needs
 
-singles-requires : tie.Need-singles-requires
-singles-requires c κs = search needs
+one-by-one-requires : tie.Need-one-by-one-requires
+one-by-one-requires c κs = search needs
 
 enum-told-3 : tie.Need-enum-told-3
 enum-told-3 c = search needs
 
-singles-requires-2 : tie.Need-singles-requires-2
-singles-requires-2 c κs = search needs
+one-by-one-requires-2 : tie.Need-one-by-one-requires-2
+one-by-one-requires-2 c κs = search needs
 
 returns : tie.Need-returns
 returns c =
@@ -43,9 +43,9 @@ short-spec =
     enum-told
     json-requires
     enum-told-2
-    singles-requires
+    one-by-one-requires
     enum-told-3
-    singles-requires-2
+    one-by-one-requires-2
     returns
     returns-2
     returns-3)

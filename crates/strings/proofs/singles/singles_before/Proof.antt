@@ -60,12 +60,12 @@ returns : tie.Need-returns Inv-loop μ-loop
 returns c =
     c .before .before .before .before .before .loop .inv .0
 
-add-escaped : tie.Need-add-escaped Inv-loop μ-loop
-add-escaped c =
+add-single-at : tie.Need-add-single-at Inv-loop μ-loop
+add-single-at c =
     omega (arith, (c .before .before .before .before .before .before .before .before .pre .3 (omega (arith, c .before .before .before .before .before .loop .inv .0 .onward))))
 
-escaped-requires : tie.Need-escaped-requires Inv-loop μ-loop
-escaped-requires c κs =
+single-at-requires : tie.Need-single-at-requires Inv-loop μ-loop
+single-at-requires c κs =
     omega (arith, (c .before .before .before .before .before .before .before .before .pre .3 (omega (arith, c .before .before .before .before .before .loop .inv .0 .onward))))
 
 same-length-2 : tie.Need-same-length-2 Inv-loop μ-loop
@@ -82,7 +82,7 @@ put-requires-2 c κs =
 
 add-at-2 : tie.Need-add-at-2 Inv-loop μ-loop
 add-at-2 c =
-    omega (arith, one-inside (c .before .before .before .before .before .before .before .before .before .before .before .before .before .before .args .style) (now (c .before .before .before .before .before .before .before .before .before .before .before .before .before .before .args .s)) (c .before .before .before .before .before .before .before .before .before .before .before .loop .at) _ _ (c .before .before .before .before .before .before .before .before .before .before .before .loop .inv .0 .inside) (slash-unit (c .before .before .before .before .before .before .before .before .before .before .before .before .before .before .args .style) (now (c .before .before .before .before .before .before .before .before .before .before .before .before .before .before .args .s)) (c .before .before .before .before .before .before .before .before .before .before .before .loop .at) (omega (arith, (c .before .before .before .before .before .before .before .before .before .before .before .before .before .before .pre .3 (omega (arith, c .before .before .before .before .before .before .before .before .before .before .before .loop .inv .0 .onward))))) (c .before .before .before .before .before .before .if2 .left) ∙ c .before .before .before .before .before .escaped .ensures (omega arith)))
+    omega (arith, one-inside (c .before .before .before .before .before .before .before .before .before .before .before .before .before .before .args .style) (now (c .before .before .before .before .before .before .before .before .before .before .before .before .before .before .args .s)) (c .before .before .before .before .before .before .before .before .before .before .before .loop .at) _ _ (c .before .before .before .before .before .before .before .before .before .before .before .loop .inv .0 .inside) (slash-unit (c .before .before .before .before .before .before .before .before .before .before .before .before .before .before .args .style) (now (c .before .before .before .before .before .before .before .before .before .before .before .before .before .before .args .s)) (c .before .before .before .before .before .before .before .before .before .before .before .loop .at) (omega (arith, (c .before .before .before .before .before .before .before .before .before .before .before .before .before .before .pre .3 (omega (arith, c .before .before .before .before .before .before .before .before .before .before .before .loop .inv .0 .onward))))) (c .before .before .before .before .before .before .if2 .left) ∙ c .before .before .before .before .before .single-at .ensures (omega arith)))
 
 add-count-2 : tie.Need-add-count-2 Inv-loop μ-loop
 add-count-2 c =
@@ -90,11 +90,11 @@ add-count-2 c =
 
 loop-less-2 : tie.Need-loop-less-2 Inv-loop μ-loop
 loop-less-2 c =
-    omega (arith, one-inside (c .before .before .before .before .before .before .before .before .before .before .before .before .before .before .args .style) (now (c .before .before .before .before .before .before .before .before .before .before .before .before .before .before .args .s)) (c .before .before .before .before .before .before .before .before .before .before .before .loop .at) _ _ (c .before .before .before .before .before .before .before .before .before .before .before .loop .inv .0 .inside) (slash-unit (c .before .before .before .before .before .before .before .before .before .before .before .before .before .before .args .style) (now (c .before .before .before .before .before .before .before .before .before .before .before .before .before .before .args .s)) (c .before .before .before .before .before .before .before .before .before .before .before .loop .at) (omega (arith, (c .before .before .before .before .before .before .before .before .before .before .before .before .before .before .pre .3 (omega (arith, c .before .before .before .before .before .before .before .before .before .before .before .loop .inv .0 .onward))))) (c .before .before .before .before .before .before .if2 .left) ∙ c .before .before .before .before .before .escaped .ensures (omega arith)))
+    omega (arith, one-inside (c .before .before .before .before .before .before .before .before .before .before .before .before .before .before .args .style) (now (c .before .before .before .before .before .before .before .before .before .before .before .before .before .before .args .s)) (c .before .before .before .before .before .before .before .before .before .before .before .loop .at) _ _ (c .before .before .before .before .before .before .before .before .before .before .before .loop .inv .0 .inside) (slash-unit (c .before .before .before .before .before .before .before .before .before .before .before .before .before .before .args .style) (now (c .before .before .before .before .before .before .before .before .before .before .before .before .before .before .args .s)) (c .before .before .before .before .before .before .before .before .before .before .before .loop .at) (omega (arith, (c .before .before .before .before .before .before .before .before .before .before .before .before .before .before .pre .3 (omega (arith, c .before .before .before .before .before .before .before .before .before .before .before .loop .inv .0 .onward))))) (c .before .before .before .before .before .before .if2 .left) ∙ c .before .before .before .before .before .single-at .ensures (omega arith)))
 
 loop-again-2 : tie.Need-loop-again-2 Inv-loop μ-loop
 loop-again-2 c =
-    (and-one (c .before .before .before .before .before .before .before .before .before .before .before .loop .inv .0) _ _ _ (slash-unit (c .before .before .before .before .before .before .before .before .before .before .before .before .before .before .args .style) (now (c .before .before .before .before .before .before .before .before .before .before .before .before .before .before .args .s)) (c .before .before .before .before .before .before .before .before .before .before .before .loop .at) (omega (arith, (c .before .before .before .before .before .before .before .before .before .before .before .before .before .before .pre .3 (omega (arith, c .before .before .before .before .before .before .before .before .before .before .before .loop .inv .0 .onward))))) (c .before .before .before .before .before .before .if2 .left) ∙ c .before .before .before .before .before .escaped .ensures (omega arith)) (c .before .before .put2 .ensures), c .before .before .put2 .kept .1 .1 .0 ∙ c .before .before .before .before .before .before .before .before .before .before .before .loop .inv .1)
+    (and-one (c .before .before .before .before .before .before .before .before .before .before .before .loop .inv .0) _ _ _ (slash-unit (c .before .before .before .before .before .before .before .before .before .before .before .before .before .before .args .style) (now (c .before .before .before .before .before .before .before .before .before .before .before .before .before .before .args .s)) (c .before .before .before .before .before .before .before .before .before .before .before .loop .at) (omega (arith, (c .before .before .before .before .before .before .before .before .before .before .before .before .before .before .pre .3 (omega (arith, c .before .before .before .before .before .before .before .before .before .before .before .loop .inv .0 .onward))))) (c .before .before .before .before .before .before .if2 .left) ∙ c .before .before .before .before .before .single-at .ensures (omega arith)) (c .before .before .put2 .ensures), c .before .before .put2 .kept .1 .1 .0 ∙ c .before .before .before .before .before .before .before .before .before .before .before .loop .inv .1)
 
 same-length-3 : tie.Need-same-length-3 Inv-loop μ-loop
 same-length-3 c =
@@ -120,8 +120,8 @@ singles-before-spec =
     loop-again
     same-length
     returns
-    add-escaped
-    escaped-requires
+    add-single-at
+    single-at-requires
     same-length-2
     returns-2
     put-requires-2

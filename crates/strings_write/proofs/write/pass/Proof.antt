@@ -12,12 +12,16 @@ use Rattle.strings_write.specs.Write.{quoted}
 use Rattle.strings_write.proofs.Writing.{Writing, begun, escape-moved, escape-stuck, run-inside, run-moved, run-stuck, kept, last, stopped, finished, mark-long}
 
 abbrev Inv-loop : tie.InvT-loop
-Inv-loop t style s room out₀ first cap o₀ at₀ out o at =
-    Writing style s cap out₀ at o out
+Inv-loop t form s room out₀ style first cap o₀ at₀ out o at =
+    Writing form s cap out₀ at o out
 
 abbrev μ-loop : tie.MeasureT-loop
-μ-loop t style s room out₀ first cap o₀ at₀ out o at =
+μ-loop t form s room out₀ style first cap o₀ at₀ out o at =
     length s - at
+
+style-of-requires : tie.Need-style-of-requires Inv-loop μ-loop
+style-of-requires c κs =
+    tt
 
 put-mark-requires : tie.Need-put-mark-requires Inv-loop μ-loop
 put-mark-requires c κs =
@@ -29,7 +33,7 @@ same-length c =
 
 returns : tie.Need-returns Inv-loop μ-loop
 returns c =
-    stopped (mark-long (c .before .before .before .before .before .before .before .args .style) (now (c .before .before .before .before .before .before .before .args .s)) (c .before .before .before .before .before .before .before .args .room) _ (c .before .before .before .put-mark .ensures .0) (c .if1 .taken))
+    stopped (mark-long (c .before .before .before .before .before .before .before .before .args .form) (now (c .before .before .before .before .before .before .before .before .args .s)) (c .before .before .before .before .before .before .before .before .args .room) _ (c .before .before .before .put-mark .ensures .0) (c .if1 .taken))
 
 sub-cap : tie.Need-sub-cap Inv-loop μ-loop
 sub-cap c =
@@ -41,7 +45,7 @@ loop-holds c =
 
 short-run-requires : tie.Need-short-run-requires Inv-loop μ-loop
 short-run-requires c κs =
-    (c .before .before .before .before .before .before .before .before .before .pre, c .before .loop .inv .inside)
+    (c .before .before .before .before .before .before .before .before .before .before .pre, c .before .loop .inv .inside)
 
 shared-slice-read-x : tie.Need-shared-slice-read-x Inv-loop μ-loop
 shared-slice-read-x c =
@@ -57,11 +61,11 @@ sub-if3 c =
 
 same-length-2 : tie.Need-same-length-2 Inv-loop μ-loop
 same-length-2 c =
-    kept (c .before .before .before .before .before .before .loop .inv) (now (c .before .before .before .before .before .before .before .before .before .before .before .before .before .before .args .out)) (c .before .before .before .before .before .before .before .before .before .before .put-mark .ensures .1)
+    kept (c .before .before .before .before .before .before .loop .inv) (now (c .before .before .before .before .before .before .before .before .before .before .before .before .before .before .before .args .out)) (c .before .before .before .before .before .before .before .before .before .before .put-mark .ensures .1)
 
 returns-2 : tie.Need-returns-2 Inv-loop μ-loop
 returns-2 c =
-    let g : c .before .before .before .before .before .before .before .before .before .before .before .before .before .before .args .room < length (quoted (c .before .before .before .before .before .before .before .before .before .before .before .before .before .before .args .style) (now (c .before .before .before .before .before .before .before .before .before .before .before .before .before .before .args .s))) = omega (arith, escape-stuck (c .before .before .before .before .before .before .loop .inv) _ _ (c .before .before .before .before .before .loop-test .taken) (c .before .before .before .before .short-run .ensures) (c .before .before .before .if2 .taken) (c .before .escape-len .ensures) (c .if3 .taken)) in
+    let g : c .before .before .before .before .before .before .before .before .before .before .before .before .before .before .before .args .room < length (quoted (c .before .before .before .before .before .before .before .before .before .before .before .before .before .before .before .args .form) (now (c .before .before .before .before .before .before .before .before .before .before .before .before .before .before .before .args .s))) = omega (arith, escape-stuck (c .before .before .before .before .before .before .loop .inv) (c .before .before .before .before .before .before .before .before .before .before .before .before .style-of .ensures) _ _ (c .before .before .before .before .before .loop-test .taken) (c .before .before .before .before .short-run .ensures) (c .before .before .before .if2 .taken) (c .before .escape-len .ensures) (c .if3 .taken)) in
     stopped g
 
 put-escape-requires : tie.Need-put-escape-requires Inv-loop μ-loop
@@ -82,7 +86,7 @@ loop-less c =
 
 loop-again : tie.Need-loop-again Inv-loop μ-loop
 loop-again c =
-    escape-moved (c .before .before .before .before .before .before .before .before .before .before .loop .inv) _ _ (c .before .before .before .before .before .before .before .before .before .loop-test .taken) (c .before .before .before .before .before .before .before .before .short-run .ensures) (c .before .before .before .before .before .before .before .if2 .taken) (c .before .before .before .before .before .escape-len .ensures) (c .before .before .before .before .if3 .left) (c .before .before .put-escape .ensures)
+    escape-moved (c .before .before .before .before .before .before .before .before .before .before .loop .inv) (c .before .before .before .before .before .before .before .before .before .before .before .before .before .before .before .before .style-of .ensures) _ _ (c .before .before .before .before .before .before .before .before .before .loop-test .taken) (c .before .before .before .before .before .before .before .before .short-run .ensures) (c .before .before .before .before .before .before .before .if2 .taken) (c .before .before .before .before .before .escape-len .ensures) (c .before .before .before .before .if3 .left) (c .before .before .put-escape .ensures)
 
 sub-n : tie.Need-sub-n Inv-loop μ-loop
 sub-n c =
@@ -94,16 +98,16 @@ sub-if4 c =
 
 same-length-3 : tie.Need-same-length-3 Inv-loop μ-loop
 same-length-3 c =
-    kept (c .before .before .before .before .loop .inv) (now (c .before .before .before .before .before .before .before .before .before .before .before .before .args .out)) (c .before .before .before .before .before .before .before .before .put-mark .ensures .1)
+    kept (c .before .before .before .before .loop .inv) (now (c .before .before .before .before .before .before .before .before .before .before .before .before .before .args .out)) (c .before .before .before .before .before .before .before .before .put-mark .ensures .1)
 
 returns-3 : tie.Need-returns-3 Inv-loop μ-loop
 returns-3 c =
-    let g : c .before .before .before .before .before .before .before .before .before .before .before .before .args .room < length (quoted (c .before .before .before .before .before .before .before .before .before .before .before .before .args .style) (now (c .before .before .before .before .before .before .before .before .before .before .before .before .args .s))) = omega (arith, run-stuck (c .before .before .before .before .loop .inv) _ (c .before .before .before .loop-test .taken) (c .before .before .short-run .ensures) (c .if4 .taken)) in
+    let g : c .before .before .before .before .before .before .before .before .before .before .before .before .before .args .room < length (quoted (c .before .before .before .before .before .before .before .before .before .before .before .before .before .args .form) (now (c .before .before .before .before .before .before .before .before .before .before .before .before .before .args .s))) = omega (arith, run-stuck (c .before .before .before .before .loop .inv) (c .before .before .before .before .before .before .before .before .before .before .style-of .ensures) _ (c .before .before .before .loop-test .taken) (c .before .before .short-run .ensures) (c .if4 .taken)) in
     stopped g
 
 copy-run-requires : tie.Need-copy-run-requires Inv-loop μ-loop
 copy-run-requires c κs =
-    run-inside (c .before .before .before .before .before .loop .inv) _ (c .before .before .before .before .loop-test .taken) (c .before .before .before .short-run .ensures)
+    run-inside (c .before .before .before .before .before .loop .inv) (c .before .before .before .before .before .before .before .before .before .before .before .style-of .ensures) _ (c .before .before .before .before .loop-test .taken) (c .before .before .before .short-run .ensures)
 
 add-o-2 : tie.Need-add-o-2 Inv-loop μ-loop
 add-o-2 c =
@@ -111,14 +115,14 @@ add-o-2 c =
 
 loop-less-2 : tie.Need-loop-less-2 Inv-loop μ-loop
 loop-less-2 c =
-    omega (arith, c .before .before .before .before .before .before .short-run .ensures, run-inside (c .before .before .before .before .before .before .before .before .loop .inv) _ (c .before .before .before .before .before .before .before .loop-test .taken) (c .before .before .before .before .before .before .short-run .ensures))
+    omega (arith, c .before .before .before .before .before .before .short-run .ensures, run-inside (c .before .before .before .before .before .before .before .before .loop .inv) (c .before .before .before .before .before .before .before .before .before .before .before .before .before .before .style-of .ensures) _ (c .before .before .before .before .before .before .before .loop-test .taken) (c .before .before .before .before .before .before .short-run .ensures))
 
 loop-again-2 : tie.Need-loop-again-2 Inv-loop μ-loop
 loop-again-2 c =
-    run-moved (c .before .before .before .before .before .before .before .before .loop .inv) _ (c .before .before .before .before .before .before .before .loop-test .taken) (c .before .before .before .before .before .before .short-run .ensures) (c .before .before .before .before .if4 .left) (c .before .before .copy-run .ensures)
+    run-moved (c .before .before .before .before .before .before .before .before .loop .inv) (c .before .before .before .before .before .before .before .before .before .before .before .before .before .before .style-of .ensures) _ (c .before .before .before .before .before .before .before .loop-test .taken) (c .before .before .before .before .before .before .short-run .ensures) (c .before .before .before .before .if4 .left) (c .before .before .copy-run .ensures)
 
-quote-of-requires : tie.Need-quote-of-requires Inv-loop μ-loop
-quote-of-requires c κs =
+quote-in-requires : tie.Need-quote-in-requires Inv-loop μ-loop
+quote-in-requires c κs =
     tt
 
 put-requires : tie.Need-put-requires Inv-loop μ-loop
@@ -131,12 +135,12 @@ add-result c =
 
 same-length-4 : tie.Need-same-length-4 Inv-loop μ-loop
 same-length-4 c =
-    ap length (c .before .before .put .ensures) ∙ simp length-set (kept (c .before .before .before .before .before .before .loop .inv) (now (c .before .before .before .before .before .before .before .before .before .before .before .before .before .before .args .out)) (c .before .before .before .before .before .before .before .before .before .before .put-mark .ensures .1))
+    ap length (c .before .before .put .ensures) ∙ simp length-set (kept (c .before .before .before .before .before .before .loop .inv) (now (c .before .before .before .before .before .before .before .before .before .before .before .before .before .before .before .args .out)) (c .before .before .before .before .before .before .before .before .before .before .put-mark .ensures .1))
 
 returns-4 : tie.Need-returns-4 Inv-loop μ-loop
 returns-4 c =
-    let h : length (now (c .before .before .before .before .before .before .before .before .before .before .before .before .before .before .args .s)) ≤ c .before .before .before .before .before .before .loop .at = omega arith in
-    let e = last (c .before .before .before .before .before .before .loop .inv) (now (c .before .before .before .before .before .before .before .before .before .before .before .before .before .before .args .out)) (c .before .before .before .before .before .before .before .before .before .before .put-mark .ensures .1) h (rw (c .before .before .before .before .quote-of .ensures) at (c .before .before .put .ensures)) in
+    let h : length (now (c .before .before .before .before .before .before .before .before .before .before .before .before .before .before .before .args .s)) ≤ c .before .before .before .before .before .before .loop .at = omega arith in
+    let e = last (c .before .before .before .before .before .before .loop .inv) (now (c .before .before .before .before .before .before .before .before .before .before .before .before .before .before .before .args .out)) (c .before .before .before .before .before .before .before .before .before .before .put-mark .ensures .1) h (rw (c .before .before .before .before .quote-in .ensures) at (c .before .before .put .ensures)) in
     finished (omega (arith, e .0, c .before .before .before .before .before .before .loop .inv .below)) (e .0) (e .1)
 
 pub pass-spec : {M : Type 1} → statement M
@@ -145,6 +149,7 @@ pass-spec =
     (tie.spec
     Inv-loop
     μ-loop
+    style-of-requires
     put-mark-requires
     same-length
     returns
@@ -169,7 +174,7 @@ pass-spec =
     add-o-2
     loop-less-2
     loop-again-2
-    quote-of-requires
+    quote-in-requires
     put-requires
     add-result
     same-length-4

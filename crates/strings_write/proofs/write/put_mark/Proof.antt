@@ -1,14 +1,9 @@
--- Style by style, the bytes copied are the mark.
+-- Form by form, the bytes copied are the mark.
 -- Assumes nothing.
 use borrow.Author.Needs.{needs}
 use Rattle.strings_write.proofs.write.put_mark.Statement.{statement}
 use Rattle.strings_write.proofs.write.put_mark.Tie as tie
 use denote.Ref.{now}
-use mathlib.Core.Path.{ap, refl, _∙_}
-use lib.ListN.{length}
-use lib.Seq.{sets}
-use Rattle.strings_write.specs.Write.{mark}
-use mathlib.Core.Path.{sym}
 use Rattle.strings_write.proofs.Writing.{stored-mark}
 
 enum-told : tie.Need-enum-told
@@ -26,35 +21,19 @@ slice-aggregate-copy-run c = search needs
 copy-run-requires : tie.Need-copy-run-requires
 copy-run-requires c κs = search needs
 
-enum-told-3 : tie.Need-enum-told-3
-enum-told-3 c = search needs
-
-slice-aggregate-copy-run-2 : tie.Need-slice-aggregate-copy-run-2
-slice-aggregate-copy-run-2 c = search needs
-
-copy-run-requires-2 : tie.Need-copy-run-requires-2
-copy-run-requires-2 c κs = search needs
-
 same-length : tie.Need-same-length
 same-length c = search needs
 
 returns : tie.Need-returns
 returns c =
-    stored-mark (c .before .before .before .before .before .before .before .args .style) _ (now (c .before .before .before .before .before .before .before .args .out)) _ (c .before .before .before .before .enum-told .given .1) (c .before .before .put .ensures)
+    stored-mark (c .before .before .before .before .before .before .before .args .form) _ (now (c .before .before .before .before .before .before .before .args .out)) _ (c .before .before .before .before .enum-told .given .1) (c .before .before .put .ensures)
 
 same-length-2 : tie.Need-same-length-2
 same-length-2 c = search needs
 
 returns-2 : tie.Need-returns-2
 returns-2 c =
-    stored-mark (c .before .before .before .before .before .before .before .before .args .style) _ (now (c .before .before .before .before .before .before .before .before .args .out)) _ (c .before .before .before .before .before .enum-told2 .given .1) (c .before .before .copy-run .ensures)
-
-same-length-3 : tie.Need-same-length-3
-same-length-3 c = search needs
-
-returns-3 : tie.Need-returns-3
-returns-3 c =
-    stored-mark (c .before .before .before .before .before .before .before .before .args .style) _ (now (c .before .before .before .before .before .before .before .before .args .out)) _ (c .before .before .before .before .before .enum-told3 .given .1) (c .before .before .copy-run2 .ensures)
+    stored-mark (c .before .before .before .before .before .before .before .before .args .form) _ (now (c .before .before .before .before .before .before .before .before .args .out)) _ (c .before .before .before .before .before .enum-told2 .given .1) (c .before .before .copy-run .ensures)
 
 pub put-mark-spec : {M : Type 1} → statement M
 put-mark-spec =
@@ -65,12 +44,7 @@ put-mark-spec =
     enum-told-2
     slice-aggregate-copy-run
     copy-run-requires
-    enum-told-3
-    slice-aggregate-copy-run-2
-    copy-run-requires-2
     same-length
     returns
     same-length-2
-    returns-2
-    same-length-3
-    returns-3)
+    returns-2)

@@ -19,7 +19,7 @@ same-length c = search needs
 
 returns : tie.Need-returns
 returns c =
-    one-pass (quoted (c .before .before .before .before .before .before .before .before .args .style) (now (c .before .before .before .before .before .before .before .before .args .s))) (now (c .before .before .before .before .before .before .before .before .args .out)) (c .before .before .before .before .before .roomy .ensures (c .before .before .before .before .if1 .taken) (now (c .before .before .before .before .before .before .before .before .args .s)) refl) (c .before .before .pass .ensures)
+    one-pass (quoted (c .before .before .before .before .before .before .before .before .args .form) (now (c .before .before .before .before .before .before .before .before .args .s))) (now (c .before .before .before .before .before .before .before .before .args .out)) (c .before .before .before .before .before .roomy .ensures (c .before .before .before .before .if1 .taken) (now (c .before .before .before .before .before .before .before .before .args .s)) refl) (c .before .before .pass .ensures)
 
 slice-relend-prefix-pass : tie.Need-slice-relend-prefix-pass
 slice-relend-prefix-pass c = search needs
@@ -35,7 +35,7 @@ same-length-2 c = search needs
 
 returns-2 : tie.Need-returns-2
 returns-2 c =
-    too-long (quoted (c .before .before .before .before .before .before .before .before .before .args .style) (now (c .before .before .before .before .before .before .before .before .before .args .s))) (c .before .before .before .pass2 .last .1 .1 .1 .1 .0) (now (c .before .before .before .before .before .before .before .before .before .args .out)) (quoted-positive (c .before .before .before .before .before .before .before .before .before .args .style) (now (c .before .before .before .before .before .before .before .before .before .args .s))) (c .before .before .before .pass2 .kept .1 .1 .1 .1 .0) (c .before .before .before .pass2 .ensures) (c .if2 .taken)
+    too-long (quoted (c .before .before .before .before .before .before .before .before .before .args .form) (now (c .before .before .before .before .before .before .before .before .before .args .s))) (c .before .before .before .pass2 .last .1 .1 .1 .1 .0) (now (c .before .before .before .before .before .before .before .before .before .args .out)) (quoted-positive (c .before .before .before .before .before .before .before .before .before .args .form) (now (c .before .before .before .before .before .before .before .before .before .args .s))) (c .before .before .before .pass2 .kept .1 .1 .1 .1 .0) (c .before .before .before .pass2 .ensures) (c .if2 .taken)
 
 pass-requires-3 : tie.Need-pass-requires-3
 pass-requires-3 c κs = search needs
@@ -45,7 +45,7 @@ same-length-3 c = search needs
 
 returns-3 : tie.Need-returns-3
 returns-3 c =
-    both-passes (quoted (c .before .before .before .before .before .before .before .before .before .before .before .before .before .args .style) (now (c .before .before .before .before .before .before .before .before .before .before .before .before .before .args .s))) (c .before .before .before .before .before .before .before .pass2 .last .1 .1 .1 .1 .0) (now (c .before .before .before .before .before .before .before .before .before .before .before .before .before .args .out)) (quoted-positive (c .before .before .before .before .before .before .before .before .before .before .before .before .before .args .style) (now (c .before .before .before .before .before .before .before .before .before .before .before .before .before .args .s))) (c .before .before .before .before .before .before .before .pass2 .kept .1 .1 .1 .1 .0) (c .before .before .before .before .before .before .before .pass2 .ensures) (c .before .before .before .before .if2 .left) (c .before .before .pass3 .ensures)
+    both-passes (quoted (c .before .before .before .before .before .before .before .before .before .before .before .before .before .args .form) (now (c .before .before .before .before .before .before .before .before .before .before .before .before .before .args .s))) (c .before .before .before .before .before .before .before .pass2 .last .1 .1 .1 .1 .0) (now (c .before .before .before .before .before .before .before .before .before .before .before .before .before .args .out)) (quoted-positive (c .before .before .before .before .before .before .before .before .before .before .before .before .before .args .form) (now (c .before .before .before .before .before .before .before .before .before .before .before .before .before .args .s))) (c .before .before .before .before .before .before .before .pass2 .kept .1 .1 .1 .1 .0) (c .before .before .before .before .before .before .before .pass2 .ensures) (c .before .before .before .before .if2 .left) (c .before .before .pass3 .ensures)
 
 pub write-quoted-spec : {M : Type 1} → statement M
 write-quoted-spec =

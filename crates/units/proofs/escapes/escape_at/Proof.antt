@@ -29,11 +29,11 @@ returns-2 : tie.Need-returns-2
 returns-2 c =
     (search escape-y, search needs)
 
-letter-requires : tie.Need-letter-requires
-letter-requires c κs = search needs
+byte-of-requires : tie.Need-byte-of-requires
+byte-of-requires c κs = search needs
 
-short-requires : tie.Need-short-requires
-short-requires c κs = search needs
+letter-escape-requires : tie.Need-letter-escape-requires
+letter-escape-requires c κs = search needs
 
 returns-3 : tie.Need-returns-3
 returns-3 c =
@@ -50,6 +50,6 @@ escape-at-spec =
     add-raw-byte
     raw-byte-requires
     returns-2
-    letter-requires
-    short-requires
+    byte-of-requires
+    letter-escape-requires
     returns-3)

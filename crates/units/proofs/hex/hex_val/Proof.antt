@@ -22,8 +22,8 @@ unfolding hexVal
 returns-3 c =
     (search picks, omega arith)
 
-sub-result : tie.Need-sub-result
-sub-result c = search needs
+add-result : tie.Need-add-result
+add-result c = search needs
 
 returns-4 : tie.Need-returns-4
 unfolding hexVal
@@ -35,8 +35,8 @@ unfolding hexVal
 returns-5 c =
     (search picks, omega arith)
 
-sub-result-2 : tie.Need-sub-result-2
-sub-result-2 c = search needs
+add-result-2 : tie.Need-add-result-2
+add-result-2 c = search needs
 
 returns-6 : tie.Need-returns-6
 unfolding hexVal
@@ -55,9 +55,9 @@ hex-val-spec =
     returns
     returns-2
     returns-3
-    sub-result
+    add-result
     returns-4
     returns-5
-    sub-result-2
+    add-result-2
     returns-6
     returns-7)

@@ -19,7 +19,7 @@ same-length c = search needs
 
 returns : tie.Need-returns
 returns c =
-    c .before .before .put-two .ensures ∙ ap (sets (now (c .before .before .before .before .before .before .before .args .out)) (c .before .before .before .before .before .before .before .args .o)) (by-letter (c .before .before .before .before .before .before .before .args .style) (c .before .before .before .before .before .before .before .args .x) (c .before .before .before .before .before .letter-of .result) (c .before .before .before .before .before .letter-of .ensures) (c .before .before .before .before .if1 .taken))
+    c .before .before .put-two .ensures ∙ ap (sets (now (c .before .before .before .before .before .before .before .args .out)) (c .before .before .before .before .before .before .before .args .o)) (by-letter (c .before .before .before .before .before .before .before .args .form) (c .before .before .before .before .before .before .before .args .x) (c .before .before .before .before .before .letter-of .result) (c .before .before .before .before .before .letter-of .ensures) (c .before .before .before .before .if1 .taken))
 
 put-number-requires : tie.Need-put-number-requires
 put-number-requires c κs = search needs
@@ -29,7 +29,7 @@ same-length-2 c = search needs
 
 returns-2 : tie.Need-returns-2
 returns-2 c =
-    c .before .before .put-number .ensures ∙ ap (sets (now (c .before .before .before .before .before .before .before .args .out)) (c .before .before .before .before .before .before .before .args .o)) (as-number (c .before .before .before .before .before .before .before .args .style) (c .before .before .before .before .before .before .before .args .x) (c .before .before .before .before .before .letter-of .result) (c .before .before .before .before .before .letter-of .ensures) (c .before .before .before .before .if1 .left))
+    c .before .before .put-number .ensures ∙ ap (sets (now (c .before .before .before .before .before .before .before .args .out)) (c .before .before .before .before .before .before .before .args .o)) (as-number (c .before .before .before .before .before .before .before .args .form) (c .before .before .before .before .before .before .before .args .x) (c .before .before .before .before .before .letter-of .result) (c .before .before .before .before .before .letter-of .ensures) (c .before .before .before .before .if1 .left))
 
 pub put-escape-spec : {M : Type 1} → statement M
 put-escape-spec =

@@ -1,4 +1,4 @@
--- Style by style, the bytes copied are the definition's (EscapeStores).
+-- Form by form, the bytes copied are the definition's (EscapeStores).
 -- Assumes nothing.
 use borrow.Author.Needs.{needs}
 use Rattle.units.proofs.written.put_number.Statement.{statement}
@@ -6,7 +6,7 @@ use Rattle.units.proofs.written.put_number.Tie as tie
 use denote.Ref.{now}
 use mathlib.Core.Path.{ap, _∙_}
 use lib.Seq.{sets}
-use Rattle.units.proofs.EscapeStores.{json-number, unicode-number, bytes-number}
+use Rattle.units.proofs.EscapeStores.{json-number, bytes-number}
 
 hex-digit-requires : tie.Need-hex-digit-requires
 hex-digit-requires c κs = search needs
@@ -32,35 +32,19 @@ slice-aggregate-copy-run-2 c = search needs
 copy-run-requires-2 : tie.Need-copy-run-requires-2
 copy-run-requires-2 c κs = search needs
 
-enum-told-3 : tie.Need-enum-told-3
-enum-told-3 c = search needs
-
-slice-aggregate-copy-run-3 : tie.Need-slice-aggregate-copy-run-3
-slice-aggregate-copy-run-3 c = search needs
-
-copy-run-requires-3 : tie.Need-copy-run-requires-3
-copy-run-requires-3 c κs = search needs
-
 same-length : tie.Need-same-length
 same-length c = search needs
 
 returns : tie.Need-returns
 returns c =
-    c .before .before .copy-run .ensures ∙ ap (sets (now (c .before .before .before .before .before .before .before .before .before .before .args .out)) (c .before .before .before .before .before .before .before .before .before .before .args .o)) (json-number (c .before .before .before .before .before .before .before .before .before .before .args .style) (c .before .before .before .before .before .before .before .before .before .before .args .x) _ _ (c .before .before .before .before .before .before .before .before .hex-digit .ensures) (c .before .before .before .before .before .before .before .hex-digit2 .ensures) (c .before .before .before .before .before .enum-told .given .1))
+    c .before .before .copy-run .ensures ∙ ap (sets (now (c .before .before .before .before .before .before .before .before .before .before .args .out)) (c .before .before .before .before .before .before .before .before .before .before .args .o)) (json-number (c .before .before .before .before .before .before .before .before .before .before .args .form) (c .before .before .before .before .before .before .before .before .before .before .args .x) _ _ (c .before .before .before .before .before .before .before .before .hex-digit .ensures) (c .before .before .before .before .before .before .before .hex-digit2 .ensures) (c .before .before .before .before .before .enum-told .given .1))
 
 same-length-2 : tie.Need-same-length-2
 same-length-2 c = search needs
 
 returns-2 : tie.Need-returns-2
 returns-2 c =
-    c .before .before .copy-run2 .ensures ∙ ap (sets (now (c .before .before .before .before .before .before .before .before .before .before .args .out)) (c .before .before .before .before .before .before .before .before .before .before .args .o)) (unicode-number (c .before .before .before .before .before .before .before .before .before .before .args .style) (c .before .before .before .before .before .before .before .before .before .before .args .x) _ _ (c .before .before .before .before .before .before .before .before .hex-digit .ensures) (c .before .before .before .before .before .before .before .hex-digit2 .ensures) (c .before .before .before .before .before .enum-told2 .given .1))
-
-same-length-3 : tie.Need-same-length-3
-same-length-3 c = search needs
-
-returns-3 : tie.Need-returns-3
-returns-3 c =
-    c .before .before .copy-run3 .ensures ∙ ap (sets (now (c .before .before .before .before .before .before .before .before .before .before .args .out)) (c .before .before .before .before .before .before .before .before .before .before .args .o)) (bytes-number (c .before .before .before .before .before .before .before .before .before .before .args .style) (c .before .before .before .before .before .before .before .before .before .before .args .x) _ _ (c .before .before .before .before .before .before .before .before .hex-digit .ensures) (c .before .before .before .before .before .before .before .hex-digit2 .ensures) (c .before .before .before .before .before .enum-told3 .given .1))
+    c .before .before .copy-run2 .ensures ∙ ap (sets (now (c .before .before .before .before .before .before .before .before .before .before .args .out)) (c .before .before .before .before .before .before .before .before .before .before .args .o)) (bytes-number (c .before .before .before .before .before .before .before .before .before .before .args .form) (c .before .before .before .before .before .before .before .before .before .before .args .x) _ _ (c .before .before .before .before .before .before .before .before .hex-digit .ensures) (c .before .before .before .before .before .before .before .hex-digit2 .ensures) (c .before .before .before .before .before .enum-told2 .given .1))
 
 pub put-number-spec : {M : Type 1} → statement M
 put-number-spec =
@@ -74,12 +58,7 @@ put-number-spec =
     enum-told-2
     slice-aggregate-copy-run-2
     copy-run-requires-2
-    enum-told-3
-    slice-aggregate-copy-run-3
-    copy-run-requires-3
     same-length
     returns
     same-length-2
-    returns-2
-    same-length-3
-    returns-3)
+    returns-2)

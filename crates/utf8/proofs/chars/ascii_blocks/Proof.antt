@@ -5,12 +5,12 @@ use Rattle.utf8.proofs.chars.ascii_blocks.Tie as tie
 use Prim.Native.Nat.{_-_}
 use native.Mathlib.Omega.{arith}
 use lib.ListN.{length}
-use Rattle.utf8.specs.inner.Checks.{Checked}
+use Rattle.utf8.specs.inner.Checks.{ValidAs}
 use Rattle.utf8.proofs.Validity.{here, block-on}
 
 abbrev Inv-loop : tie.InvT-loop
 Inv-loop s from n at₀ at =
-    Checked s from at
+    ValidAs s from at
 
 abbrev μ-loop : tie.MeasureT-loop
 μ-loop s from n at₀ at =

@@ -1,16 +1,16 @@
--- The invariant `Checked`: what is left is valid exactly if the whole is (Validity).
+-- The invariant `ValidAs`: what is left is valid exactly if the whole is (Validity).
 -- Assumes nothing.
 use Rattle.utf8.proofs.chars.chars_until.Statement.{statement}
 use Rattle.utf8.proofs.chars.chars_until.Tie as tie
 use native.Mathlib.Omega.{arith}
 use Prim.Native.Nat.{_-_}
 use lib.ListN.{length}
-use Rattle.utf8.specs.inner.Checks.{Checked}
+use Rattle.utf8.specs.inner.Checks.{ValidAs}
 use Rattle.utf8.proofs.Validity.{here, one-on, lone-stop, cut-stop, long-on, all-on}
 
 abbrev Inv-loop : tie.InvT-loop
 Inv-loop t s from end at₀ at =
-    Checked s from at
+    ValidAs s from at
 
 abbrev μ-loop : tie.MeasureT-loop
 μ-loop t s from end at₀ at =

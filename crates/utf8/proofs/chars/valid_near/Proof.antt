@@ -1,52 +1,43 @@
--- The invariant `Checked`: what is left is valid exactly if the whole is; blocks and single characters bring it on (Validity).
+-- The invariant `ValidAs`: what is left is valid exactly if the whole is; a turn brings it on, whatever the width (Validity).
 -- Assumes nothing.
 use Rattle.utf8.proofs.chars.valid_near.Statement.{statement}
 use Rattle.utf8.proofs.chars.valid_near.Tie as tie
 use native.Mathlib.Omega.{arith}
 use Prim.Native.Nat.{_-_}
 use lib.ListN.{length}
-use Rattle.utf8.specs.inner.Checks.{Checked}
-use Rattle.utf8.proofs.Validity.{here, further, stuck, ended, advances}
+use Rattle.utf8.specs.inner.Checks.{ValidAs}
+use Rattle.utf8.proofs.Validity.{here, ended, turn-stuck, turn-on, turn-less}
 
 abbrev Inv-loop : tie.InvT-loop
-Inv-loop t s at₀ at =
-    Checked s 0 at
+Inv-loop t s at₀ at = ValidAs s 0 at
 
 abbrev μ-loop : tie.MeasureT-loop
-μ-loop t s at₀ at =
-    length s - at
+μ-loop t s at₀ at = length s - at
 
 loop-holds : tie.Need-loop-holds Inv-loop μ-loop
-loop-holds c =
-    here _ _ (omega arith)
+loop-holds c = here _ _ (omega arith)
 
 ascii-blocks-requires : tie.Need-ascii-blocks-requires Inv-loop μ-loop
-ascii-blocks-requires c κs =
-    (c .before .loop .inv .inside, omega arith)
+ascii-blocks-requires c κs = (c .before .loop .inv .inside, omega arith)
 
-block-on-requires : tie.Need-block-on-requires Inv-loop μ-loop
-block-on-requires c κs =
-    (c .ascii-blocks .ensures .inside, omega arith)
+soon-requires : tie.Need-soon-requires Inv-loop μ-loop
+soon-requires c κs = (c .ascii-blocks .ensures .inside, omega arith)
 
 chars-until-requires : tie.Need-chars-until-requires Inv-loop μ-loop
 chars-until-requires c κs =
-    (c .before .before .before .before .before .pre, c .before .ascii-blocks .ensures .inside, c .block-on .ensures .0)
+    (c .before .before .before .before .before .pre, c .before .ascii-blocks .ensures .inside, c .soon .ensures .0)
 
 returns : tie.Need-returns Inv-loop μ-loop
-returns c =
-    stuck _ _ (further _ _ _ _ (further _ _ _ _ (c .before .before .before .before .before .loop .inv) (c .before .before .before .ascii-blocks .ensures)) (c .before .chars-until .ensures .checked)) (omega (arith, c .before .before .block-on .ensures .0)) (c .before .chars-until .ensures .stop (c .if1 .taken))
+returns c = search turn-stuck
 
 loop-less : tie.Need-loop-less Inv-loop μ-loop
-loop-less c =
-    advances _ _ _ _ _ (c .before .before .before .before .loop-test .taken) (c .before .before .before .ascii-blocks .ensures .onward) (c .before .before .block-on .ensures .1) (c .before .chars-until .ensures .checked .onward) (c .if1 .left) (c .before .chars-until .ensures .checked .inside)
+loop-less c = search turn-less
 
 loop-again : tie.Need-loop-again Inv-loop μ-loop
-loop-again c =
-    further _ _ _ _ (further _ _ _ _ (c .before .before .before .before .before .loop .inv) (c .before .before .before .ascii-blocks .ensures)) (c .before .chars-until .ensures .checked)
+loop-again c = search turn-on
 
 returns-2 : tie.Need-returns-2 Inv-loop μ-loop
-returns-2 c =
-    ended _ _ (c .before .loop .inv) (omega arith)
+returns-2 c = ended _ _ (c .before .loop .inv) (omega arith)
 
 pub valid-near-spec : {M : Type 1} → statement M
 valid-near-spec =
@@ -56,7 +47,7 @@ valid-near-spec =
     μ-loop
     loop-holds
     ascii-blocks-requires
-    block-on-requires
+    soon-requires
     chars-until-requires
     returns
     loop-less
