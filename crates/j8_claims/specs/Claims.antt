@@ -1,0 +1,68 @@
+-- What is claimed of the C functions: each claim is a type, and proofs/Claims.antt has a term of it.
+-- Assumes nothing.
+use Prim.Native.Nat.{ℕ, _/_, _≤_}
+use mathlib.Core.Bool.{true, false}
+use mathlib.Core.List.{List, [], _++_, map}
+use mathlib.Core.Path.{_≡_}
+use lib.ListN.{length, take, drop}
+use Rattle.prelude.specs.Bytes.{IsBytes}
+use Rattle.prelude.specs.Limits.{textMax, lineMax}
+use Rattle.strings_write.specs.Write.{writeString}
+use Rattle.trees.specs.Trees.{Tree, render}
+use Rattle.trees.specs.Tables.{just, nodesIn, treeOf}
+use Rattle.trees.specs.Sizes.{sizeOf, storeOf}
+use Rattle.replay.specs.Lists.{Call, began, joined, finished, defined}
+use Rattle.replay.specs.Lines.{j8Lines}
+use Rattle.upload_claims.specs.Claims.{definedAnswers, Finished, firstRefusal}
+use Rattle.j8.specs.Results.{done}
+use Rattle.j8.specs.Uploads.{answerOf, given}
+use Rattle.j8_claims.specs.Runs.{Ran, stringWrite, stringRead, json8Write, RanNodes, json8Read, RanCall, ranCall, runC, beganC, answersC}
+
+-- Demand 3, of `j8_upload_feed` and `j8_upload_finish`: "Take any list of feeds and finishes of one J8 Lines upload, in any order, empty
+-- pieces and refused calls included. .. After every such list, the state and both buffers are exactly what the J8 Lines definition gives for
+-- the joined text, finished or not, and each call's answer is what it gives for the calls up to and with that one."
+abbrev pub Every-List-Of-C-Calls : Type 0
+Every-List-Of-C-Calls =
+    (cs : List Call) (line out : List ℕ) → lineMax ≤ length line
+    → (runC (beganC line out) cs ≡ ranCall (defined cs line out))
+    × (answersC (beganC line out) cs ≡ map answerOf (definedAnswers [] cs line out))
+
+-- "lists of one or more feeds and no finish, alike in the joined text and in the buffers first lent, end in the same state, buffers and last
+-- answer, whatever the pieces"
+abbrev pub C-Pieces-Do-Not-Matter : Type 0
+C-Pieces-Do-Not-Matter =
+    (cs ds : List Call) (line out : List ℕ) → lineMax ≤ length line → finished cs ≡ false → finished ds ≡ false
+    → joined cs ≡ joined ds → runC (beganC line out) cs ≡ runC (beganC line out) ds
+
+-- "After a finish the output holds all the text's records, or those before the first refusal, which the state then holds."
+abbrev pub C-Records-After-Finish : Type 0
+C-Records-After-Finish =
+    (cs : List Call) (line out : List ℕ) → lineMax ≤ length line → finished cs ≡ true
+    → Finished (firstRefusal (length out) (joined cs)) (joined cs) out
+    (given (runC (beganC line out) cs .fed .upload) (runC (beganC line out) cs .line) (runC (beganC line out) cs .out))
+
+-- a byte string that `j8_string_write` wrote in front of a buffer and `j8_string_read` read from there
+pub record StringReturned (bytes : List ℕ) (written back : Ran) (into : List ℕ) : Type 0 where
+  pub wrote : written .result ≡ done (length (writeString bytes))
+  pub read : back .result ≡ done (length bytes)
+  pub same : back .out ≡ bytes ++ drop (length bytes) into
+
+-- Demand 2: "Every byte string that has room, and whose text stays within document 01's lengths, is written so that it reads back the same"
+abbrev pub C-Strings-Return : Type 0
+C-Strings-Return =
+    (bytes out into : List ℕ) → IsBytes bytes → length (writeString bytes) ≤ length out → length (writeString bytes) ≤ textMax → length bytes ≤ length into
+    → StringReturned bytes (stringWrite bytes out) (stringRead (take (stringWrite bytes out .result .length) (stringWrite bytes out .out)) into) into
+
+-- a table that `j8_json8_write` wrote in front of a buffer and `j8_json8_read` read from there: the same tree, with its counts
+pub record TableReturned (t : Tree) (written : Ran) (back : RanNodes) : Type 0 where
+  pub wrote : written .result ≡ done (length (render t))
+  pub read : back .result ≡ record { number = 0; place = 0; nodes = sizeOf t; stored = storeOf t }
+  pub same : treeOf (nodesIn (back .table)) (render t) (back .store) ≡ just t
+
+abbrev pub C-Tables-Return : Type 0
+C-Tables-Return =
+    (table text store : List ℕ) (t : Tree) (out into stored : List ℕ) → IsBytes text → IsBytes store
+    → treeOf (nodesIn table) text store ≡ just t → length (render t) ≤ textMax → length (render t) ≤ length out
+    → sizeOf t ≤ length into / 4 → storeOf t ≤ length stored
+    → TableReturned t (json8Write table text store out)
+    (json8Read (take (json8Write table text store out .result .length) (json8Write table text store out .out)) into stored)
