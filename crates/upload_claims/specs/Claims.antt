@@ -90,7 +90,7 @@ Written-Lines-Read-Back =
 abbrev pub Every-List-Is-Encoded : Type 0
 Every-List-Is-Encoded = (cs : List Call) → (text : List ℕ) × (plan : List ℕ) × (decode text plan ≡ cs)
 
--- "Lent case, 22 bytes fed, then finish"
+-- "Whole case, 22 bytes fed, then finish"
 abbrev pub caseText : List ℕ
 caseText = ascii "scans/a b" ++ (LF ∷ ascii "b'x\\yff'" ++ (LF ∷ LF ∷ ascii "''"))
 
