@@ -17,8 +17,8 @@ use Rattle.strings.specs.declared.answers.Written.{Written}
 use Rattle.strings.specs.declared.answers.Written.the-variants.{Wrote, Full}
 use Rattle.strings.specs.Write.{writeString, writtenIn, wroteInto}
 use Rattle.string_claims.proofs.Claims.{written-length}
-use Rattle.json8_write.specs.Steps.{Put}
-use Rattle.json8_write.proofs.Puts.{put-as}
+use Rattle.rooms.specs.inner.Puts.{Put}
+use Rattle.rooms.proofs.Puts.{put-as}
 use Rattle.messages.specs.Texts.{words, decimal}
 use Rattle.messages.specs.Messages.{counted, verdictText, entryText}
 use Rattle.messages.proofs.Decimals.{decimal-length}

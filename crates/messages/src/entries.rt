@@ -5,12 +5,12 @@ ghost use Prim.Native.Nat.{_+_, _*_, _≤_};
 ghost use lib.ListN.{length};
 ghost use Rattle.utf8.specs.Class.{IsTable};
 ghost use Rattle.strings.specs.Write.{writtenIn, wroteInto};
-ghost use Rattle.json8_write.specs.Steps.{roomMax, Put};
+ghost use Rattle.rooms.specs.inner.Puts.{roomMax, Put};
 ghost use Rattle.messages.specs.Messages.{entryText};
 use crate::texts::put_decimal;
 use crate::texts::put_words;
-use json8_write::texts::put_string;
 use prelude::refusals;
+use rooms::parts::put_string;
 use strings::answers::Written;
 use utf8::classes;
 

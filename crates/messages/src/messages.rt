@@ -4,7 +4,7 @@ ghost use mathlib.Core.Path.{_≡_};
 ghost use Prim.Native.Nat.{_≤_};
 ghost use lib.ListN.{length};
 ghost use Rattle.strings.specs.Write.{writtenIn, wroteInto};
-ghost use Rattle.json8_write.specs.Steps.{roomMax, Put};
+ghost use Rattle.rooms.specs.inner.Puts.{roomMax, Put};
 ghost use Rattle.messages.specs.Texts.{decimal};
 ghost use Rattle.messages.specs.Messages.{numberText, lineText, columnText, placeText, verdictText, messageText};
 use crate::sentences::put_sentence;

@@ -1,6 +1,6 @@
 // The sentence of each refusal.
 ghost use Prim.Native.Nat.{_≤_, _<_};
-ghost use Rattle.json8_write.specs.Steps.{roomMax, Put};
+ghost use Rattle.rooms.specs.inner.Puts.{roomMax, Put};
 ghost use Rattle.messages.specs.Sentences.{sentence};
 use crate::texts::put_words;
 

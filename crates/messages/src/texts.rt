@@ -1,14 +1,14 @@
-// Words and numbers, put at a place as far as the buffer reaches (json8_write::texts).
+// Words and numbers, put at a place as far as the buffer reaches (rooms::parts).
 ghost use Prim.Native.Nat.{_≤_};
-ghost use Rattle.json8_write.specs.Steps.{roomMax, Put};
+ghost use Rattle.rooms.specs.inner.Puts.{roomMax, Put};
 ghost use Rattle.messages.specs.Texts.{decimal};
-use json8_write::texts;
+use rooms::parts;
 
 pub fn put_words(s: &[u8], room: usize, o: usize, out: &mut [u8]) -> usize
     requires { ⌜ room ≤ roomMax ⌝ }
     ensures { λ r. ⌜ Put (now (s .entry)) room o r (now (out .entry)) (now (out .exit)) ⌝ }
 {
-    texts::put_run(s, 0, s.len(), room, o, out)
+    parts::put_run(s, 0, s.len(), room, o, out)
 }
 
 pub fn put_decimal(n: usize, room: usize, o: usize, out: &mut [u8]) -> usize

@@ -3,7 +3,7 @@
 use borrow.Author.Needs.{needs}
 use Rattle.messages.proofs.entries.put_entry.Statement.{statement}
 use Rattle.messages.proofs.entries.put_entry.Tie as tie
-use Rattle.json8_write.proofs.Puts.{put-then}
+use Rattle.rooms.proofs.Puts.{put-then}
 use Rattle.messages.specs.Messages.{entryText}
 
 put-decimal-requires : tie.Need-put-decimal-requires

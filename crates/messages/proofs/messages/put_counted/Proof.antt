@@ -3,7 +3,7 @@
 use borrow.Author.Needs.{needs}
 use Rattle.messages.proofs.messages.put_counted.Statement.{statement}
 use Rattle.messages.proofs.messages.put_counted.Tie as tie
-use Rattle.json8_write.proofs.Puts.{put-then}
+use Rattle.rooms.proofs.Puts.{put-then}
 
 put-words-requires : tie.Need-put-words-requires
 put-words-requires c κs = search needs

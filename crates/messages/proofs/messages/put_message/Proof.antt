@@ -4,7 +4,7 @@ use borrow.Author.Needs.{needs}
 use Rattle.messages.proofs.messages.put_message.Statement.{statement}
 use Rattle.messages.proofs.messages.put_message.Tie as tie
 use mathlib.Core.Path.{ap}
-use Rattle.json8_write.proofs.Puts.{put-then, put-as}
+use Rattle.rooms.proofs.Puts.{put-then, put-as}
 use Rattle.messages.specs.Messages.{messageText}
 
 enum-known-m : tie.Need-enum-known-m

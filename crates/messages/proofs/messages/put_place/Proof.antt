@@ -3,7 +3,7 @@
 use borrow.Author.Needs.{needs}
 use Rattle.messages.proofs.messages.put_place.Statement.{statement}
 use Rattle.messages.proofs.messages.put_place.Tie as tie
-use Rattle.json8_write.proofs.Puts.{put-then}
+use Rattle.rooms.proofs.Puts.{put-then}
 
 slice-aggregate-put-counted : tie.Need-slice-aggregate-put-counted
 slice-aggregate-put-counted c = search needs

@@ -5,7 +5,7 @@ use Rattle.messages.proofs.sentences.put_below_ten.Statement.{statement
 use Rattle.messages.proofs.sentences.put_below_ten.Tie as tie
 use mathlib.Core.Path.{ap}
 use native.Mathlib.Omega.{arith}
-use Rattle.json8_write.proofs.Puts.{put-as}
+use Rattle.rooms.proofs.Puts.{put-as}
 use Rattle.prelude.specs.Pick.{pick}
 use Rattle.messages.specs.Sentences.{rows, sentenceIn, sentence}
 use Rattle.messages.proofs.Unknown.{missed}

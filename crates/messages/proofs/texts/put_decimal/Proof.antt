@@ -4,7 +4,7 @@ use borrow.Author.Needs.{needs}
 use Rattle.messages.proofs.texts.put_decimal.Statement.{statement}
 use Rattle.messages.proofs.texts.put_decimal.Tie as tie
 use native.Mathlib.Omega.{arith}
-use Rattle.json8_write.proofs.Puts.{put-as}
+use Rattle.rooms.proofs.Puts.{put-as}
 use Rattle.messages.proofs.Decimals.{decimal-put}
 
 decimal-requires : tie.Need-decimal-requires

@@ -6,7 +6,7 @@ use Rattle.messages.proofs.texts.put_words.Tie as tie
 use denote.Ref.{now}
 use mathlib.Core.Path.{sym}
 use lib.Seq.{take-length}
-use Rattle.json8_write.proofs.Puts.{put-as}
+use Rattle.rooms.proofs.Puts.{put-as}
 
 put-run-requires : tie.Need-put-run-requires
 put-run-requires c κs = search needs
