@@ -4,6 +4,7 @@ use crate::inputs::Filled;
 use crate::outputs;
 use crate::outputs::Outcome;
 use messages::messages::Message;
+use messages::messages::Spot;
 use strings::answers::Decoded;
 use strings::answers::Written;
 use strings::read;
@@ -13,7 +14,7 @@ use strings::write;
 const TEXT_MAX: usize = 32768;
 
 fn refused(number: u32, place: usize) -> Outcome {
-    outputs::say(Message::Quoted(number, place));
+    outputs::say(Message::Refused(number, Spot::Quoted, place));
     Outcome::Ended(number)
 }
 

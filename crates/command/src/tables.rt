@@ -11,6 +11,7 @@ use json8_write::answers::WroteTable;
 use json8_write::write;
 use messages::entries;
 use messages::messages::Message;
+use messages::messages::Spot;
 use messages::positions;
 use strings::answers::Written;
 
@@ -43,7 +44,7 @@ fn entry_room() -> [u8; ENTRY_ROOM] {
 
 fn refused(text: &[u8], number: u32, place: usize) -> Outcome {
     let p = positions::position_of(text, place);
-    outputs::say(Message::Text(number, p.line, p.column, place));
+    outputs::say(Message::Refused(number, Spot::Text(p.line, p.column), place));
     Outcome::Ended(number)
 }
 

@@ -7,6 +7,7 @@ use crate::outputs;
 use crate::outputs::Outcome;
 use messages::entries;
 use messages::messages::Message;
+use messages::messages::Spot;
 use prelude::slices::least;
 use report::slices;
 use strings::answers::Written;
@@ -188,7 +189,7 @@ fn feed_all(fd: i32, size: usize, line: &mut [u8], out: &mut [u8], page: &mut [u
 
 fn answered(a: Answer, printed: bool) -> Outcome {
     if a.number != 0 {
-        outputs::say(Message::Line(a.number, a.line, a.place));
+        outputs::say(Message::Refused(a.number, Spot::Line(a.line), a.place));
     }
     outputs::ended(printed, a.number)
 }
