@@ -13,10 +13,8 @@ pub enum Command {
     Unknown,
 }
 
-fn command_of(word: &[u8]) -> Command {
-    if same(word, b"lines") {
-        return Command::Lines;
-    }
+// A subcommand that reads its input whole.
+fn whole_command_of(word: &[u8]) -> Command {
     if same(word, b"quote") {
         return Command::Quote;
     }
@@ -29,13 +27,20 @@ fn command_of(word: &[u8]) -> Command {
     if same(word, b"strings") {
         return Command::Strings;
     }
+    Command::Unknown
+}
+
+fn command_of(word: &[u8]) -> Command {
+    if same(word, b"lines") {
+        return Command::Lines;
+    }
     if same(word, b"help") {
         return Command::Help;
     }
     if same(word, b"--help") {
         return Command::Help;
     }
-    Command::Unknown
+    whole_command_of(word)
 }
 
 // The subcommand that the first word names.

@@ -7,49 +7,21 @@ use libc::STDOUT_FILENO;
 fn print_to(fd: i32) -> bool {
     io::write_all(
         fd,
-        b"j8 COMMAND [FILE]: J8 Notation backups, from FILE or standard input\n",
+        b"\
+j8 COMMAND [FILE]: J8 Notation backups, from FILE or standard input
+  lines    prints each record of a J8 Lines backup: its line, a tab, a J8 string
+           lines --pieces N [FILE] reads N bytes at a time, 1 to 4096
+  quote    prints the input, any bytes, as one J8 string
+  unquote  prints the bytes of one J8 string; a line end behind it is ignored
+  json8    checks a JSON8 backup and prints it in its one written form
+  strings  prints each string of a JSON8 backup: its node, a tab, a J8 string
+  help     prints this
+A refusal goes to standard error: its number, line (from 1), column (characters,
+from 1), place (bytes, from 0; in lines, of the line) and a sentence. The last
+line there is 'j8: ok', 'j8: refused NUMBER', or 'j8: failed' where the input
+can't be read or the output written. The exit status is always 0.
+",
     )
-        && io::write_all(
-            fd,
-            b"  lines    prints each record of a J8 Lines backup: its line, a tab, a J8 string\n",
-        )
-        && io::write_all(
-            fd,
-            b"           lines --pieces N [FILE] reads N bytes at a time, 1 to 4096\n",
-        )
-        && io::write_all(
-            fd,
-            b"  quote    prints the input, any bytes, as one J8 string\n",
-        )
-        && io::write_all(
-            fd,
-            b"  unquote  prints the bytes of one J8 string; a line end behind it is ignored\n",
-        )
-        && io::write_all(
-            fd,
-            b"  json8    checks a JSON8 backup and prints it in its one written form\n",
-        )
-        && io::write_all(
-            fd,
-            b"  strings  prints each string of a JSON8 backup: its node, a tab, a J8 string\n",
-        )
-        && io::write_all(fd, b"  help     prints this\n")
-        && io::write_all(
-            fd,
-            b"A refusal goes to standard error: its number, line (from 1), column (characters,\n",
-        )
-        && io::write_all(
-            fd,
-            b"from 1), place (bytes, from 0; in lines, of the line) and a sentence. The last\n",
-        )
-        && io::write_all(
-            fd,
-            b"line there is 'j8: ok', 'j8: refused NUMBER', or 'j8: failed' where the input\n",
-        )
-        && io::write_all(
-            fd,
-            b"can't be read or the output written. The exit status is always 0.\n",
-        )
 }
 
 pub fn print() -> Outcome {

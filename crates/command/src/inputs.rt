@@ -5,12 +5,13 @@ use crate::outputs;
 use check::same;
 use libc::STDIN_FILENO;
 use messages::messages::Message;
+use prelude::limits::TEXT_MAX;
 
 // The most bytes that are read at once.
 pub const PIECE: usize = 4096;
 
-// A text of 32,768 bytes, a line's end behind it, and one byte more: a text that fills this is too long.
-pub const TEXT_ROOM: usize = 32771;
+// The longest text, a line's end behind it, and one byte more: a text that fills this is too long.
+pub const TEXT_ROOM: usize = TEXT_MAX + 3;
 
 pub fn text_room() -> [u8; TEXT_ROOM] {
     [0u8; TEXT_ROOM]

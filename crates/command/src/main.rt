@@ -9,16 +9,31 @@ mod tables;
 mod uploads;
 
 use arguments::Command;
+use inputs::Filled;
 use outputs::Outcome;
 
-// A subcommand that reads its input whole.
-fn run_text(command: Command, fd: i32) -> Outcome {
+// A subcommand on its whole input.
+fn run_text(command: Command, text: &[u8]) -> Outcome {
     match command {
-        Command::Quote => quoting::quote(fd),
-        Command::Unquote => quoting::unquote(fd),
-        Command::Json8 => tables::rewrite(fd),
-        Command::Strings => tables::list(fd),
+        Command::Quote => quoting::quote(text),
+        Command::Unquote => quoting::unquote(text),
+        Command::Json8 => tables::rewrite(text),
+        Command::Strings => tables::list(text),
         _ => Outcome::Failed,
+    }
+}
+
+// A subcommand that reads its input whole.
+fn run_whole(command: Command, fd: i32) -> Outcome {
+    let mut text = inputs::text_room();
+    let filled = inputs::fill(fd, &mut text);
+    match filled {
+        Filled::With(n) => {
+            inputs::note_empty(n);
+            let n = outputs::within(n, &text);
+            run_text(command, &text[..n])
+        }
+        Filled::Failed => Outcome::Failed,
     }
 }
 
@@ -36,7 +51,7 @@ fn run_file(command: Command, i: usize, size: usize) -> Outcome {
     }
     match command {
         Command::Lines => uploads::list(fd, size),
-        _ => run_text(command, fd),
+        _ => run_whole(command, fd),
     }
 }
 

@@ -1,23 +1,20 @@
 // Any bytes to a J8 string and back.
-use crate::inputs;
-use crate::inputs::Filled;
 use crate::outputs;
 use crate::outputs::Outcome;
 use messages::messages::Message;
+use messages::messages::Spot;
 use strings::answers::Decoded;
-use strings::read;
 use strings_write::answers::Written;
+use strings::read;
+use prelude::limits::TEXT_MAX;
 use strings_write::write;
 
-// No longer string is read.
-const TEXT_MAX: usize = 32768;
-
 fn refused(number: u32, place: usize) -> Outcome {
-    outputs::say(Message::Quoted(number, place));
+    outputs::say(Message::Refused(number, Spot::Quoted, place));
     Outcome::Ended(number)
 }
 
-fn quote_bytes(data: &[u8]) -> Outcome {
+pub fn quote(data: &[u8]) -> Outcome {
     let mut out = [0u8; TEXT_MAX];
     let written = write::write(data, &mut out);
     match written {
@@ -26,19 +23,6 @@ fn quote_bytes(data: &[u8]) -> Outcome {
             outputs::ended(printed, 0)
         }
         Written::Full(number) => refused(number, 0),
-    }
-}
-
-pub fn quote(fd: i32) -> Outcome {
-    let mut data = inputs::text_room();
-    let filled = inputs::fill(fd, &mut data);
-    match filled {
-        Filled::With(n) => {
-            inputs::note_empty(n);
-            let n = outputs::within(n, &data);
-            quote_bytes(&data[..n])
-        }
-        Filled::Failed => Outcome::Failed,
     }
 }
 
@@ -72,17 +56,7 @@ fn unquote_text(text: &[u8]) -> Outcome {
     }
 }
 
-pub fn unquote(fd: i32) -> Outcome {
-    let mut text = inputs::text_room();
-    let filled = inputs::fill(fd, &mut text);
-    match filled {
-        Filled::With(n) => {
-            inputs::note_empty(n);
-            let n = outputs::within(n, &text);
-            let k = without_end(&text[..n]);
-            let k = outputs::within(k, &text);
-            unquote_text(&text[..k])
-        }
-        Filled::Failed => Outcome::Failed,
-    }
+pub fn unquote(text: &[u8]) -> Outcome {
+    let n = outputs::within(without_end(text), text);
+    unquote_text(&text[..n])
 }

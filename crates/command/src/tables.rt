@@ -1,29 +1,27 @@
 // JSON8 backups: the written form, and the strings.
-use crate::inputs;
-use crate::inputs::Filled;
 use crate::outputs;
 use crate::outputs::Outcome;
 use json8::answers::Parsed;
+use prelude::limits::NODE_MAX;
 use json8_read::read;
+use prelude::limits::TEXT_MAX;
 use json8_show::show;
 use json8_show::show::Shown;
 use json8_write::answers::WroteTable;
 use json8_write::write;
 use messages::entries;
 use messages::messages::Message;
+use messages::messages::Spot;
 use messages::positions;
 use strings_write::answers::Written;
 
-// No longer text is read.
-const TEXT_MAX: usize = 32768;
-
-const TABLE_ROOM: usize = 4096;
+const TABLE_ROOM: usize = 4 * NODE_MAX;
 
 // A text has at most twice its bytes in the written form.
-const WRITTEN_ROOM: usize = 65536;
+const WRITTEN_ROOM: usize = 2 * TEXT_MAX;
 
 // The longest entry: twenty digits, a tab, a string of TEXT_MAX bytes, six for each, its quotes and LF.
-const ENTRY_ROOM: usize = 196632;
+const ENTRY_ROOM: usize = 6 * TEXT_MAX + 24;
 
 fn table_room() -> [u32; TABLE_ROOM] {
     [0u32; TABLE_ROOM]
@@ -43,7 +41,7 @@ fn entry_room() -> [u8; ENTRY_ROOM] {
 
 fn refused(text: &[u8], number: u32, place: usize) -> Outcome {
     let p = positions::position_of(text, place);
-    outputs::say(Message::Text(number, p.line, p.column, place));
+    outputs::say(Message::Refused(number, Spot::Text(p.line, p.column), place));
     Outcome::Ended(number)
 }
 
@@ -55,7 +53,8 @@ fn written(out: &[u8], n: usize) -> Outcome {
     outputs::ended(printed, 0)
 }
 
-fn rewrite_text(text: &[u8]) -> Outcome {
+// Prints a backup in its one written form.
+pub fn rewrite(text: &[u8]) -> Outcome {
     let mut table = table_room();
     let mut store = store_room();
     let parsed = read::read(text, &mut table, &mut store);
@@ -69,20 +68,6 @@ fn rewrite_text(text: &[u8]) -> Outcome {
                 WroteTable::Refused(number) => refused(text, number, 0),
             }
         }
-    }
-}
-
-// Prints a backup in its one written form.
-pub fn rewrite(fd: i32) -> Outcome {
-    let mut text = inputs::text_room();
-    let filled = inputs::fill(fd, &mut text);
-    match filled {
-        Filled::With(n) => {
-            inputs::note_empty(n);
-            let n = outputs::within(n, &text);
-            rewrite_text(&text[..n])
-        }
-        Filled::Failed => Outcome::Failed,
     }
 }
 
@@ -127,26 +112,13 @@ fn list_nodes(table: &[u32], text: &[u8], store: &[u8], nodes: usize) -> Outcome
     Outcome::Ended(0)
 }
 
-fn list_text(text: &[u8]) -> Outcome {
+// Prints each string of a backup with its node.
+pub fn list(text: &[u8]) -> Outcome {
     let mut table = table_room();
     let mut store = store_room();
     let parsed = read::read(text, &mut table, &mut store);
     match parsed {
         Parsed::Done(nodes, _) => list_nodes(&table, text, &store, nodes),
         Parsed::Refused(number, place) => refused(text, number, place),
-    }
-}
-
-// Prints each string of a backup with its node.
-pub fn list(fd: i32) -> Outcome {
-    let mut text = inputs::text_room();
-    let filled = inputs::fill(fd, &mut text);
-    match filled {
-        Filled::With(n) => {
-            inputs::note_empty(n);
-            let n = outputs::within(n, &text);
-            list_text(&text[..n])
-        }
-        Filled::Failed => Outcome::Failed,
     }
 }

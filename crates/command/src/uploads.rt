@@ -5,45 +5,43 @@ ghost use lib.ListN.{length};
 use crate::inputs;
 use crate::outputs;
 use crate::outputs::Outcome;
+use lines::records::HEAD;
 use messages::entries;
 use messages::messages::Message;
+use messages::messages::Spot;
 use prelude::slices::least;
-use report::slices;
 use strings_write::answers::Written;
 use upload::uploads::Answer;
+use prelude::limits::LINE_MAX;
+use prelude::limits::UPLOAD_MAX;
 use upload::uploads::Upload;
 
-const LINE_ROOM: usize = 1024;
-
 // A record's head and the longest payload, that of a line.
-const HEAD: usize = 4;
-
-const RECORD_ROOM: usize = 1028;
+const RECORD_ROOM: usize = HEAD + LINE_MAX;
 
 // No backup gives more pieces: one byte at least is taken of each, or it is refused.
-const PIECES_MAX: usize = 1048577;
+const PIECES_MAX: usize = UPLOAD_MAX + 1;
 
-// An upload under way: its state, the bytes of the page that wait to be printed, and whether all before was printed.
-struct Listing {
-    state: Upload,
+// The page: its bytes that wait to be printed, and whether all before them was printed.
+struct Page {
     at: usize,
     printed: bool,
 }
 
-enum Turn {
-    More(Listing),
-    End(Listing),
-    Unread,
+// An upload under way: its state, the page, whether the input goes on, and whether it could be read.
+struct Listing {
+    state: Upload,
+    page: Page,
+    open: bool,
+    read: bool,
 }
 
 // Prints the page.
-fn flush(l: Listing, page: &[u8]) -> Listing {
-    let state = l.state;
-    let printed = outputs::print(page, l.at);
-    Listing {
-        state,
+fn flush(p: Page, page: &[u8]) -> Page {
+    let printed = outputs::print(page, p.at);
+    Page {
         at: 0,
-        printed: printed && l.printed,
+        printed: printed && p.printed,
     }
 }
 
@@ -61,56 +59,45 @@ fn put_entry(n: usize, payload: &[u8], at: usize, page: &mut [u8]) -> usize {
 }
 
 // The same, on an empty page if this one is full.
-fn list_payload(l: Listing, n: usize, payload: &[u8], page: &mut [u8]) -> Listing {
-    let state = l.state;
-    let at = put_entry(n, payload, l.at, page);
-    if l.at < at {
-        return Listing {
-            state,
+fn list_payload(p: Page, n: usize, payload: &[u8], page: &mut [u8]) -> Page {
+    let at = put_entry(n, payload, p.at, page);
+    if p.at < at {
+        return Page {
             at,
-            printed: l.printed,
+            printed: p.printed,
         };
     }
-    let l = flush(l, page);
-    let at = put_entry(n, payload, 0, page);
-    Listing {
-        state,
-        at,
-        printed: l.printed,
+    let p = flush(p, page);
+    Page {
+        at: put_entry(n, payload, 0, page),
+        printed: p.printed,
     }
 }
 
-// The record that a call left in the output, if any, under its line; then the output is empty again.
-fn list_record(l: Listing, n: usize, out: &[u8], page: &mut [u8]) -> Listing {
-    let used = l.state.used;
+// The record in the first bytes of the output, if any, under its line.
+fn list_record(p: Page, n: usize, used: usize, out: &[u8], page: &mut [u8]) -> Page {
     if used < HEAD {
-        return l;
+        return p;
     }
     if out.len() < used {
-        return l;
+        return p;
     }
-    let l = list_payload(l, n, &out[HEAD..used], page);
-    let mut state = l.state;
-    state.used = 0;
-    Listing {
-        state,
-        at: l.at,
-        printed: l.printed,
-    }
+    list_payload(p, n, &out[HEAD..used], page)
 }
 
-// Feeds a part of a piece with at most one line's end, its last byte.
+// Feeds a part of a piece with at most one line's end, its last byte; then the output is empty again.
 fn feed_part(l: Listing, part: &[u8], line: &mut [u8], out: &mut [u8], page: &mut [u8]) -> Listing {
     let before = l.state;
     let fed = before.feed(part, line, out);
-    let state = fed.state;
-    let n = state.lfs;
-    let l = Listing {
+    let mut state = fed.state;
+    let p = list_record(l.page, state.lfs, state.used, out, page);
+    state.used = 0;
+    Listing {
         state,
-        at: l.at,
-        printed: l.printed,
-    };
-    list_record(l, n, out, page)
+        page: p,
+        open: l.open,
+        read: l.read,
+    }
 }
 
 // The place behind the next line's end, or the piece's end.
@@ -118,11 +105,14 @@ fn part_end(piece: &[u8], from: usize) -> usize
     requires { ⌜ from < length (now piece) ⌝ }
     ensures { λ r. ⌜ (from < r) × (r ≤ length (now (piece .entry))) ⌝ }
 {
-    let e = slices::find(piece, from, b'\n', true);
-    if e < piece.len() {
-        return e + 1;
+    let mut i = from;
+    while i < piece.len() {
+        if piece[i] == b'\n' {
+            return i + 1;
+        }
+        i += 1;
     }
-    e
+    i
 }
 
 fn feed_piece(
@@ -142,6 +132,18 @@ fn feed_piece(
     l
 }
 
+// The same upload, where nothing more is read.
+fn closed(l: Listing, read: bool) -> Listing {
+    let state = l.state;
+    let p = l.page;
+    Listing {
+        state,
+        page: p,
+        open: false,
+        read,
+    }
+}
+
 // Reads a piece of at most so many bytes, and feeds it.
 fn read_piece(
     fd: i32,
@@ -150,80 +152,73 @@ fn read_piece(
     line: &mut [u8],
     out: &mut [u8],
     page: &mut [u8],
-) -> Turn {
+) -> Listing {
+    if l.state.refusal != 0 {
+        return closed(l, true);
+    }
     let mut buf = io::buffer();
     let got = inputs::read_some(fd, size, &mut buf);
     if got < 0 {
-        return Turn::Unread;
+        return closed(l, false);
     }
     let n = io::count(got, &buf);
     if n == 0 {
-        return Turn::End(l);
+        return closed(l, true);
     }
-    Turn::More(feed_piece(l, &buf[..n], line, out, page))
+    feed_piece(l, &buf[..n], line, out, page)
 }
 
 // All pieces up to the input's end or the first refusal.
-fn feed_all(fd: i32, size: usize, line: &mut [u8], out: &mut [u8], page: &mut [u8]) -> Turn {
+fn feed_all(fd: i32, size: usize, line: &mut [u8], out: &mut [u8], page: &mut [u8]) -> Listing {
     let mut l = Listing {
         state: Upload::fresh(),
-        at: 0,
-        printed: true,
+        page: Page {
+            at: 0,
+            printed: true,
+        },
+        open: true,
+        read: true,
     };
     let mut left = PIECES_MAX;
     while left > 0 {
-        if l.state.refusal != 0 {
-            return Turn::End(l);
+        if !l.open {
+            return l;
         }
-        let step = read_piece(fd, size, l, line, out, page);
-        match step {
-            Turn::More(next) => l = next,
-            Turn::End(last) => return Turn::End(last),
-            Turn::Unread => return Turn::Unread,
-        }
+        l = read_piece(fd, size, l, line, out, page);
         left -= 1;
     }
-    Turn::End(l)
+    l
 }
 
 fn answered(a: Answer, printed: bool) -> Outcome {
     if a.number != 0 {
-        outputs::say(Message::Line(a.number, a.line, a.place));
+        outputs::say(Message::Refused(a.number, Spot::Line(a.line), a.place));
     }
     outputs::ended(printed, a.number)
 }
 
 // Ends the upload: the last line's record, and the answer.
 fn finish(l: Listing, line: &mut [u8], out: &mut [u8], page: &mut [u8]) -> Outcome {
+    if !l.read {
+        inputs::fail();
+        return Outcome::Failed;
+    }
     inputs::note_empty(l.state.taken);
     let before = l.state;
     let fed = before.finish(line, out);
-    let state = fed.state;
     // No more than 1,048,576 LFs are counted, so nothing wraps.
-    let n = std::num::wrapping_add_usize(state.lfs, 1);
-    let l = Listing {
-        state,
-        at: l.at,
-        printed: l.printed,
-    };
-    let l = list_record(l, n, out, page);
-    let l = flush(l, page);
+    let n = std::num::wrapping_add_usize(fed.state.lfs, 1);
+    let p = list_record(l.page, n, fed.state.used, out, page);
+    let p = flush(p, page);
     let a = fed.answer;
-    answered(a, l.printed)
+    answered(a, p.printed)
 }
 
 // Prints each record of a backup with its line.
 pub fn list(fd: i32, size: usize) -> Outcome {
-    let mut line = [0u8; LINE_ROOM];
+    let mut line = [0u8; LINE_MAX];
     let mut out = [0u8; RECORD_ROOM];
     let mut page = io::large_buffer();
-    let last = feed_all(fd, size, &mut line, &mut out, &mut page);
-    match last {
-        Turn::End(l) => finish(l, &mut line, &mut out, &mut page),
-        Turn::More(l) => finish(l, &mut line, &mut out, &mut page),
-        Turn::Unread => {
-            inputs::fail();
-            Outcome::Failed
-        }
-    }
+    let l = feed_all(fd, size, &mut line, &mut out, &mut page);
+    finish(l, &mut line, &mut out, &mut page)
 }

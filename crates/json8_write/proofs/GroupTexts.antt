@@ -1,4 +1,4 @@
--- The text of a list or a dict that is fit: what is put already, and then what the members from one on are written as; a turn puts one.
+-- The text of a group that is fit: what is put already, and then what the members from one on are written as; a turn puts one.
 -- Assumes nothing.
 use Prim.Native.Nat.{ℕ, suc, _+_, _-_, _*_, _/_, _≤_, _<_}
 use mathlib.Core.Bool.{Bool, true, false, _&&_}
@@ -14,15 +14,18 @@ use Rattle.prelude.proofs.Picks.{pick-true}
 use Rattle.json8.specs.declared.nodes.Sort.{Sort}
 use Rattle.json8.specs.declared.nodes.Sort.the-variants.{Items}
 use Rattle.json8.specs.Nodes.{Node}
+use Rattle.prelude.specs.Limits.{nodeMax}
 use Rattle.json8.specs.Values.{closeOf}
 use Rattle.trees.specs.Trees.{Label, Tree, branch, Members, none, one, openOf, comma, render, renderLabel, renderMembers}
 use Rattle.trees.specs.Tables.{Maybe, just, unfit, bind, nodesIn, countAt, labelSize, labelAt, memberSize, TreeReader, membersAt, treeAt, grouped}
-use Rattle.json8_write.specs.Write.{isFit}
-use Rattle.json8_write.specs.Steps.{nodeAt, Inside, within, Put, memberFit, treeText, labelText, renderBody, bodyText, memberText}
-use Rattle.json8_write.proofs.Puts.{put-as, put-none, put-then}
-use Rattle.json8_write.proofs.TableNodes.{member-is}
-use Rattle.json8_write.proofs.Choices.{fit-need, false-true, unfit-never, value-end, group-deep, group-empty, group-is}
-use Rattle.json8_write.proofs.Fitting.{members-fit, group-fit, root-member}
+use Rattle.json8_fit.specs.Fitness.{isFit}
+use Rattle.rooms.specs.inner.Puts.{Put}
+use Rattle.json8_fit.specs.inner.Steps.{nodeAt, Inside, within, memberFit}
+use Rattle.json8_write.specs.inner.Texts.{treeText, labelText, renderBody, bodyText, memberText}
+use Rattle.rooms.proofs.Puts.{put-as, put-none, put-then}
+use Rattle.json8_fit.proofs.TableNodes.{behind-label}
+use Rattle.json8_fit.proofs.Choices.{fit-need, false-true, unfit-never, value-end, group-deep, group-empty, group-is}
+use Rattle.json8_fit.proofs.Fitting.{members-fit, group-fit, root-member}
 
 -- a value that is fit stands in the table
 pub value-there : (table text store : List ℕ) (left i : ℕ) → isFit (treeAt left text store (drop i (nodesIn table))) ≡ true → Inside table i
@@ -34,10 +37,7 @@ value-there table text store left i f =
 -- a member's comma, key and value
 module _ (b : Sort) (table text store : List ℕ) (left i : ℕ) (first : Bool) (k : ℕ) (ek : k ≡ labelSize b) where
   behind : drop (labelSize b) (drop i (nodesIn table)) ≡ drop (i + k) (nodesIn table)
-  behind = drop-drop (labelSize b) i (nodesIn table) ∙ ap (λ (x : ℕ). drop (i + x) (nodesIn table)) (sym ek)
-
-  pub value-room : i + memberSize b (drop i (nodesIn table)) ≤ 1024 → i + k + countAt (drop (i + k) (nodesIn table)) ≤ 1024
-  value-room h = omega (arith, member-is b table i k (countAt (drop (i + k) (nodesIn table))) ek refl)
+  behind = behind-label b table i k ek
 
   pub value-fit : isFit (treeAt left text store (drop (labelSize b) (drop i (nodesIn table)))) ≡ true → isFit (treeAt left text store (drop (i + k) (nodesIn table))) ≡ true
   value-fit f = rw behind at f
@@ -90,18 +90,18 @@ module _ (b : Sort) (label : List Node → Maybe (Label b)) (tree : TreeReader) 
 pub record Loop (b : Sort) (table text store : List ℕ) (left room : ℕ) (want : List ℕ) (p₀ : ℕ) (out₀ : List ℕ) (members at p : ℕ) (first : Bool) (out : List ℕ) : Type 0 where
   pub w : ℕ
   pub fit : isFit (within b table text store left members w at) ≡ true
-  pub bound : at + w ≤ 1024
+  pub bound : at + w ≤ nodeMax
   pub done : List ℕ
   pub same : want ≡ done ++ bodyText first (within b table text store left members w at)
   pub put : Put done room p₀ p out₀ out
   pub long : length out ≡ length out₀
 
-pub begun : (b : Sort) (table text store : List ℕ) (left room members w i o : ℕ) (out : List ℕ) → i + w ≤ 1024 → isFit (within b table text store left members w i) ≡ true
+pub begun : (b : Sort) (table text store : List ℕ) (left room members w i o : ℕ) (out : List ℕ) → i + w ≤ nodeMax → isFit (within b table text store left members w i) ≡ true
     → Loop b table text store left room (bodyText true (within b table text store left members w i)) o out members i o true out
 begun b table text store left room members w i o out h f =
     record { w = w; fit = f; bound = h; done = []; same = refl; put = put-none; long = refl }
 
--- a list or a dict that is fit: a bracket may be opened, and it counts itself
+-- a group that is fit: a bracket may be opened, and it counts itself
 module _ (b : Sort) (table text store : List ℕ) (left i : ℕ) (f : isFit (grouped left text store b (nodeAt i table) (drop (i + 1) (nodesIn table))) ≡ true) where
   pub opens : left ≡ 0 → ⊥
   opens e = unfit-never _ (group-deep b table text store left i e) f
@@ -152,7 +152,7 @@ module _ (b : Sort) (table text store : List ℕ) (left room : ℕ) (want : List
     pub turn-size : memberSize b here ≤ i .w
     turn-size = leb-true (memberSize b here) (i .w) (first-inside b (labelAt b text store) (treeAt left text store) first (members - 1) (i .w) here fit-on)
 
-    pub turn-bound : at + memberSize b here ≤ 1024
+    pub turn-bound : at + memberSize b here ≤ nodeMax
     turn-bound = omega (arith, turn-size, i .bound)
 
     pub turn-label : isFit (labelAt b text store here) ≡ true

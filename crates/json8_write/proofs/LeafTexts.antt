@@ -19,10 +19,13 @@ use Rattle.json8.specs.Nodes.{Node}
 use Rattle.json8_show.specs.Show.{shownBy}
 use Rattle.trees.specs.Trees.{number, string, render}
 use Rattle.trees.specs.Tables.{Maybe, just, unfit, bind, nodesIn, countAt, bytesOf, stringOf, numberOf, leafOf, labelAt}
-use Rattle.json8_write.specs.Write.{isFit}
-use Rattle.json8_write.specs.Steps.{nodeAt, Inside, Put, wordText, treeText, stringText, labelText}
-use Rattle.json8_write.proofs.Puts.{put-as, put-none, put-then}
-use Rattle.json8_write.proofs.Choices.{fit-need, false-true, unfit-never, number-is, leaf-scalar, scalar-word, scalar-number, scalar-string, key-counts, key-inside, key-string}
+use Rattle.json8_fit.specs.Fitness.{isFit}
+use Rattle.rooms.specs.inner.Puts.{Put}
+use Rattle.json8_fit.specs.inner.Steps.{nodeAt, Inside, wordOf}
+use Rattle.json8_write.specs.inner.Texts.{treeText, stringText, labelText}
+use Rattle.rooms.proofs.Puts.{put-as, put-none, put-then}
+use Rattle.json8_fit.proofs.Fitting.{fit-number, fit-string}
+use Rattle.json8_fit.proofs.Choices.{fit-need, false-true, unfit-never, number-is, leaf-scalar, scalar-word, scalar-number, scalar-string, key-counts, key-inside, key-string}
 
 -- a string that is fit lies inside its buffer
 abbrev Held : List ℕ → List ℕ → ℕ → ℕ → ℕ → Maybe (List ℕ)
@@ -103,18 +106,14 @@ module _ (text store : List ℕ) (v : Node) (f : isFit (leafOf text store v) ≡
     pub leaf-number : 2 < v .kind → v .kind ≤ 4 → Put (treeText (numberOf text v)) room o r out new → Put (treeText (leafOf text store v)) room o r out new
     leaf-number h g w = put-as (ap treeText (leaf-scalar text store v counts ∙ scalar-number text store v (omega arith) (omega arith))) w
 
-    pub leaf-word : v .kind ≤ 2 → Put (wordText (v .kind)) room o r out new → Put (treeText (leafOf text store v)) room o r out new
-    leaf-word h w = put-as (ap treeText (leaf-scalar text store v counts) ∙ scalar-word text store v (omega arith) .1) w
-
-  bound-fit : (x : Maybe (List ℕ)) → isFit (bind x (λ bs. just (string bs))) ≡ isFit x
-  bound-fit (just bs) = refl
-  bound-fit unfit = refl
+    pub leaf-word : v .kind ≤ 2 → Put (render (wordOf (v .kind))) room o r out new → Put (treeText (leafOf text store v)) room o r out new
+    leaf-word h w = put-as (ap treeText (leaf-scalar text store v counts ∙ scalar-word text store v (omega arith))) w
 
   pub string-fit : 4 < v .kind → isFit (stringOf text store v) ≡ true
-  string-fit h = sym (ap isFit (leaf-scalar text store v counts ∙ scalar-string text store v (omega arith) (omega arith)) ∙ bound-fit (stringOf text store v)) ∙ f
+  string-fit h = fit-string text store v counts (omega arith) refl ∙ f
 
   pub number-fit : 2 < v .kind → v .kind ≤ 4 → isFit (numberOf text v) ≡ true
-  number-fit h g = sym (ap isFit (leaf-scalar text store v counts ∙ scalar-number text store v (omega arith) (omega arith))) ∙ f
+  number-fit h g = fit-number text store v counts (omega arith) (omega arith) refl ∙ f
 
 -- a key that is fit, and its colon
 module _ (table text store : List ℕ) (i : ℕ) (f : isFit (labelAt Pairs text store (drop i (nodesIn table))) ≡ true) where

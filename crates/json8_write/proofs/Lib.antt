@@ -1,9 +1,5 @@
-pub mod Puts
-pub mod TableNodes
-pub mod NumberTexts
-pub mod Choices
-pub mod Fitting
-pub mod LeafTexts
-pub mod GroupTexts
-pub mod WholeTables
-pub mod Roominess
+mod TextParts
+mod LeafTexts
+mod GroupTexts
+mod WholeTables
+mod Roominess

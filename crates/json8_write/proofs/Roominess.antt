@@ -14,10 +14,11 @@ use Rattle.trees.specs.Trees.{Tree}
 use Rattle.trees.specs.Tables.{Maybe, just, unfit, nodesIn, countAt, treeOf}
 use Rattle.trees.specs.Rooms.{bytesHeld, roomOf}
 use Rattle.trees.proofs.Rooms.{tree-room}
-use Rattle.json8_write.specs.Write.{isFit}
-use Rattle.json8_write.specs.Steps.{nodeAt, treeText}
-use Rattle.json8_write.proofs.TableNodes.{node-there}
-use Rattle.json8_write.proofs.Choices.{false-true}
+use Rattle.json8_fit.specs.Fitness.{isFit}
+use Rattle.json8_fit.specs.inner.Steps.{nodeAt}
+use Rattle.json8_write.specs.inner.Texts.{treeText}
+use Rattle.json8_fit.proofs.TableNodes.{node-there}
+use Rattle.json8_fit.proofs.Choices.{false-true}
 
 -- the bytes of a node, by its kind
 module _ (v : Node) where

@@ -1,7 +1,6 @@
 -- Writing a table: "Refusal 1 unless" it is fit, "then 12"; the text is that of the table's tree.
 -- Assumes nothing.
 use Prim.Native.Nat.{ℕ}
-use mathlib.Core.Bool.{Bool, true, false}
 use mathlib.Core.List.{List}
 use lib.Dec.{leb}
 use lib.ListN.{length}
@@ -13,11 +12,6 @@ use Rattle.trees.specs.Trees.{Tree, render}
 use Rattle.trees.specs.Tables.{Maybe, just, unfit}
 use Rattle.json8_write.specs.declared.answers.WroteTable.{WroteTable}
 use Rattle.json8_write.specs.declared.answers.WroteTable.the-variants.{Wrote, Refused}
-
--- a table is fit if it means a tree, and so are its parts if they mean something
-abbrev pub isFit : {A : Type 0} → Maybe A → Bool
-isFit (just a) = true
-isFit unfit = false
 
 -- the answer for what a table means, in a room
 abbrev pub wroteTree : ℕ → Maybe Tree → WroteTable

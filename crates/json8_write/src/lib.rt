@@ -1,8 +1,6 @@
-// JSON8: a node table judged, and written in the one form that reads back as the same tree.
+// JSON8: a node table written in the one form that reads back as the same tree.
+mod ample;
 pub mod answers;
-pub mod fitness;
-mod nodes;
-mod rooms;
-pub mod texts;
+mod texts;
 mod values;
 pub mod write;

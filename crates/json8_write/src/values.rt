@@ -1,19 +1,23 @@
-// The texts of the nodes of a fit table. Values, lists and dicts call each other, and the brackets that may still be opened fall at each
-// call.
+// The texts of the nodes of a fit table. Values and groups, which are lists and dicts, call each other, and the brackets that may still be
+// opened fall at each call.
 ghost use mathlib.Core.Bool.{true};
 ghost use mathlib.Core.Path.{_≡_};
 ghost use Prim.Native.Nat.{_+_, _≤_};
 ghost use lib.ListN.{length, drop};
 ghost use Rattle.utf8.specs.Class.{IsTable};
+ghost use Rattle.rooms.specs.inner.Puts.{roomMax, Put};
 ghost use Rattle.json8.specs.declared.nodes.Sort.the-variants.{Pairs};
 ghost use Rattle.json8.specs.Nodes.{Node};
+ghost use Rattle.prelude.specs.Limits.{nodeMax};
 ghost use Rattle.trees.specs.Tables.{nodesIn, countAt, stringOf, numberOf, leafOf, labelSize, labelAt, memberSize, treeAt, grouped};
-ghost use Rattle.json8_write.specs.Write.{isFit};
-ghost use Rattle.json8_write.specs.Steps.{roomMax, Put, Inside, nodeAt, within, treeText, stringText, labelText, memberText, bodyText};
-use crate::nodes;
-use crate::nodes::Branch;
+ghost use Rattle.json8_fit.specs.Fitness.{isFit};
+ghost use Rattle.json8_fit.specs.inner.Steps.{Inside, nodeAt, within};
+ghost use Rattle.json8_write.specs.inner.Texts.{treeText, stringText, labelText, memberText, bodyText};
 use crate::texts;
 use json8::nodes::Sort;
+use json8_fit::nodes;
+use json8_fit::nodes::Shape;
+use rooms::parts;
 
 // A string of kind 5 or 6. It is fit, so its range lies inside its buffer.
 fn string_text(
@@ -32,9 +36,9 @@ fn string_text(
     let place = nodes::number_in(table, 4 * i + 2);
     let size = nodes::number_in(table, 4 * i + 3);
     if table[4 * i] == 5 {
-        return texts::put_string(t, &text[place..place + size], room, o, out);
+        return parts::put_string(t, &text[place..place + size], room, o, out);
     }
-    texts::put_string(t, &store[place..place + size], room, o, out)
+    parts::put_string(t, &store[place..place + size], room, o, out)
 }
 
 // A number, as it stands in the text.
@@ -44,7 +48,7 @@ fn number_text(table: &[u32], text: &[u8], i: usize, room: usize, o: usize, out:
 {
     let place = nodes::number_in(table, 4 * i + 2);
     let size = nodes::number_in(table, 4 * i + 3);
-    texts::put_run(text, place, size, room, o, out)
+    parts::put_run(text, place, size, room, o, out)
 }
 
 // A node that holds no other.
@@ -85,7 +89,7 @@ fn key_text(
     ensures { λ r. ⌜ Put (labelText Pairs (labelAt Pairs (now (text .entry)) (now (store .entry)) (drop i (nodesIn (now (table .entry)))))) room o r (now (out .entry)) (now (out .exit)) ⌝ }
 {
     let p = string_text(t, table, text, store, i, room, o, out);
-    texts::put_byte(0x3a, room, p, out)
+    parts::put_byte(b':', room, p, out)
 }
 
 // What stands before a member's value: nothing, or its key and a colon.
@@ -121,12 +125,12 @@ fn value_text(
     o: usize,
     out: &mut [u8],
 ) -> usize
-    requires { ⌜ IsTable (now t) × (i + countAt (drop i (nodesIn (now table))) ≤ 1024) × (isFit (treeAt left (now text) (now store) (drop i (nodesIn (now table)))) ≡ true) × (room ≤ roomMax) ⌝ }
+    requires { ⌜ IsTable (now t) × (i + countAt (drop i (nodesIn (now table))) ≤ nodeMax) × (isFit (treeAt left (now text) (now store) (drop i (nodesIn (now table)))) ≡ true) × (room ≤ roomMax) ⌝ }
     ensures { λ r. ⌜ Put (treeText (treeAt left (now (text .entry)) (now (store .entry)) (drop i (nodesIn (now (table .entry)))))) room o r (now (out .entry)) (now (out .exit)) ⌝ }
 {
-    match nodes::branch_of(table[4 * i]) {
-        Branch::Of(sort) => { group_text(t, table, text, store, i, left, sort, room, o, out) }
-        Branch::Leaf => leaf_text(t, table, text, store, i, room, o, out),
+    match nodes::shape_of(table[4 * i]) {
+        Shape::Group(sort) => { group_text(t, table, text, store, i, left, sort, room, o, out) }
+        Shape::Leaf => leaf_text(t, table, text, store, i, room, o, out),
     }
 }
 
@@ -144,7 +148,7 @@ fn member_text(
     o: usize,
     out: &mut [u8],
 ) -> usize
-    requires { ⌜ IsTable (now t) × (i + memberSize sort (drop i (nodesIn (now table))) ≤ 1024) × (isFit (labelAt sort (now text) (now store) (drop i (nodesIn (now table)))) ≡ true) × (isFit (treeAt left (now text) (now store) (drop (labelSize sort) (drop i (nodesIn (now table))))) ≡ true) × (room ≤ roomMax) ⌝ }
+    requires { ⌜ IsTable (now t) × (i + memberSize sort (drop i (nodesIn (now table))) ≤ nodeMax) × (isFit (labelAt sort (now text) (now store) (drop i (nodesIn (now table)))) ≡ true) × (isFit (treeAt left (now text) (now store) (drop (labelSize sort) (drop i (nodesIn (now table))))) ≡ true) × (room ≤ roomMax) ⌝ }
     ensures { λ r. ⌜ Put (memberText sort (labelAt sort (now (text .entry)) (now (store .entry))) (treeAt left (now (text .entry)) (now (store .entry))) first (drop i (nodesIn (now (table .entry))))) room o r (now (out .entry)) (now (out .exit)) ⌝ }
 {
     let p = texts::put_comma(first, room, o, out);
@@ -162,7 +166,7 @@ fn member_text(
     )
 }
 
-// A list or a dict: its members in brackets.
+// A group: its members in brackets.
 fn group_text(
     t: &[u8; 256],
     table: &[u32],
@@ -175,7 +179,7 @@ fn group_text(
     o: usize,
     out: &mut [u8],
 ) -> usize
-    requires { ⌜ IsTable (now t) × Inside (now table) i × (i + nodeAt i (now table) .count ≤ 1024) × (isFit (grouped left (now text) (now store) sort (nodeAt i (now table)) (drop (i + 1) (nodesIn (now table)))) ≡ true) × (room ≤ roomMax) ⌝ }
+    requires { ⌜ IsTable (now t) × Inside (now table) i × (i + nodeAt i (now table) .count ≤ nodeMax) × (isFit (grouped left (now text) (now store) sort (nodeAt i (now table)) (drop (i + 1) (nodesIn (now table)))) ≡ true) × (room ≤ roomMax) ⌝ }
     ensures { λ r. ⌜ Put (treeText (grouped left (now (text .entry)) (now (store .entry)) sort (nodeAt i (now (table .entry))) (drop (i + 1) (nodesIn (now (table .entry)))))) room o r (now (out .entry)) (now (out .exit)) ⌝ }
 {
     let count = nodes::number_in(table, 4 * i + 1);
@@ -198,7 +202,7 @@ fn group_text(
     texts::put_close(sort, room, q, out)
 }
 
-// So many members from node i on, which fill w nodes. A table is written as its one root, so that only lists and dicts call this again.
+// So many members from node i on, which fill w nodes. A table is written as its one root, so that only groups call this again.
 pub fn members_text(
     t: &[u8; 256],
     table: &[u32],
@@ -213,7 +217,7 @@ pub fn members_text(
     o: usize,
     out: &mut [u8],
 ) -> usize
-    requires { ⌜ IsTable (now t) × (i + w ≤ 1024) × (isFit (within sort (now table) (now text) (now store) left members w i) ≡ true) × (room ≤ roomMax) ⌝ }
+    requires { ⌜ IsTable (now t) × (i + w ≤ nodeMax) × (isFit (within sort (now table) (now text) (now store) left members w i) ≡ true) × (room ≤ roomMax) ⌝ }
     ensures { λ r. ⌜ Put (bodyText true (within sort (now (table .entry)) (now (text .entry)) (now (store .entry)) left members w i)) room o r (now (out .entry)) (now (out .exit)) ⌝ }
 {
     let mut more = members;

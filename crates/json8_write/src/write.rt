@@ -4,15 +4,17 @@ ghost use mathlib.Core.Path.{_≡_};
 ghost use Prim.Native.Nat.{_≤_};
 ghost use lib.ListN.{length};
 ghost use Rattle.utf8.specs.Class.{IsTable};
+ghost use Rattle.rooms.specs.inner.Puts.{roomMax, Put};
 ghost use Rattle.trees.specs.Tables.{nodesIn, treeOf};
-ghost use Rattle.json8_write.specs.Steps.{roomMax, Put, treeText};
-ghost use Rattle.json8_write.specs.Write.{isFit, wroteTree, treeInto};
+ghost use Rattle.json8_fit.specs.Fitness.{isFit};
+ghost use Rattle.json8_write.specs.Write.{wroteTree, treeInto};
+ghost use Rattle.json8_write.specs.inner.Texts.{treeText};
+use crate::ample;
 use crate::answers::WroteTable;
-use crate::fitness;
-use crate::nodes;
-use crate::rooms;
 use crate::values;
 use json8::nodes::Sort;
+use json8_fit::fitness;
+use json8_fit::nodes;
 use prelude::limits::DEPTH_MAX;
 use prelude::refusals;
 use utf8::classes;
@@ -57,7 +59,7 @@ pub fn write(table: &[u32], text: &[u8], store: &[u8], out: &mut [u8]) -> WroteT
     }
     let t = classes::table();
     let room = out.len();
-    if rooms::room_of(table, nodes::count_at(table, 0)) <= room {
+    if ample::room_of(table, nodes::count_at(table, 0)) <= room {
         return WroteTable::Wrote(pass(&t, table, text, store, room, out));
     }
     let n = pass(&t, table, text, store, room, &mut out[..0]);

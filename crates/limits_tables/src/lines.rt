@@ -46,7 +46,7 @@ fn end_in(table: &[u32], text: &[u8], store: &[u8], room: usize, out: &mut [u8])
     if out.len() < room {
         return;
     }
-    print_fit(json8_write::fitness::fit(table, text, store));
+    print_fit(json8_fit::fitness::fit(table, text, store));
     let answer = json8_write::write::write(table, text, store, &mut out[..room]);
     print_answer(answer, out);
     show::end_line();

@@ -13,9 +13,9 @@ use Rattle.io.specs.Digits.{glyph, digits, Fewest}
 use Rattle.prelude.proofs.Cases.{split}
 use Rattle.prelude.proofs.Picks.{pick-true, pick-false, pick-case}
 use Rattle.prelude.specs.Pick.{pick}
-use Rattle.messages.specs.Texts.{decimalIn, decimal, denotes}
+use Rattle.messages.specs.Texts.{nought, decimalIn, decimal, denotes}
 
-glyph-digit : (d : ℕ) → d < 10 → 48 + d ≡ glyph d
+glyph-digit : (d : ℕ) → d < 10 → nought + d ≡ glyph d
 glyph-digit d h =
     let e : ltb d 10 ≡ true = lt-ltb d 10 h in
     rw e
@@ -32,10 +32,10 @@ shorter i n h f = (
   λ g. let e : i ≡ suc i - 1 = omega arith in subst (λ (k : ℕ). 10 ^ k ≤ n / 10) e (omega (arith, lowest i n f)),
 )
 
-last-digit : (n : ℕ) → 48 + n % 10 ≡ glyph (n % 10)
+last-digit : (n : ℕ) → nought + n % 10 ≡ glyph (n % 10)
 last-digit n = glyph-digit (n % 10) (omega arith)
 
-one-more : {a b : List ℕ} (n : ℕ) → a ≡ b → a ++ ((48 + n % 10) ∷ []) ≡ b ++ (glyph (n % 10) ∷ [])
+one-more : {a b : List ℕ} (n : ℕ) → a ≡ b → a ++ ((nought + n % 10) ∷ []) ≡ b ++ (glyph (n % 10) ∷ [])
 one-more n e = ap₂ (λ (x : List ℕ) (d : ℕ). x ++ (d ∷ [])) e (last-digit n)
 
 digits-of : (k j n : ℕ) → j ≤ suc k → Fewest 10 1 n j → decimalIn (suc k) n ≡ digits 10 j n
@@ -53,7 +53,7 @@ unfolding decimalIn
 shortened zero n = omega arith
 shortened (suc k) n =
     let r : length (pick (ltb n 10) [] (decimalIn k (n / 10))) ≤ k = pick-case (λ (x : List ℕ). length x ≤ k) (ltb n 10) [] (decimalIn k (n / 10)) (λ e. omega arith) (λ e. shortened k (n / 10)) in
-    omega (arith, r, length-append (pick (ltb n 10) [] (decimalIn k (n / 10))) ((48 + n % 10) ∷ []))
+    omega (arith, r, length-append (pick (ltb n 10) [] (decimalIn k (n / 10))) ((nought + n % 10) ∷ []))
 
 -- a number of 64 bits has at most twenty digits
 twenty : (n k : ℕ) → n < 18446744073709551616 → Fewest 10 1 n k → k ≤ 20
@@ -73,9 +73,9 @@ pub decimal-length : (n : ℕ) → length (decimal n) ≤ 20
 decimal-length n = shortened 20 n
 
 -- digits behind others
-denotes-append : (a : List ℕ) (d n : ℕ) → denotes n (a ++ (d ∷ [])) ≡ 10 * denotes n a + (d - 48)
+denotes-append : (a : List ℕ) (d n : ℕ) → denotes n (a ++ (d ∷ [])) ≡ 10 * denotes n a + (d - nought)
 denotes-append [] d n = refl
-denotes-append (x ∷ a) d n = denotes-append a d (10 * n + (x - 48))
+denotes-append (x ∷ a) d n = denotes-append a d (10 * n + (x - nought))
 
 denoted : (k n : ℕ) → n < 10 ^ k → denotes 0 (decimalIn k n) ≡ n
 unfolding decimalIn
@@ -85,7 +85,7 @@ denoted (suc k) n h =
     split (ltb n 10)
     (λ e. ap (denotes 0) (pick-true _ _ _ e) ∙ (let z : 0 ≡ n / 10 = omega (arith, ltb-true n 10 e) in z))
     (λ e. ap (denotes 0) (pick-false _ _ _ e) ∙ denoted k (n / 10) (omega (arith, h))) in
-    denotes-append (pick (ltb n 10) [] (decimalIn k (n / 10))) (48 + n % 10) 0 ∙ (let z : 10 * denotes 0 (pick (ltb n 10) [] (decimalIn k (n / 10))) + (48 + n % 10 - 48) ≡ n = omega (arith, front) in z)
+    denotes-append (pick (ltb n 10) [] (decimalIn k (n / 10))) (nought + n % 10) 0 ∙ (let z : 10 * denotes 0 (pick (ltb n 10) [] (decimalIn k (n / 10))) + (nought + n % 10 - nought) ≡ n = omega (arith, front) in z)
 
 pub decimal-denotes : (n : ℕ) → n < 10 ^ 20 → denotes 0 (decimal n) ≡ n
 decimal-denotes n h = denoted 20 n h

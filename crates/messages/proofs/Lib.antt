@@ -1,5 +1,5 @@
 mod Decimals
-mod Unknown
+mod SentenceLines
 mod Reading
 mod Lines
 mod OneLines

@@ -14,18 +14,19 @@ use Rattle.prelude.proofs.Picks.{pick-true, pick-false}
 use Rattle.prelude.specs.Pick.{pick}
 use Rattle.utf8.specs.Utf8.{tail}
 use Rattle.messages.specs.declared.positions.Position.{Position}
+use Rattle.messages.specs.Texts.{LF}
 use Rattle.messages.specs.Positions.{at, behindByte, behind, positionOf}
 
 -- behind a byte
 module _ (p : Position) (x : ℕ) where
-  pub behind-end : x ≡ 10 → at (p .line + 1) 1 ≡ behindByte p x
+  pub behind-end : x ≡ LF → at (p .line + 1) 1 ≡ behindByte p x
   unfolding behindByte
-  behind-end e = sym (pick-true _ _ _ (eq-eqb x 10 e))
+  behind-end e = sym (pick-true _ _ _ (eq-eqb x LF e))
 
-  module _ (h : x ≡ 10 → ⊥) where
+  module _ (h : x ≡ LF → ⊥) where
     other : behindByte p x ≡ pick (tail x) p (at (p .line) (p .column + 1))
     unfolding behindByte
-    other = pick-false _ _ _ (ne-eqb x 10 h)
+    other = pick-false _ _ _ (ne-eqb x LF h)
 
     pub behind-tail : tail x ≡ true → p ≡ behindByte p x
     behind-tail e = sym (other ∙ pick-true _ _ _ e)

@@ -7,7 +7,7 @@ use mathlib.Core.Path.{_≡_}
 use lib.Dec.{eqb, leb}
 use Rattle.prelude.specs.Pick.{pick}
 use Rattle.messages.specs.declared.messages.Message.{Message}
-use Rattle.messages.specs.Texts.{decimal, denotes}
+use Rattle.messages.specs.Texts.{LF, decimal, denotes}
 use Rattle.messages.specs.Messages.{entryText, messageText}
 
 -- a number's digits denote it
@@ -21,7 +21,7 @@ inLine x = pick (eqb x 9) true (leb 0x20 x)
 -- one line and nothing more: LF is its last byte, and no other is one
 abbrev pub OneLine : List ℕ → Type 0
 OneLine [] = ⊥
-OneLine (x ∷ []) = x ≡ 10
+OneLine (x ∷ []) = x ≡ LF
 OneLine (x ∷ y ∷ r) = (inLine x ≡ true) × OneLine (y ∷ r)
 
 -- so scripts can go by lines, whatever bytes a string has

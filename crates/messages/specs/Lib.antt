@@ -3,3 +3,4 @@ pub mod Sentences
 pub mod Positions
 pub mod Messages
 pub mod Claims
+pub mod inner

@@ -7,13 +7,14 @@ use lib.ListN.{take}
 use Rattle.prelude.specs.Pick.{pick}
 use Rattle.utf8.specs.Utf8.{tail}
 use Rattle.messages.specs.declared.positions.Position.{Position}
+use Rattle.messages.specs.Texts.{LF}
 
 abbrev pub at : ℕ → ℕ → Position
 at line column = record { line = line; column = column }
 
 -- the position behind a byte: LF begins a line, and a byte that goes on a character counts with it
 unfoldable pub behindByte : Position → ℕ → Position
-behindByte p x = pick (eqb x 10) (at (p .line + 1) 1) (pick (tail x) p (at (p .line) (p .column + 1)))
+behindByte p x = pick (eqb x LF) (at (p .line + 1) 1) (pick (tail x) p (at (p .line) (p .column + 1)))
 
 -- the position behind a run of bytes
 unfoldable pub behind : Position → List ℕ → Position

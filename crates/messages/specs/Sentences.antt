@@ -4,9 +4,9 @@ use Prim.Native.Nat.{ℕ}
 use Prim.Native.String.{String}
 use mathlib.Core.List.{List, [], _∷_}
 use lib.Dec.{eqb}
+use Rattle.prelude.specs.Bytes.{ascii}
 use Rattle.prelude.specs.Pick.{pick}
 use Rattle.prelude.specs.Refusals.{unfit, tooLong, noOpening, cutOff, illFormed, control, badEscape, surrogate, tooLarge, byteEscape, trailing, noRoom, misplaced, badNumber, tooDeep, tooMany, overLimit, ended}
-use Rattle.messages.specs.Texts.{words}
 
 -- a refusal's number, and what it says to someone who doesn't know the numbers
 pub record Row : Type 0 where
@@ -38,9 +38,13 @@ rows =
     ∷ row ended "the upload has ended already"
     ∷ []
 
+-- for a number that no refusal has
+abbrev pub unknown : String
+unknown = "no refusal has this number"
+
 unfoldable pub sentenceIn : List Row → ℕ → List ℕ
-sentenceIn [] n = words "no refusal has this number"
-sentenceIn (r ∷ rs) n = pick (eqb n (r .number)) (words (r .says)) (sentenceIn rs n)
+sentenceIn [] n = ascii unknown
+sentenceIn (r ∷ rs) n = pick (eqb n (r .number)) (ascii (r .says)) (sentenceIn rs n)
 
 abbrev pub sentence : ℕ → List ℕ
 sentence n = sentenceIn rows n

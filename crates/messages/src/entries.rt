@@ -5,12 +5,11 @@ ghost use Prim.Native.Nat.{_+_, _*_, _≤_};
 ghost use lib.ListN.{length};
 ghost use Rattle.utf8.specs.Class.{IsTable};
 ghost use Rattle.strings_write.specs.Write.{writtenIn, wroteInto};
-ghost use Rattle.json8_write.specs.Steps.{roomMax, Put};
+ghost use Rattle.rooms.specs.inner.Puts.{roomMax, Put};
 ghost use Rattle.messages.specs.Messages.{entryText};
-use crate::texts::put_decimal;
-use crate::texts::put_words;
-use json8_write::texts::put_string;
+use crate::texts;
 use prelude::refusals;
+use rooms::parts;
 use strings_write::answers::Written;
 use utf8::classes;
 
@@ -19,10 +18,10 @@ fn put_entry(t: &[u8; 256], n: usize, s: &[u8], room: usize, out: &mut [u8]) -> 
     requires { ⌜ IsTable (now t) × (room ≤ roomMax) ⌝ }
     ensures { λ r. ⌜ Put (entryText n (now (s .entry))) room 0 r (now (out .entry)) (now (out .exit)) ⌝ }
 {
-    let a = put_decimal(n, room, 0, out);
-    let b = put_words(b"\t", room, a, out);
-    let e = put_string(t, s, room, b, out);
-    put_words(b"\n", room, e, out)
+    let a = texts::put_decimal(n, room, 0, out);
+    let b = parts::put_byte(b'\t', room, a, out);
+    let e = parts::put_string(t, s, room, b, out);
+    parts::put_byte(b'\n', room, e, out)
 }
 
 // Whether a room holds every entry of so many bytes.

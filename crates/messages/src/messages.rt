@@ -4,22 +4,27 @@ ghost use mathlib.Core.Path.{_≡_};
 ghost use Prim.Native.Nat.{_≤_};
 ghost use lib.ListN.{length};
 ghost use Rattle.strings_write.specs.Write.{writtenIn, wroteInto};
-ghost use Rattle.json8_write.specs.Steps.{roomMax, Put};
+ghost use Rattle.rooms.specs.inner.Puts.{roomMax, Put};
 ghost use Rattle.messages.specs.Texts.{decimal};
-ghost use Rattle.messages.specs.Messages.{numberText, lineText, columnText, placeText, verdictText, messageText};
-use crate::sentences::put_sentence;
-use crate::texts::put_decimal;
-use crate::texts::put_words;
+ghost use Rattle.messages.specs.declared.messages.Message.the-variants.{Refused, Verdict, Long};
+ghost use Rattle.messages.specs.Messages.{numberText, lineText, columnText, spotText, placeText, messageText};
+use crate::sentences;
+use crate::texts;
 use prelude::refusals;
+use rooms::parts;
 use strings_write::answers::Written;
 
+// Where the place of a refusal is counted from: a line of a J8 Lines backup, a JSON8 text, of which the line and the column are told too, or
+// a J8 string.
+pub enum Spot {
+    Line(usize),
+    Text(usize, usize),
+    Quoted,
+}
+
 pub enum Message {
-    // a refusal of a J8 Lines backup: number, line, place
-    Line(u32, usize, usize),
-    // of a JSON8 text: number, line, column, place
-    Text(u32, usize, usize, usize),
-    // of a J8 string: number, place
-    Quoted(u32, usize),
+    // a refusal: its number, and where it stands
+    Refused(u32, Spot, usize),
     // how a run ended: a refusal's number, or 0
     Verdict(u32),
     // a run that couldn't read its input or write its output
@@ -41,9 +46,9 @@ fn put_counted(
     requires { ⌜ room ≤ roomMax ⌝ }
     ensures { λ r. ⌜ Put (now (before .entry) ++ (decimal n ++ now (behind .entry))) room o r (now (out .entry)) (now (out .exit)) ⌝ }
 {
-    let p = put_words(before, room, o, out);
-    let q = put_decimal(n, room, p, out);
-    put_words(behind, room, q, out)
+    let p = parts::put_all(before, room, o, out);
+    let q = texts::put_decimal(n, room, p, out);
+    parts::put_all(behind, room, q, out)
 }
 
 fn put_number(number: u32, room: usize, out: &mut [u8]) -> usize
@@ -67,24 +72,61 @@ fn put_column(column: usize, room: usize, o: usize, out: &mut [u8]) -> usize
     put_counted(b"column ", column, b", ", room, o, out)
 }
 
+fn put_spot(spot: Spot, room: usize, o: usize, out: &mut [u8]) -> usize
+    requires { ⌜ room ≤ roomMax ⌝ }
+    ensures { λ r. ⌜ Put (spotText spot) room o r (now (out .entry)) (now (out .exit)) ⌝ }
+{
+    match spot {
+        Spot::Line(line) => put_line(line, room, o, out),
+        Spot::Text(line, column) => {
+            let p = put_line(line, room, o, out);
+            put_column(column, room, p, out)
+        }
+        Spot::Quoted => o,
+    }
+}
+
 // The place, the sentence and the line's end.
 fn put_place(number: u32, place: usize, room: usize, o: usize, out: &mut [u8]) -> usize
     requires { ⌜ room ≤ roomMax ⌝ }
     ensures { λ r. ⌜ Put (placeText number place) room o r (now (out .entry)) (now (out .exit)) ⌝ }
 {
     let p = put_counted(b"place ", place, b": ", room, o, out);
-    let q = put_sentence(number, room, p, out);
-    put_words(b"\n", room, q, out)
+    let q = sentences::put_sentence(number, room, p, out);
+    parts::put_byte(b'\n', room, q, out)
+}
+
+fn put_refusal(number: u32, spot: Spot, place: usize, room: usize, out: &mut [u8]) -> usize
+    requires { ⌜ room ≤ roomMax ⌝ }
+    ensures { λ r. ⌜ Put (messageText (Refused number spot place)) room 0 r (now (out .entry)) (now (out .exit)) ⌝ }
+{
+    let p = put_number(number, room, out);
+    let q = put_spot(spot, room, p, out);
+    put_place(number, place, room, q, out)
 }
 
 fn put_verdict(number: u32, room: usize, out: &mut [u8]) -> usize
     requires { ⌜ room ≤ roomMax ⌝ }
-    ensures { λ r. ⌜ Put (verdictText number) room 0 r (now (out .entry)) (now (out .exit)) ⌝ }
+    ensures { λ r. ⌜ Put (messageText (Verdict number)) room 0 r (now (out .entry)) (now (out .exit)) ⌝ }
 {
     if number == 0 {
-        return put_words(b"j8: ok\n", room, 0, out);
+        return parts::put_all(b"j8: ok\n", room, 0, out);
     }
     put_counted(b"j8: refused ", number as usize, b"\n", room, 0, out)
+}
+
+fn put_length(n: usize, room: usize, out: &mut [u8]) -> usize
+    requires { ⌜ room ≤ roomMax ⌝ }
+    ensures { λ r. ⌜ Put (messageText (Long n)) room 0 r (now (out .entry)) (now (out .exit)) ⌝ }
+{
+    put_counted(
+        b"this form has ",
+        n,
+        b" bytes, more than the 32,768 that are read\n",
+        room,
+        0,
+        out,
+    )
 }
 
 // A message's line, as far as the buffer reaches.
@@ -93,32 +135,11 @@ fn put_message(m: Message, room: usize, out: &mut [u8]) -> usize
     ensures { λ r. ⌜ Put (messageText m) room 0 r (now (out .entry)) (now (out .exit)) ⌝ }
 {
     match m {
-        Message::Line(number, line, place) => {
-            let p = put_number(number, room, out);
-            let q = put_line(line, room, p, out);
-            put_place(number, place, room, q, out)
-        }
-        Message::Text(number, line, column, place) => {
-            let p = put_number(number, room, out);
-            let q = put_line(line, room, p, out);
-            let u = put_column(column, room, q, out);
-            put_place(number, place, room, u, out)
-        }
-        Message::Quoted(number, place) => {
-            let p = put_number(number, room, out);
-            put_place(number, place, room, p, out)
-        }
+        Message::Refused(number, spot, place) => put_refusal(number, spot, place, room, out),
         Message::Verdict(number) => put_verdict(number, room, out),
-        Message::Failed => put_words(b"j8: failed\n", room, 0, out),
-        Message::Empty => put_words(b"the input is empty\n", room, 0, out),
-        Message::Long(n) => put_counted(
-            b"this form has ",
-            n,
-            b" bytes, more than the 32,768 that are read\n",
-            room,
-            0,
-            out,
-        ),
+        Message::Failed => parts::put_all(b"j8: failed\n", room, 0, out),
+        Message::Empty => parts::put_all(b"the input is empty\n", room, 0, out),
+        Message::Long(n) => put_length(n, room, out),
     }
 }
 

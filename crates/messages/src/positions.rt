@@ -17,7 +17,7 @@ fn behind_byte(p: Position, x: u8) -> Position
     ensures { λ r. ⌜ r ≡ behindByte p x ⌝ }
     ensures { λ r. ⌜ (r .line ≤ p .line + 1) × (r .column ≤ p .column + 1) ⌝ }
 {
-    if x == 10 {
+    if x == b'\n' {
         return Position {
             line: p.line + 1,
             column: 1,

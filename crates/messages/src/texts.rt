@@ -1,15 +1,8 @@
-// Words and numbers, put at a place as far as the buffer reaches (json8_write::texts).
+// Numbers, put at a place as far as the buffer reaches.
 ghost use Prim.Native.Nat.{_≤_};
-ghost use Rattle.json8_write.specs.Steps.{roomMax, Put};
+ghost use Rattle.rooms.specs.inner.Puts.{roomMax, Put};
 ghost use Rattle.messages.specs.Texts.{decimal};
-use json8_write::texts;
-
-pub fn put_words(s: &[u8], room: usize, o: usize, out: &mut [u8]) -> usize
-    requires { ⌜ room ≤ roomMax ⌝ }
-    ensures { λ r. ⌜ Put (now (s .entry)) room o r (now (out .entry)) (now (out .exit)) ⌝ }
-{
-    texts::put_run(s, 0, s.len(), room, o, out)
-}
+use rooms::parts;
 
 pub fn put_decimal(n: usize, room: usize, o: usize, out: &mut [u8]) -> usize
     requires { ⌜ room ≤ roomMax ⌝ }
@@ -17,5 +10,5 @@ pub fn put_decimal(n: usize, room: usize, o: usize, out: &mut [u8]) -> usize
 {
     let mut digits = [0u8; 20];
     let k = io::decimal(n as u64, &mut digits);
-    put_words(&digits[..k], room, o, out)
+    parts::put_all(&digits[..k], room, o, out)
 }

@@ -6,7 +6,7 @@ use Rattle.json8_write.proofs.texts.put_close.Tie as tie
 use mathlib.Core.List.{[], _∷_}
 use mathlib.Core.Path.{ap}
 use Rattle.json8.specs.declared.nodes.Sort.{Sort}
-use Rattle.json8_write.proofs.Puts.{put-as}
+use Rattle.rooms.proofs.Puts.{put-as}
 use Rattle.json8.specs.Values.{closeOf}
 
 enum-told : tie.Need-enum-told

@@ -1,9 +1,9 @@
--- Nothing before the first member, else one byte (Puts).
+-- Nothing before the first member, else one byte (TextParts).
 -- Assumes nothing.
 use borrow.Author.Needs.{needs}
 use Rattle.json8_write.proofs.texts.put_comma.Statement.{statement}
 use Rattle.json8_write.proofs.texts.put_comma.Tie as tie
-use Rattle.json8_write.proofs.Puts.{comma-none, comma-put}
+use Rattle.json8_write.proofs.TextParts.{comma-none, comma-put}
 
 returns : tie.Need-returns
 returns c =

@@ -1,9 +1,9 @@
--- By the kind (Puts).
+-- By the kind (TextParts).
 -- Assumes nothing.
 use borrow.Author.Needs.{needs}
 use Rattle.json8_write.proofs.texts.put_word.Statement.{statement}
 use Rattle.json8_write.proofs.texts.put_word.Tie as tie
-use Rattle.json8_write.proofs.Puts.{word-null, word-false, word-true}
+use Rattle.json8_write.proofs.TextParts.{word-null, word-false, word-true}
 
 put-null-requires : tie.Need-put-null-requires
 put-null-requires c κs = search needs

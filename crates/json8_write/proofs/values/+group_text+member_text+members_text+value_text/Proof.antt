@@ -16,10 +16,10 @@ use Rattle.json8_write.proofs.values.+group_text+member_text+members_te
 use Rattle.json8_write.proofs.values.value_text.Reads as value-text
 use Rattle.json8_write.proofs.values.value_text.Kinds as value-text-kinds
 use Rattle.json8_write.proofs.values.+group_text+member_text+members_text+value_text.Lts-value_text as value-text-lts
-use Rattle.json8_write.proofs.nodes.branch_of.Reads as branch-of-reads
-use Rattle.json8_write.proofs.nodes.label_size.Reads as label-size-reads
-use Rattle.json8_write.proofs.nodes.member_size.Reads as member-size-reads
-use Rattle.json8_write.proofs.nodes.number_in.Reads as number-in-reads
+use Rattle.json8_fit.proofs.nodes.shape_of.Reads as shape-of-reads
+use Rattle.json8_fit.proofs.nodes.label_size.Reads as label-size-reads
+use Rattle.json8_fit.proofs.nodes.member_size.Reads as member-size-reads
+use Rattle.json8_fit.proofs.nodes.number_in.Reads as number-in-reads
 use Rattle.json8_write.proofs.texts.put_close.Reads as put-close-reads
 use Rattle.json8_write.proofs.texts.put_comma.Reads as put-comma-reads
 use Rattle.json8_write.proofs.texts.put_open.Reads as put-open-reads
@@ -35,12 +35,13 @@ use native.Mathlib.Omega.{arith}
 use borrow.Author.Needs.{needs}
 use Rattle.trees.specs.Trees.{Tree}
 use Rattle.trees.specs.Tables.{Maybe}
-use Rattle.json8_write.specs.Write.{isFit}
-use Rattle.json8_write.specs.Steps.{within, treeText, bodyText}
-use Rattle.json8_write.proofs.Puts.{put-as}
-use Rattle.json8_write.proofs.TableNodes.{count-there}
-use Rattle.json8_write.proofs.Choices.{value-group, value-leaf}
-use Rattle.json8_write.proofs.GroupTexts.{value-there, value-room, value-fit, member-put, Loop, begun, opens, counts, inner-fit, group-put, turn-bound, turn-label, turn-tree, further, ended}
+use Rattle.json8_fit.specs.Fitness.{isFit}
+use Rattle.json8_fit.specs.inner.Steps.{within}
+use Rattle.json8_write.specs.inner.Texts.{treeText, bodyText}
+use Rattle.rooms.proofs.Puts.{put-as}
+use Rattle.json8_fit.proofs.TableNodes.{count-there, value-room}
+use Rattle.json8_fit.proofs.Choices.{value-group, value-leaf}
+use Rattle.json8_write.proofs.GroupTexts.{value-there, value-fit, member-put, Loop, begun, opens, counts, inner-fit, group-put, turn-bound, turn-label, turn-tree, further, ended}
 
 abbrev μ-group-text : Measures 5 group-text-kinds.ps ℕ
 μ-group-text κs a =
@@ -168,7 +169,7 @@ member-text-add-value-text t c =
 
 member-text-value-text-requires : (t : ℕ) → member-text-lts.Need-value-text-requires (put-comma-reads.Asked, put-comma-reads.Learnt, label-text-reads.Asked, label-text-reads.Learnt, label-size-reads.Asked, label-size-reads.Learnt, value-text-below t, value-text.Post) (member-text-at t) member-text.Post
 member-text-value-text-requires t c κs =
-    (omega (arith, c .before .before .before .before .before .before .before .before .before .before .before .before .before .before .pre .0), (c .before .before .before .before .before .before .before .before .before .before .before .before .before .before .pre .1 .0, value-room (c .before .before .before .before .before .before .before .before .before .before .before .before .before .before .args .sort) (now (c .before .before .before .before .before .before .before .before .before .before .before .before .before .before .args .table)) (now (c .before .before .before .before .before .before .before .before .before .before .before .before .before .before .args .text)) (now (c .before .before .before .before .before .before .before .before .before .before .before .before .before .before .args .store)) (c .before .before .before .before .before .before .before .before .before .before .before .before .before .before .args .left) (c .before .before .before .before .before .before .before .before .before .before .before .before .before .before .args .i) (c .before .before .before .before .before .before .before .before .before .before .before .before .before .before .args .first) _ (c .before .label-size .ensures .0) (c .before .before .before .before .before .before .before .before .before .before .before .before .before .before .pre .1 .1), value-fit (c .before .before .before .before .before .before .before .before .before .before .before .before .before .before .args .sort) (now (c .before .before .before .before .before .before .before .before .before .before .before .before .before .before .args .table)) (now (c .before .before .before .before .before .before .before .before .before .before .before .before .before .before .args .text)) (now (c .before .before .before .before .before .before .before .before .before .before .before .before .before .before .args .store)) (c .before .before .before .before .before .before .before .before .before .before .before .before .before .before .args .left) (c .before .before .before .before .before .before .before .before .before .before .before .before .before .before .args .i) (c .before .before .before .before .before .before .before .before .before .before .before .before .before .before .args .first) _ (c .before .label-size .ensures .0) (c .before .before .before .before .before .before .before .before .before .before .before .before .before .before .pre .1 .3), c .before .before .before .before .before .before .before .before .before .before .before .before .before .before .pre .1 .4))
+    (omega (arith, c .before .before .before .before .before .before .before .before .before .before .before .before .before .before .pre .0), (c .before .before .before .before .before .before .before .before .before .before .before .before .before .before .pre .1 .0, value-room (c .before .before .before .before .before .before .before .before .before .before .before .before .before .before .args .sort) (now (c .before .before .before .before .before .before .before .before .before .before .before .before .before .before .args .table)) (c .before .before .before .before .before .before .before .before .before .before .before .before .before .before .args .i) _ (c .before .label-size .ensures .0) (c .before .before .before .before .before .before .before .before .before .before .before .before .before .before .pre .1 .1), value-fit (c .before .before .before .before .before .before .before .before .before .before .before .before .before .before .args .sort) (now (c .before .before .before .before .before .before .before .before .before .before .before .before .before .before .args .table)) (now (c .before .before .before .before .before .before .before .before .before .before .before .before .before .before .args .text)) (now (c .before .before .before .before .before .before .before .before .before .before .before .before .before .before .args .store)) (c .before .before .before .before .before .before .before .before .before .before .before .before .before .before .args .left) (c .before .before .before .before .before .before .before .before .before .before .before .before .before .before .args .i) (c .before .before .before .before .before .before .before .before .before .before .before .before .before .before .args .first) _ (c .before .label-size .ensures .0) (c .before .before .before .before .before .before .before .before .before .before .before .before .before .before .pre .1 .3), c .before .before .before .before .before .before .before .before .before .before .before .before .before .before .pre .1 .4))
 
 member-text-same-length : (t : ℕ) → member-text-lts.Need-same-length (put-comma-reads.Asked, put-comma-reads.Learnt, label-text-reads.Asked, label-text-reads.Learnt, label-size-reads.Asked, label-size-reads.Learnt, value-text-below t, value-text.Post) (member-text-at t) member-text.Post
 member-text-same-length t c =
@@ -222,53 +223,53 @@ members-text-returns : (t : ℕ) → members-text-lts.Need-returns (member-text-
 members-text-returns t c =
     ended (c .before .before .before .before .before .before .args .sort) (now (c .before .before .before .before .before .before .args .table)) (now (c .before .before .before .before .before .before .args .text)) (now (c .before .before .before .before .before .before .args .store)) (c .before .before .before .before .before .before .args .left) (c .before .before .before .before .before .before .args .room) _ _ _ _ _ _ _ _ (c .before .loop .inv) (c .loop-test .left)
 
-value-text-mul-branch-of : (t : ℕ) → value-text-lts.Need-mul-branch-of (branch-of-reads.Asked, branch-of-reads.Learnt, group-text-below t, group-text.Post, leaf-text-reads.Asked, leaf-text-reads.Learnt) (value-text-at t) value-text.Post
-value-text-mul-branch-of t c =
+value-text-mul-shape-of : (t : ℕ) → value-text-lts.Need-mul-shape-of (shape-of-reads.Asked, shape-of-reads.Learnt, group-text-below t, group-text.Post, leaf-text-reads.Asked, leaf-text-reads.Learnt) (value-text-at t) value-text.Post
+value-text-mul-shape-of t c =
     omega (arith, (value-there (now (c .before .before .before .before .args .table)) (now (c .before .before .before .before .args .text)) (now (c .before .before .before .before .args .store)) (c .before .before .before .before .args .left) (c .before .before .before .before .args .i) (c .before .before .before .before .pre .1 .2)))
 
-value-text-mul-branch-of-2 : (t : ℕ) → value-text-lts.Need-mul-branch-of-2 (branch-of-reads.Asked, branch-of-reads.Learnt, group-text-below t, group-text.Post, leaf-text-reads.Asked, leaf-text-reads.Learnt) (value-text-at t) value-text.Post
-value-text-mul-branch-of-2 t c =
+value-text-mul-shape-of-2 : (t : ℕ) → value-text-lts.Need-mul-shape-of-2 (shape-of-reads.Asked, shape-of-reads.Learnt, group-text-below t, group-text.Post, leaf-text-reads.Asked, leaf-text-reads.Learnt) (value-text-at t) value-text.Post
+value-text-mul-shape-of-2 t c =
     omega (arith, (value-there (now (c .before .before .before .before .args .table)) (now (c .before .before .before .before .args .text)) (now (c .before .before .before .before .args .store)) (c .before .before .before .before .args .left) (c .before .before .before .before .args .i) (c .before .before .before .before .pre .1 .2)))
 
-value-text-shared-slice-read-branch-of : (t : ℕ) → value-text-lts.Need-shared-slice-read-branch-of (branch-of-reads.Asked, branch-of-reads.Learnt, group-text-below t, group-text.Post, leaf-text-reads.Asked, leaf-text-reads.Learnt) (value-text-at t) value-text.Post
-value-text-shared-slice-read-branch-of t c =
+value-text-shared-slice-read-shape-of : (t : ℕ) → value-text-lts.Need-shared-slice-read-shape-of (shape-of-reads.Asked, shape-of-reads.Learnt, group-text-below t, group-text.Post, leaf-text-reads.Asked, leaf-text-reads.Learnt) (value-text-at t) value-text.Post
+value-text-shared-slice-read-shape-of t c =
     omega (arith, (value-there (now (c .before .before .before .before .before .args .table)) (now (c .before .before .before .before .before .args .text)) (now (c .before .before .before .before .before .args .store)) (c .before .before .before .before .before .args .left) (c .before .before .before .before .before .args .i) (c .before .before .before .before .before .pre .1 .2)))
 
-value-text-branch-of-requires : (t : ℕ) → value-text-lts.Need-branch-of-requires (branch-of-reads.Asked, branch-of-reads.Learnt, group-text-below t, group-text.Post, leaf-text-reads.Asked, leaf-text-reads.Learnt) (value-text-at t) value-text.Post
-value-text-branch-of-requires t c κs =
+value-text-shape-of-requires : (t : ℕ) → value-text-lts.Need-shape-of-requires (shape-of-reads.Asked, shape-of-reads.Learnt, group-text-below t, group-text.Post, leaf-text-reads.Asked, leaf-text-reads.Learnt) (value-text-at t) value-text.Post
+value-text-shape-of-requires t c κs =
     tt
 
-value-text-enum-known-sort : (t : ℕ) → value-text-lts.Need-enum-known-sort (branch-of-reads.Asked, branch-of-reads.Learnt, group-text-below t, group-text.Post, leaf-text-reads.Asked, leaf-text-reads.Learnt) (value-text-at t) value-text.Post
+value-text-enum-known-sort : (t : ℕ) → value-text-lts.Need-enum-known-sort (shape-of-reads.Asked, shape-of-reads.Learnt, group-text-below t, group-text.Post, leaf-text-reads.Asked, leaf-text-reads.Learnt) (value-text-at t) value-text.Post
 value-text-enum-known-sort t c =
     search needs
 
-value-text-group-text-requires : (t : ℕ) → value-text-lts.Need-group-text-requires (branch-of-reads.Asked, branch-of-reads.Learnt, group-text-below t, group-text.Post, leaf-text-reads.Asked, leaf-text-reads.Learnt) (value-text-at t) value-text.Post
+value-text-group-text-requires : (t : ℕ) → value-text-lts.Need-group-text-requires (shape-of-reads.Asked, shape-of-reads.Learnt, group-text-below t, group-text.Post, leaf-text-reads.Asked, leaf-text-reads.Learnt) (value-text-at t) value-text.Post
 value-text-group-text-requires t c κs =
-    (omega (arith, c .before .before .before .before .before .before .before .before .before .before .pre .0), (c .before .before .before .before .before .before .before .before .before .before .pre .1 .0, (value-there (now (c .before .before .before .before .before .before .before .before .before .before .args .table)) (now (c .before .before .before .before .before .before .before .before .before .before .args .text)) (now (c .before .before .before .before .before .before .before .before .before .before .args .store)) (c .before .before .before .before .before .before .before .before .before .before .args .left) (c .before .before .before .before .before .before .before .before .before .before .args .i) (c .before .before .before .before .before .before .before .before .before .before .pre .1 .2)), omega (arith, c .before .before .before .before .before .before .before .before .before .before .pre .1 .1, count-there (c .before .before .before .before .before .before .before .before .before .before .args .i) (now (c .before .before .before .before .before .before .before .before .before .before .args .table)) (value-there (now (c .before .before .before .before .before .before .before .before .before .before .args .table)) (now (c .before .before .before .before .before .before .before .before .before .before .args .text)) (now (c .before .before .before .before .before .before .before .before .before .before .args .store)) (c .before .before .before .before .before .before .before .before .before .before .args .left) (c .before .before .before .before .before .before .before .before .before .before .args .i) (c .before .before .before .before .before .before .before .before .before .before .pre .1 .2))), sym (ap (λ (x : Maybe Tree). isFit x) (value-group (now (c .before .before .before .before .before .before .before .before .before .before .args .table)) (now (c .before .before .before .before .before .before .before .before .before .before .args .text)) (now (c .before .before .before .before .before .before .before .before .before .before .args .store)) (c .before .before .before .before .before .before .before .before .before .before .args .left) (c .before .before .before .before .before .before .before .before .before .before .args .i) (value-there (now (c .before .before .before .before .before .before .before .before .before .before .args .table)) (now (c .before .before .before .before .before .before .before .before .before .before .args .text)) (now (c .before .before .before .before .before .before .before .before .before .before .args .store)) (c .before .before .before .before .before .before .before .before .before .before .args .left) (c .before .before .before .before .before .before .before .before .before .before .args .i) (c .before .before .before .before .before .before .before .before .before .before .pre .1 .2)) _ (c .before .before .before .before .branch-of .ensures) _ (c .before .before .sort .given .1))) ∙ c .before .before .before .before .before .before .before .before .before .before .pre .1 .2, c .before .before .before .before .before .before .before .before .before .before .pre .1 .3))
+    (omega (arith, c .before .before .before .before .before .before .before .before .before .before .pre .0), (c .before .before .before .before .before .before .before .before .before .before .pre .1 .0, (value-there (now (c .before .before .before .before .before .before .before .before .before .before .args .table)) (now (c .before .before .before .before .before .before .before .before .before .before .args .text)) (now (c .before .before .before .before .before .before .before .before .before .before .args .store)) (c .before .before .before .before .before .before .before .before .before .before .args .left) (c .before .before .before .before .before .before .before .before .before .before .args .i) (c .before .before .before .before .before .before .before .before .before .before .pre .1 .2)), omega (arith, c .before .before .before .before .before .before .before .before .before .before .pre .1 .1, count-there (c .before .before .before .before .before .before .before .before .before .before .args .i) (now (c .before .before .before .before .before .before .before .before .before .before .args .table)) (value-there (now (c .before .before .before .before .before .before .before .before .before .before .args .table)) (now (c .before .before .before .before .before .before .before .before .before .before .args .text)) (now (c .before .before .before .before .before .before .before .before .before .before .args .store)) (c .before .before .before .before .before .before .before .before .before .before .args .left) (c .before .before .before .before .before .before .before .before .before .before .args .i) (c .before .before .before .before .before .before .before .before .before .before .pre .1 .2))), sym (ap (λ (x : Maybe Tree). isFit x) (value-group (now (c .before .before .before .before .before .before .before .before .before .before .args .table)) (now (c .before .before .before .before .before .before .before .before .before .before .args .text)) (now (c .before .before .before .before .before .before .before .before .before .before .args .store)) (c .before .before .before .before .before .before .before .before .before .before .args .left) (c .before .before .before .before .before .before .before .before .before .before .args .i) (value-there (now (c .before .before .before .before .before .before .before .before .before .before .args .table)) (now (c .before .before .before .before .before .before .before .before .before .before .args .text)) (now (c .before .before .before .before .before .before .before .before .before .before .args .store)) (c .before .before .before .before .before .before .before .before .before .before .args .left) (c .before .before .before .before .before .before .before .before .before .before .args .i) (c .before .before .before .before .before .before .before .before .before .before .pre .1 .2)) _ (c .before .before .before .before .shape-of .ensures) _ (c .before .before .sort .given .1))) ∙ c .before .before .before .before .before .before .before .before .before .before .pre .1 .2, c .before .before .before .before .before .before .before .before .before .before .pre .1 .3))
 
-value-text-enum-told : (t : ℕ) → value-text-lts.Need-enum-told (branch-of-reads.Asked, branch-of-reads.Learnt, group-text-below t, group-text.Post, leaf-text-reads.Asked, leaf-text-reads.Learnt) (value-text-at t) value-text.Post
+value-text-enum-told : (t : ℕ) → value-text-lts.Need-enum-told (shape-of-reads.Asked, shape-of-reads.Learnt, group-text-below t, group-text.Post, leaf-text-reads.Asked, leaf-text-reads.Learnt) (value-text-at t) value-text.Post
 value-text-enum-told t c =
     search needs
 
-value-text-leaf-text-requires : (t : ℕ) → value-text-lts.Need-leaf-text-requires (branch-of-reads.Asked, branch-of-reads.Learnt, group-text-below t, group-text.Post, leaf-text-reads.Asked, leaf-text-reads.Learnt) (value-text-at t) value-text.Post
+value-text-leaf-text-requires : (t : ℕ) → value-text-lts.Need-leaf-text-requires (shape-of-reads.Asked, shape-of-reads.Learnt, group-text-below t, group-text.Post, leaf-text-reads.Asked, leaf-text-reads.Learnt) (value-text-at t) value-text.Post
 value-text-leaf-text-requires t c κs =
-    (c .before .before .before .before .before .before .before .before .before .pre .1 .0, (value-there (now (c .before .before .before .before .before .before .before .before .before .args .table)) (now (c .before .before .before .before .before .before .before .before .before .args .text)) (now (c .before .before .before .before .before .before .before .before .before .args .store)) (c .before .before .before .before .before .before .before .before .before .args .left) (c .before .before .before .before .before .before .before .before .before .args .i) (c .before .before .before .before .before .before .before .before .before .pre .1 .2)), sym (ap (λ (x : Maybe Tree). isFit x) (value-leaf (now (c .before .before .before .before .before .before .before .before .before .args .table)) (now (c .before .before .before .before .before .before .before .before .before .args .text)) (now (c .before .before .before .before .before .before .before .before .before .args .store)) (c .before .before .before .before .before .before .before .before .before .args .left) (c .before .before .before .before .before .before .before .before .before .args .i) (value-there (now (c .before .before .before .before .before .before .before .before .before .args .table)) (now (c .before .before .before .before .before .before .before .before .before .args .text)) (now (c .before .before .before .before .before .before .before .before .before .args .store)) (c .before .before .before .before .before .before .before .before .before .args .left) (c .before .before .before .before .before .before .before .before .before .args .i) (c .before .before .before .before .before .before .before .before .before .pre .1 .2)) _ (c .before .before .before .branch-of .ensures) (c .before .enum-told .given .1))) ∙ c .before .before .before .before .before .before .before .before .before .pre .1 .2, c .before .before .before .before .before .before .before .before .before .pre .1 .3)
+    (c .before .before .before .before .before .before .before .before .before .pre .1 .0, (value-there (now (c .before .before .before .before .before .before .before .before .before .args .table)) (now (c .before .before .before .before .before .before .before .before .before .args .text)) (now (c .before .before .before .before .before .before .before .before .before .args .store)) (c .before .before .before .before .before .before .before .before .before .args .left) (c .before .before .before .before .before .before .before .before .before .args .i) (c .before .before .before .before .before .before .before .before .before .pre .1 .2)), sym (ap (λ (x : Maybe Tree). isFit x) (value-leaf (now (c .before .before .before .before .before .before .before .before .before .args .table)) (now (c .before .before .before .before .before .before .before .before .before .args .text)) (now (c .before .before .before .before .before .before .before .before .before .args .store)) (c .before .before .before .before .before .before .before .before .before .args .left) (c .before .before .before .before .before .before .before .before .before .args .i) (value-there (now (c .before .before .before .before .before .before .before .before .before .args .table)) (now (c .before .before .before .before .before .before .before .before .before .args .text)) (now (c .before .before .before .before .before .before .before .before .before .args .store)) (c .before .before .before .before .before .before .before .before .before .args .left) (c .before .before .before .before .before .before .before .before .before .args .i) (c .before .before .before .before .before .before .before .before .before .pre .1 .2)) _ (c .before .before .before .shape-of .ensures) (c .before .enum-told .given .1))) ∙ c .before .before .before .before .before .before .before .before .before .pre .1 .2, c .before .before .before .before .before .before .before .before .before .pre .1 .3)
 
-value-text-same-length : (t : ℕ) → value-text-lts.Need-same-length (branch-of-reads.Asked, branch-of-reads.Learnt, group-text-below t, group-text.Post, leaf-text-reads.Asked, leaf-text-reads.Learnt) (value-text-at t) value-text.Post
+value-text-same-length : (t : ℕ) → value-text-lts.Need-same-length (shape-of-reads.Asked, shape-of-reads.Learnt, group-text-below t, group-text.Post, leaf-text-reads.Asked, leaf-text-reads.Learnt) (value-text-at t) value-text.Post
 value-text-same-length t c =
     c .before .before .group-text .kept .1 .1 .1 .1 .1 .1 .1 .1 .1 .0
 
-value-text-returns : (t : ℕ) → value-text-lts.Need-returns (branch-of-reads.Asked, branch-of-reads.Learnt, group-text-below t, group-text.Post, leaf-text-reads.Asked, leaf-text-reads.Learnt) (value-text-at t) value-text.Post
+value-text-returns : (t : ℕ) → value-text-lts.Need-returns (shape-of-reads.Asked, shape-of-reads.Learnt, group-text-below t, group-text.Post, leaf-text-reads.Asked, leaf-text-reads.Learnt) (value-text-at t) value-text.Post
 value-text-returns t c =
-    put-as (ap treeText (value-group (now (c .before .before .before .before .before .before .before .before .before .before .before .before .before .args .table)) (now (c .before .before .before .before .before .before .before .before .before .before .before .before .before .args .text)) (now (c .before .before .before .before .before .before .before .before .before .before .before .before .before .args .store)) (c .before .before .before .before .before .before .before .before .before .before .before .before .before .args .left) (c .before .before .before .before .before .before .before .before .before .before .before .before .before .args .i) (value-there (now (c .before .before .before .before .before .before .before .before .before .before .before .before .before .args .table)) (now (c .before .before .before .before .before .before .before .before .before .before .before .before .before .args .text)) (now (c .before .before .before .before .before .before .before .before .before .before .before .before .before .args .store)) (c .before .before .before .before .before .before .before .before .before .before .before .before .before .args .left) (c .before .before .before .before .before .before .before .before .before .before .before .before .before .args .i) (c .before .before .before .before .before .before .before .before .before .before .before .before .before .pre .1 .2)) _ (c .before .before .before .before .before .before .before .branch-of .ensures) _ (c .before .before .before .before .before .sort .given .1))) (c .before .before .group-text .ensures)
+    put-as (ap treeText (value-group (now (c .before .before .before .before .before .before .before .before .before .before .before .before .before .args .table)) (now (c .before .before .before .before .before .before .before .before .before .before .before .before .before .args .text)) (now (c .before .before .before .before .before .before .before .before .before .before .before .before .before .args .store)) (c .before .before .before .before .before .before .before .before .before .before .before .before .before .args .left) (c .before .before .before .before .before .before .before .before .before .before .before .before .before .args .i) (value-there (now (c .before .before .before .before .before .before .before .before .before .before .before .before .before .args .table)) (now (c .before .before .before .before .before .before .before .before .before .before .before .before .before .args .text)) (now (c .before .before .before .before .before .before .before .before .before .before .before .before .before .args .store)) (c .before .before .before .before .before .before .before .before .before .before .before .before .before .args .left) (c .before .before .before .before .before .before .before .before .before .before .before .before .before .args .i) (c .before .before .before .before .before .before .before .before .before .before .before .before .before .pre .1 .2)) _ (c .before .before .before .before .before .before .before .shape-of .ensures) _ (c .before .before .before .before .before .sort .given .1))) (c .before .before .group-text .ensures)
 
-value-text-same-length-2 : (t : ℕ) → value-text-lts.Need-same-length-2 (branch-of-reads.Asked, branch-of-reads.Learnt, group-text-below t, group-text.Post, leaf-text-reads.Asked, leaf-text-reads.Learnt) (value-text-at t) value-text.Post
+value-text-same-length-2 : (t : ℕ) → value-text-lts.Need-same-length-2 (shape-of-reads.Asked, shape-of-reads.Learnt, group-text-below t, group-text.Post, leaf-text-reads.Asked, leaf-text-reads.Learnt) (value-text-at t) value-text.Post
 value-text-same-length-2 t c =
     c .before .before .leaf-text .kept .1 .1 .1 .1 .1 .1 .1 .0
 
-value-text-returns-2 : (t : ℕ) → value-text-lts.Need-returns-2 (branch-of-reads.Asked, branch-of-reads.Learnt, group-text-below t, group-text.Post, leaf-text-reads.Asked, leaf-text-reads.Learnt) (value-text-at t) value-text.Post
+value-text-returns-2 : (t : ℕ) → value-text-lts.Need-returns-2 (shape-of-reads.Asked, shape-of-reads.Learnt, group-text-below t, group-text.Post, leaf-text-reads.Asked, leaf-text-reads.Learnt) (value-text-at t) value-text.Post
 value-text-returns-2 t c =
-    put-as (ap treeText (value-leaf (now (c .before .before .before .before .before .before .before .before .before .before .before .before .args .table)) (now (c .before .before .before .before .before .before .before .before .before .before .before .before .args .text)) (now (c .before .before .before .before .before .before .before .before .before .before .before .before .args .store)) (c .before .before .before .before .before .before .before .before .before .before .before .before .args .left) (c .before .before .before .before .before .before .before .before .before .before .before .before .args .i) (value-there (now (c .before .before .before .before .before .before .before .before .before .before .before .before .args .table)) (now (c .before .before .before .before .before .before .before .before .before .before .before .before .args .text)) (now (c .before .before .before .before .before .before .before .before .before .before .before .before .args .store)) (c .before .before .before .before .before .before .before .before .before .before .before .before .args .left) (c .before .before .before .before .before .before .before .before .before .before .before .before .args .i) (c .before .before .before .before .before .before .before .before .before .before .before .before .pre .1 .2)) _ (c .before .before .before .before .before .before .branch-of .ensures) (c .before .before .before .before .enum-told .given .1))) (c .before .before .leaf-text .ensures)
+    put-as (ap treeText (value-leaf (now (c .before .before .before .before .before .before .before .before .before .before .before .before .args .table)) (now (c .before .before .before .before .before .before .before .before .before .before .before .before .args .text)) (now (c .before .before .before .before .before .before .before .before .before .before .before .before .args .store)) (c .before .before .before .before .before .before .before .before .before .before .before .before .args .left) (c .before .before .before .before .before .before .before .before .before .before .before .before .args .i) (value-there (now (c .before .before .before .before .before .before .before .before .before .before .before .before .args .table)) (now (c .before .before .before .before .before .before .before .before .before .before .before .before .args .text)) (now (c .before .before .before .before .before .before .before .before .before .before .before .before .args .store)) (c .before .before .before .before .before .before .before .before .before .before .before .before .args .left) (c .before .before .before .before .before .before .before .before .before .before .before .before .args .i) (c .before .before .before .before .before .before .before .before .before .before .before .before .pre .1 .2)) _ (c .before .before .before .before .before .before .shape-of .ensures) (c .before .before .before .before .enum-told .given .1))) (c .before .before .leaf-text .ensures)
 
 pub +group-text+member-text+members-text+value-text-spec : {M : Type 1} → statement M
 +group-text+member-text+members-text+value-text-spec =
@@ -313,13 +314,13 @@ pub +group-text+member-text+members-text+value-text-spec : {M : Type 1} → stat
     (members-text-loop-again t)
     (members-text-same-length t)
     (members-text-returns t))
-    λ t. value-text-lts.spec (branch-of-reads.Asked, branch-of-reads.Learnt, group-text-below t, group-text.Post, leaf-text-reads.Asked, leaf-text-reads.Learnt)
+    λ t. value-text-lts.spec (shape-of-reads.Asked, shape-of-reads.Learnt, group-text-below t, group-text.Post, leaf-text-reads.Asked, leaf-text-reads.Learnt)
     (value-text-at t)
     value-text.Post
-    (value-text-mul-branch-of t)
-    (value-text-mul-branch-of-2 t)
-    (value-text-shared-slice-read-branch-of t)
-    (value-text-branch-of-requires t)
+    (value-text-mul-shape-of t)
+    (value-text-mul-shape-of-2 t)
+    (value-text-shared-slice-read-shape-of t)
+    (value-text-shape-of-requires t)
     (value-text-enum-known-sort t)
     (value-text-group-text-requires t)
     (value-text-enum-told t)

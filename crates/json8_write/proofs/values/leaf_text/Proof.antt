@@ -4,7 +4,7 @@ use borrow.Author.Needs.{needs}
 use Rattle.json8_write.proofs.values.leaf_text.Statement.{statement}
 use Rattle.json8_write.proofs.values.leaf_text.Tie as tie
 use denote.Ref.{now}
-use Rattle.json8_write.specs.Steps.{nodeAt}
+use Rattle.json8_fit.specs.inner.Steps.{nodeAt}
 use Rattle.json8_write.proofs.LeafTexts.{leaf-string, leaf-number, leaf-word, string-fit, number-fit}
 
 mul-kind : tie.Need-mul-kind

@@ -1,4 +1,4 @@
--- Judged, and then stored at once, or measured first (WholeTables, Roominess).
+-- Judged, and then stored at once, or measured first (Passes, WholeTables, Roominess).
 -- Assumes nothing.
 use borrow.Author.Needs.{needs}
 use Rattle.json8_write.proofs.write.write.Statement.{statement}
@@ -8,7 +8,10 @@ use mathlib.Core.Path.{sym, _∙_}
 use native.Mathlib.Omega.{arith}
 use borrow.Author.Tests.{not-true, not-false}
 use Rattle.trees.specs.Tables.{nodesIn, treeOf}
-use Rattle.json8_write.proofs.WholeTables.{root-count, wrote-unfit, wrote-one, wrote-full, wrote-both}
+use Rattle.rooms.proofs.Passes.{one-pass, too-long, two-passes}
+use Rattle.json8_fit.proofs.Roots.{root-count}
+use Rattle.json8_write.specs.declared.answers.WroteTable.the-variants.{Wrote, Refused}
+use Rattle.json8_write.proofs.WholeTables.{wrote-unfit, wrote-fit}
 use Rattle.json8_write.proofs.Roominess.{text-room}
 
 fit-requires : tie.Need-fit-requires
@@ -37,7 +40,7 @@ same-length c = search needs
 
 returns-2 : tie.Need-returns-2
 returns-2 c =
-    wrote-one (treeOf (nodesIn (now (c .before .before .before .before .before .before .before .before .before .before .before .before .before .before .before .args .table))) (now (c .before .before .before .before .before .before .before .before .before .before .before .before .before .before .before .args .text)) (now (c .before .before .before .before .before .before .before .before .before .before .before .before .before .before .before .args .store))) (now (c .before .before .before .before .before .before .before .before .before .before .before .before .before .before .before .args .out)) _ _ (sym (c .before .before .before .before .before .before .before .before .before .before .fit .ensures) ∙ not-false _ (c .before .before .before .before .before .before .before .before .before .if1 .left)) (text-room (now (c .before .before .before .before .before .before .before .before .before .before .before .before .before .before .before .args .table)) (now (c .before .before .before .before .before .before .before .before .before .before .before .before .before .before .before .args .text)) (now (c .before .before .before .before .before .before .before .before .before .before .before .before .before .before .before .args .store)) (sym (c .before .before .before .before .before .before .before .before .before .before .fit .ensures) ∙ not-false _ (c .before .before .before .before .before .before .before .before .before .if1 .left)) (c .before .before .before .before .before .before .before .count-at .ensures .0) (c .before .before .before .before .before .before .room-of .ensures) (c .before .before .before .before .before .if2 .taken)) (c .before .before .pass .ensures)
+    wrote-fit (treeOf (nodesIn (now (c .before .before .before .before .before .before .before .before .before .before .before .before .before .before .before .args .table))) (now (c .before .before .before .before .before .before .before .before .before .before .before .before .before .before .before .args .text)) (now (c .before .before .before .before .before .before .before .before .before .before .before .before .before .before .before .args .store))) (now (c .before .before .before .before .before .before .before .before .before .before .before .before .before .before .before .args .out)) (sym (c .before .before .before .before .before .before .before .before .before .before .fit .ensures) ∙ not-false _ (c .before .before .before .before .before .before .before .before .before .if1 .left)) (one-pass Wrote (Refused 12) _ (now (c .before .before .before .before .before .before .before .before .before .before .before .before .before .before .before .args .out)) (text-room (now (c .before .before .before .before .before .before .before .before .before .before .before .before .before .before .before .args .table)) (now (c .before .before .before .before .before .before .before .before .before .before .before .before .before .before .before .args .text)) (now (c .before .before .before .before .before .before .before .before .before .before .before .before .before .before .before .args .store)) (sym (c .before .before .before .before .before .before .before .before .before .before .fit .ensures) ∙ not-false _ (c .before .before .before .before .before .before .before .before .before .if1 .left)) (c .before .before .before .before .before .before .before .count-at .ensures .0) (c .before .before .before .before .before .before .room-of .ensures) (c .before .before .before .before .before .if2 .taken)) (c .before .before .pass .ensures))
 
 slice-relend-prefix-pass : tie.Need-slice-relend-prefix-pass
 slice-relend-prefix-pass c = search needs
@@ -54,7 +57,7 @@ same-length-2 c = search needs
 
 returns-3 : tie.Need-returns-3
 returns-3 c =
-    wrote-full (c .before .before .before .pass2 .last .1 .1 .1 .1 .1 .0) _ (now (c .before .before .before .before .before .before .before .before .before .before .before .before .before .before .before .before .args .out)) (c .before .before .before .pass2 .kept .1 .1 .1 .1 .1 .0) (treeOf (nodesIn (now (c .before .before .before .before .before .before .before .before .before .before .before .before .before .before .before .before .args .table))) (now (c .before .before .before .before .before .before .before .before .before .before .before .before .before .before .before .before .args .text)) (now (c .before .before .before .before .before .before .before .before .before .before .before .before .before .before .before .before .args .store))) _ (sym (c .before .before .before .before .before .before .before .before .before .before .before .fit .ensures) ∙ not-false _ (c .before .before .before .before .before .before .before .before .before .before .if1 .left)) (c .before .before .before .pass2 .ensures) (c .if3 .taken)
+    wrote-fit (treeOf (nodesIn (now (c .before .before .before .before .before .before .before .before .before .before .before .before .before .before .before .before .args .table))) (now (c .before .before .before .before .before .before .before .before .before .before .before .before .before .before .before .before .args .text)) (now (c .before .before .before .before .before .before .before .before .before .before .before .before .before .before .before .before .args .store))) (now (c .before .before .before .before .before .before .before .before .before .before .before .before .before .before .before .before .args .out)) (sym (c .before .before .before .before .before .before .before .before .before .before .before .fit .ensures) ∙ not-false _ (c .before .before .before .before .before .before .before .before .before .before .if1 .left)) (too-long Wrote (Refused 12) _ (now (c .before .before .before .before .before .before .before .before .before .before .before .before .before .before .before .before .args .out)) (c .before .before .before .pass2 .last .1 .1 .1 .1 .1 .0) (c .before .before .before .pass2 .kept .1 .1 .1 .1 .1 .0) (c .before .before .before .pass2 .ensures) (c .if3 .taken))
 
 pass-requires-3 : tie.Need-pass-requires-3
 pass-requires-3 c κs =
@@ -65,7 +68,7 @@ same-length-3 c = search needs
 
 returns-4 : tie.Need-returns-4
 returns-4 c =
-    wrote-both (c .before .before .before .before .before .before .before .before .pass2 .last .1 .1 .1 .1 .1 .0) _ (now (c .before .before .before .before .before .before .before .before .before .before .before .before .before .before .before .before .before .before .before .before .before .args .out)) (c .before .before .before .before .before .before .before .before .pass2 .kept .1 .1 .1 .1 .1 .0) (treeOf (nodesIn (now (c .before .before .before .before .before .before .before .before .before .before .before .before .before .before .before .before .before .before .before .before .before .args .table))) (now (c .before .before .before .before .before .before .before .before .before .before .before .before .before .before .before .before .before .before .before .before .before .args .text)) (now (c .before .before .before .before .before .before .before .before .before .before .before .before .before .before .before .before .before .before .before .before .before .args .store))) _ _ _ (sym (c .before .before .before .before .before .before .before .before .before .before .before .before .before .before .before .before .fit .ensures) ∙ not-false _ (c .before .before .before .before .before .before .before .before .before .before .before .before .before .before .before .if1 .left)) (c .before .before .before .before .before .before .before .before .pass2 .ensures) (c .before .before .before .before .before .if3 .left) (c .before .before .pass3 .ensures)
+    wrote-fit (treeOf (nodesIn (now (c .before .before .before .before .before .before .before .before .before .before .before .before .before .before .before .before .before .before .before .before .before .args .table))) (now (c .before .before .before .before .before .before .before .before .before .before .before .before .before .before .before .before .before .before .before .before .before .args .text)) (now (c .before .before .before .before .before .before .before .before .before .before .before .before .before .before .before .before .before .before .before .before .before .args .store))) (now (c .before .before .before .before .before .before .before .before .before .before .before .before .before .before .before .before .before .before .before .before .before .args .out)) (sym (c .before .before .before .before .before .before .before .before .before .before .before .before .before .before .before .before .fit .ensures) ∙ not-false _ (c .before .before .before .before .before .before .before .before .before .before .before .before .before .before .before .if1 .left)) (two-passes Wrote (Refused 12) _ (now (c .before .before .before .before .before .before .before .before .before .before .before .before .before .before .before .before .before .before .before .before .before .args .out)) (c .before .before .before .before .before .before .before .before .pass2 .last .1 .1 .1 .1 .1 .0) (c .before .before .before .before .before .before .before .before .pass2 .kept .1 .1 .1 .1 .1 .0) (c .before .before .before .before .before .before .before .before .pass2 .ensures) (c .before .before .before .before .before .if3 .left) (c .before .before .pass3 .ensures))
 
 pub write-spec : {M : Type 1} → statement M
 write-spec =

@@ -1,11 +1,14 @@
--- Stored at once in an ample room, or measured first (Lines).
+-- Stored at once in an ample room, or measured first (Passes, Lines).
 -- Assumes nothing.
 use borrow.Author.Needs.{needs}
 use Rattle.messages.proofs.entries.write.Statement.{statement}
 use Rattle.messages.proofs.entries.write.Tie as tie
 use denote.Ref.{now}
 use Rattle.messages.specs.Messages.{entryText}
-use Rattle.messages.proofs.Lines.{entry-room, wrote-one, wrote-full, wrote-both}
+use Rattle.strings_write.specs.declared.answers.Written.the-variants.{Wrote, Full}
+use Rattle.strings_write.specs.Write.{writtenIn}
+use Rattle.rooms.proofs.Passes.{one-pass, too-long, two-passes}
+use Rattle.messages.proofs.Lines.{entry-room}
 
 table-requires : tie.Need-table-requires
 table-requires c κs = search needs
@@ -20,8 +23,9 @@ same-length : tie.Need-same-length
 same-length c = search needs
 
 returns : tie.Need-returns
+unfolding writtenIn
 returns c =
-    wrote-one (entryText (c .before .before .before .before .before .before .before .before .before .before .args .n) (now (c .before .before .before .before .before .before .before .before .before .before .args .s))) (now (c .before .before .before .before .before .before .before .before .before .before .args .out)) _ _ (entry-room (c .before .before .before .before .before .before .before .before .before .before .args .n) (now (c .before .before .before .before .before .before .before .before .before .before .args .s)) _ (c .before .before .before .before .before .before .ample .ensures (c .before .before .before .before .before .if1 .taken))) (c .before .before .put-entry .ensures)
+    one-pass Wrote (Full 12) (entryText (c .before .before .before .before .before .before .before .before .before .before .args .n) (now (c .before .before .before .before .before .before .before .before .before .before .args .s))) (now (c .before .before .before .before .before .before .before .before .before .before .args .out)) (entry-room (c .before .before .before .before .before .before .before .before .before .before .args .n) (now (c .before .before .before .before .before .before .before .before .before .before .args .s)) _ (c .before .before .before .before .before .before .ample .ensures (c .before .before .before .before .before .if1 .taken))) (c .before .before .put-entry .ensures)
 
 slice-relend-prefix-put-entry : tie.Need-slice-relend-prefix-put-entry
 slice-relend-prefix-put-entry c = search needs
@@ -36,8 +40,9 @@ same-length-2 : tie.Need-same-length-2
 same-length-2 c = search needs
 
 returns-2 : tie.Need-returns-2
+unfolding writtenIn
 returns-2 c =
-    wrote-full (c .before .before .before .put-entry2 .last .1 .1 .1 .1 .0) _ (now (c .before .before .before .before .before .before .before .before .before .before .before .args .out)) (c .before .before .before .put-entry2 .kept .1 .1 .1 .1 .0) (entryText (c .before .before .before .before .before .before .before .before .before .before .before .args .n) (now (c .before .before .before .before .before .before .before .before .before .before .before .args .s))) _ (c .before .before .before .put-entry2 .ensures) (c .if2 .taken)
+    too-long Wrote (Full 12) (entryText (c .before .before .before .before .before .before .before .before .before .before .before .args .n) (now (c .before .before .before .before .before .before .before .before .before .before .before .args .s))) (now (c .before .before .before .before .before .before .before .before .before .before .before .args .out)) (c .before .before .before .put-entry2 .last .1 .1 .1 .1 .0) (c .before .before .before .put-entry2 .kept .1 .1 .1 .1 .0) (c .before .before .before .put-entry2 .ensures) (c .if2 .taken)
 
 put-entry-requires-3 : tie.Need-put-entry-requires-3
 put-entry-requires-3 c κs = search needs
@@ -46,8 +51,9 @@ same-length-3 : tie.Need-same-length-3
 same-length-3 c = search needs
 
 returns-3 : tie.Need-returns-3
+unfolding writtenIn
 returns-3 c =
-    wrote-both (c .before .before .before .before .before .before .before .before .put-entry2 .last .1 .1 .1 .1 .0) _ (now (c .before .before .before .before .before .before .before .before .before .before .before .before .before .before .before .before .args .out)) (c .before .before .before .before .before .before .before .before .put-entry2 .kept .1 .1 .1 .1 .0) (entryText (c .before .before .before .before .before .before .before .before .before .before .before .before .before .before .before .before .args .n) (now (c .before .before .before .before .before .before .before .before .before .before .before .before .before .before .before .before .args .s))) _ (c .before .before .before .before .before .before .before .before .put-entry2 .ensures) _ _ (c .before .before .before .before .before .if2 .left) (c .before .before .put-entry3 .ensures)
+    two-passes Wrote (Full 12) (entryText (c .before .before .before .before .before .before .before .before .before .before .before .before .before .before .before .before .args .n) (now (c .before .before .before .before .before .before .before .before .before .before .before .before .before .before .before .before .args .s))) (now (c .before .before .before .before .before .before .before .before .before .before .before .before .before .before .before .before .args .out)) (c .before .before .before .before .before .before .before .before .put-entry2 .last .1 .1 .1 .1 .0) (c .before .before .before .before .before .before .before .before .put-entry2 .kept .1 .1 .1 .1 .0) (c .before .before .before .before .before .before .before .before .put-entry2 .ensures) (c .before .before .before .before .before .if2 .left) (c .before .before .put-entry3 .ensures)
 
 pub write-spec : {M : Type 1} → statement M
 write-spec =

@@ -3,25 +3,25 @@
 use borrow.Author.Needs.{needs}
 use Rattle.messages.proofs.messages.put_counted.Statement.{statement}
 use Rattle.messages.proofs.messages.put_counted.Tie as tie
-use Rattle.json8_write.proofs.Puts.{put-then}
+use Rattle.rooms.proofs.Puts.{put-then}
 
-put-words-requires : tie.Need-put-words-requires
-put-words-requires c κs = search needs
+put-all-requires : tie.Need-put-all-requires
+put-all-requires c κs = search needs
 
 put-decimal-requires : tie.Need-put-decimal-requires
 put-decimal-requires c κs = search needs
 
-put-words-requires-2 : tie.Need-put-words-requires-2
-put-words-requires-2 c κs = search needs
+put-all-requires-2 : tie.Need-put-all-requires-2
+put-all-requires-2 c κs = search needs
 
 same-length : tie.Need-same-length
 same-length c = search needs
 
 returns : tie.Need-returns
 returns c =
-    put-then (c .before .before .before .before .before .before .before .before .before .before .put-words .ensures) (put-then (c .before .before .before .before .before .before .put-decimal .ensures) (c .before .before .put-words2 .ensures))
+    put-then (c .before .before .before .before .before .before .before .before .before .before .put-all .ensures) (put-then (c .before .before .before .before .before .before .put-decimal .ensures) (c .before .before .put-all2 .ensures))
 
 pub put-counted-spec : {M : Type 1} → statement M
 put-counted-spec =
     tie.close
-    (tie.spec put-words-requires put-decimal-requires put-words-requires-2 same-length returns)
+    (tie.spec put-all-requires put-decimal-requires put-all-requires-2 same-length returns)

@@ -4,7 +4,7 @@ use borrow.Author.Needs.{needs}
 use Rattle.messages.proofs.texts.put_decimal.Statement.{statement}
 use Rattle.messages.proofs.texts.put_decimal.Tie as tie
 use native.Mathlib.Omega.{arith}
-use Rattle.json8_write.proofs.Puts.{put-as}
+use Rattle.rooms.proofs.Puts.{put-as}
 use Rattle.messages.proofs.Decimals.{decimal-put}
 
 decimal-requires : tie.Need-decimal-requires
@@ -13,18 +13,18 @@ decimal-requires c κs = search needs
 array-share-prefix-digits : tie.Need-array-share-prefix-digits
 array-share-prefix-digits c = search needs
 
-slice-aggregate-put-words : tie.Need-slice-aggregate-put-words
-slice-aggregate-put-words c = search needs
+slice-aggregate-put-all : tie.Need-slice-aggregate-put-all
+slice-aggregate-put-all c = search needs
 
-put-words-requires : tie.Need-put-words-requires
-put-words-requires c κs = search needs
+put-all-requires : tie.Need-put-all-requires
+put-all-requires c κs = search needs
 
 same-length : tie.Need-same-length
 same-length c = search needs
 
 returns : tie.Need-returns
 returns c =
-    put-as (decimal-put (c .before .before .before .before .before .before .before .before .args .n) (c .before .before .before .before .before .decimal .result) _ (omega arith) (c .before .before .before .before .before .decimal .ensures .1 .0) (c .before .before .before .before .before .decimal .ensures .1 .1)) (c .before .before .put-words .ensures)
+    put-as (decimal-put (c .before .before .before .before .before .before .before .before .args .n) (c .before .before .before .before .before .decimal .result) _ (omega arith) (c .before .before .before .before .before .decimal .ensures .1 .0) (c .before .before .before .before .before .decimal .ensures .1 .1)) (c .before .before .put-all .ensures)
 
 pub put-decimal-spec : {M : Type 1} → statement M
 put-decimal-spec =
@@ -32,7 +32,7 @@ put-decimal-spec =
     (tie.spec
     decimal-requires
     array-share-prefix-digits
-    slice-aggregate-put-words
-    put-words-requires
+    slice-aggregate-put-all
+    put-all-requires
     same-length
     returns)

@@ -1,0 +1,5 @@
+pub mod TableNodes
+pub mod NumberTexts
+pub mod Choices
+pub mod Fitting
+pub mod Roots

@@ -1,0 +1,33 @@
+-- The line is what stands between the two places (SentenceLines).
+-- Assumes nothing.
+use borrow.Author.Needs.{needs}
+use Rattle.messages.proofs.sentences.put_line.Statement.{statement}
+use Rattle.messages.proofs.sentences.put_line.Tie as tie
+use mathlib.Core.Path.{sym}
+use denote.Ref.{now}
+use Rattle.rooms.proofs.Puts.{put-as}
+use Rattle.messages.proofs.SentenceLines.{line-between}
+
+line-at-requires : tie.Need-line-at-requires
+line-at-requires c κs = search needs
+
+line-end-requires : tie.Need-line-end-requires
+line-end-requires c κs = search needs
+
+sub-put-run : tie.Need-sub-put-run
+sub-put-run c = search needs
+
+put-run-requires : tie.Need-put-run-requires
+put-run-requires c κs = search needs
+
+same-length : tie.Need-same-length
+same-length c = search needs
+
+returns : tie.Need-returns
+returns c =
+    put-as (sym (line-between (now (c .before .before .before .before .before .before .before .before .args .s)) (c .before .before .before .before .before .before .before .before .args .n) _ _ (c .before .before .before .before .before .line-at .ensures .1) (c .before .before .before .before .line-end .ensures .0))) (c .before .before .put-run .ensures)
+
+pub put-line-spec : {M : Type 1} → statement M
+put-line-spec =
+    tie.close
+    (tie.spec line-at-requires line-end-requires sub-put-run put-run-requires same-length returns)
