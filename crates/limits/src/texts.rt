@@ -1,125 +1,108 @@
-// J8 strings, read and written.
-use crate::cases;
-use crate::cases::Call;
-use crate::cases::Room;
-use report::show;
+// Calls on a text, data or records, and a room: J8 strings and J8 Lines. Each prints number, place and length, and the buffer.
+ghost use mathlib.Core.Path.{_≡_};
+ghost use lib.ListN.{length};
+use crate::fields;
+use crate::show;
+use lines_write::write::WroteLines;
 use strings::answers::Decoded;
+use strings::answers::Token;
+use strings_write::answers::Written;
 
-fn code_points() {
-    show::print(b"code points\n");
-    cases::each(
-        Call::Read,
-        Room::Of(16),
-        b"u'\\u{10ffff}'|'\\u{10FFFF}'|u'\\u{110000}'|u'\\u{0}'|u'\\u{000000}'|u'\\u{0000000}'|",
-    );
-    cases::each(
-        Call::Read,
-        Room::Of(16),
-        b"u'\\u{1234567}'|u'\\u{}'|u'\\u{d7ff}'|u'\\u{d800}'|u'\\u{dfff}'|u'\\u{e000}'|",
-    );
-    cases::each(
-        Call::Read,
-        Room::Of(16),
-        b"u'\\u{7f}\\u{80}'|u'\\u{7ff}\\u{800}'|u'\\u{ffff}\\u{10000}'|",
-    );
+// A buffer before a call.
+pub fn filled(b: u8) -> [u8; fields::ROOM_MAX]
+    ensures { λ r. ⌜ 65536 ≡ length r ⌝ }
+{
+    [b; fields::ROOM_MAX]
 }
 
-fn halves() {
-    show::print(b"halves\n");
-    cases::each(
-        Call::Read,
-        Room::Of(16),
-        b"\"\\ud7ff\"|\"\\ud800\"|\"\\udbff\\udc00\"|\"\\udbff\\udfff\"|\"\\udbff\\ue000\"|",
-    );
-    cases::each(
-        Call::Read,
-        Room::Of(16),
-        b"\"\\udbff\\udbff\\udfff\"|\"\\udfff\\udbff\"|\"\\uffff\"|\"\\u0000\"|\"\\ud83e\\uzzzz\"|",
-    );
-}
-
-fn styles() {
-    show::print(b"styles\n");
-    cases::each(
-        Call::Read,
-        Room::Of(16),
-        b"\"a'b\"|'a\"b'|\"\\'\"|b'\\''|\"\\y41\"|u'\\y41'|u'\\y|b'\\y41'|b'\\y4'|b'\\y00\\yff'|",
-    );
-    cases::each(
-        Call::Read,
-        Room::Of(16),
-        b"\"\\u{41}\"|'\\u0041'|b'\\u{e9}\\ye9'|u\"a\"|u||\"|\"a|\"a\" | \"a\"|",
-    );
-}
-
-fn tokens() {
-    show::print(b"tokens\n");
-    cases::each(
-        Call::ReadToken,
-        Room::Of(16),
-        b"\"a\" x|'' ''|b'\\yf'|x\"a\"|",
-    );
-    cases::each(Call::ReadToken, Room::Of(1), b"b'\\yff'\xff|\"ab\"c|");
-}
-
-fn rooms() {
-    show::print(b"rooms\n");
-    cases::each(Call::Read, Room::Exact, b"3\"abc\"|3\"a\\nb\"|0\"\"|");
-    cases::each(Call::Read, Room::Of(2), b"\"abc\"x|");
-    cases::each(Call::Write, Room::Of(0), b"|");
-    cases::each(
-        Call::Write,
-        Room::Exact,
-        b"2|4\"|4\xc3\xa9|5abc|6a\nb|7\xe9|8\x01|a'\xff\x7f|f\xed\xa0\x80|",
-    );
-    cases::each(Call::WriteBytes, Room::Exact, b"3|9a\"'\n|");
-}
-
-fn print_long(size: usize, answer: Decoded, buffer: &[u8]) {
-    show::print_named(b"bytes ", size);
-    show::print(b": ");
-    cases::print_decoded(answer);
-    show::blank();
-    show::print_runs(buffer);
-    show::end_line();
-}
-
-// Reads the first `size` bytes of a text of letters, with a quote put at both ends of them.
-fn read_long(size: usize, text: &mut [u8], buffer: &mut [u8]) {
-    if size < 2 {
-        return;
+fn print_decoded(answer: Decoded) {
+    match answer {
+        Decoded::Done(n) => show::three(0, 0, n),
+        Decoded::Refused(number, place) => show::three(number as usize, place, 0),
     }
-    if text.len() < size {
-        return;
+}
+
+// With the place behind the string.
+fn print_token(answer: Token) {
+    match answer {
+        Token::Ended(end, n) => show::four(0, 0, n, end),
+        Token::Failed(number, place) => show::four(number as usize, place, 0, 0),
     }
-    text[0] = 34;
-    text[size - 1] = 34;
-    let answer = strings::read::read(&text[..size], buffer);
-    print_long(size, answer, buffer);
 }
 
-fn letters() -> [u8; 32769] {
-    [97u8; 32769]
+fn print_written(answer: Written) {
+    match answer {
+        Written::Wrote(n) => show::three(0, 0, n),
+        Written::Full(number) => show::three(number as usize, 0, 0),
+    }
 }
 
-fn filled() -> [u8; 32769] {
-    [0xaau8; 32769]
+fn print_lines(answer: WroteLines) {
+    match answer {
+        WroteLines::Wrote(n) => show::three(0, 0, n),
+        WroteLines::Refused(number) => show::three(number as usize, 0, 0),
+    }
 }
 
-fn long(size: usize) {
-    let mut text = letters();
-    let mut buffer = filled();
-    read_long(size, &mut text, &mut buffer);
+fn read(text: &[u8], out: &mut [u8]) {
+    print_decoded(strings::read::read(text, out));
 }
 
-pub fn run() {
-    code_points();
-    halves();
-    styles();
-    tokens();
-    rooms();
-    show::print(b"lengths\n");
-    long(32767);
-    long(32768);
-    long(32769);
+fn read_token(text: &[u8], out: &mut [u8]) {
+    print_token(strings::read::read_token(text, out));
+}
+
+fn write(data: &[u8], out: &mut [u8]) {
+    print_written(strings_write::write::write(data, out));
+}
+
+fn write_bytes(data: &[u8], out: &mut [u8]) {
+    print_written(strings_write::write::write_bytes(data, out));
+}
+
+fn write_lines(records: &[u8], out: &mut [u8]) {
+    print_lines(lines_write::write::write(records, out));
+}
+
+fn answer_write(object: u8, data: &[u8], out: &mut [u8]) {
+    if object == b'b' {
+        return write_bytes(data, out);
+    }
+    if object == b'l' {
+        return write_lines(data, out);
+    }
+    write(data, out);
+}
+
+fn answer(object: u8, verb: u8, text: &[u8], out: &mut [u8]) {
+    if verb == b'w' {
+        return answer_write(object, text, out);
+    }
+    if object == b't' {
+        return read_token(text, out);
+    }
+    read(text, out);
+}
+
+fn run_in(object: u8, verb: u8, text: &[u8], out: &mut [u8]) {
+    answer(object, verb, text, out);
+    show::bytes(out);
+}
+
+fn run_to(object: u8, verb: u8, text: &[u8], room: usize) {
+    let mut out = filled(0xaa);
+    let n = fields::within(room, &out);
+    run_in(object, verb, text, &mut out[..n]);
+}
+
+// A row of the fields text and room.
+pub fn run(object: u8, verb: u8, row: &[u8]) {
+    let mut text = filled(0);
+    let n = fields::bytes(fields::field(row, 1), &mut text);
+    let room = fields::last(row, 2);
+    if n > fields::ROOM_MAX || room > fields::ROOM_MAX {
+        return show::wrong();
+    }
+    let n = fields::within(n, &text);
+    run_to(object, verb, &text[..n], room);
 }

@@ -1,4 +1,0 @@
-// What the programs that run cases print.
-pub mod digits;
-pub mod show;
-pub mod slices;
