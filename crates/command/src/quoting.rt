@@ -3,10 +3,10 @@ use crate::outputs;
 use crate::outputs::Outcome;
 use messages::messages::Message;
 use messages::messages::Spot;
-use strings::answers::Decoded;
-use strings_write::answers::Written;
-use strings::read;
 use prelude::limits::TEXT_MAX;
+use strings::answers::Decoded;
+use strings::read;
+use strings_write::answers::Written;
 use strings_write::write;
 
 fn refused(number: u32, place: usize) -> Outcome {

@@ -2,9 +2,7 @@
 use crate::outputs;
 use crate::outputs::Outcome;
 use json8::answers::Parsed;
-use prelude::limits::NODE_MAX;
 use json8_read::read;
-use prelude::limits::TEXT_MAX;
 use json8_show::show;
 use json8_show::show::Shown;
 use json8_write::answers::WroteTable;
@@ -13,6 +11,8 @@ use messages::entries;
 use messages::messages::Message;
 use messages::messages::Spot;
 use messages::positions;
+use prelude::limits::NODE_MAX;
+use prelude::limits::TEXT_MAX;
 use strings_write::answers::Written;
 
 const TABLE_ROOM: usize = 4 * NODE_MAX;

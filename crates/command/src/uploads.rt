@@ -9,11 +9,11 @@ use lines::records::HEAD;
 use messages::entries;
 use messages::messages::Message;
 use messages::messages::Spot;
+use prelude::limits::LINE_MAX;
+use prelude::limits::UPLOAD_MAX;
 use prelude::slices::least;
 use strings_write::answers::Written;
 use upload::uploads::Answer;
-use prelude::limits::LINE_MAX;
-use prelude::limits::UPLOAD_MAX;
 use upload::uploads::Upload;
 
 // A record's head and the longest payload, that of a line.

@@ -18,7 +18,7 @@ use Rattle.json8_show.specs.declared.show.Shown.{Shown}
 use Rattle.json8.specs.Nodes.{Node}
 use Rattle.json8_show.specs.Show.{shownAt}
 use Rattle.trees.specs.Trees.{Tree, number, string, branch}
-use Rattle.trees.specs.Tables.{Maybe, just, unfit, bind, need, nodesIn, countAt, bytesOf, stringOf, numberOf, scalarOf, leafOf, labelAt, treeFrom, grouped, treeAt}
+use Rattle.trees.specs.Tables.{Maybe, just, nothing, bind, need, nodesIn, countAt, bytesOf, stringOf, numberOf, scalarOf, leafOf, labelAt, treeFrom, grouped, treeAt}
 use Rattle.json8_fit.specs.declared.nodes.Shape.{Shape}
 use Rattle.json8_fit.specs.declared.nodes.Shape.the-variants.{Group, Leaf}
 use Rattle.json8_fit.specs.Fitness.{isFit}
@@ -39,7 +39,7 @@ need-fit false a = refl
 pub false-true : {P : Type 0} → _≡_ {A = Bool} false true → P
 false-true e = never (let z : _≡_ {A = Bool} false true = e in cc)
 
-pub unfit-never : {P : Type 0} {A : Type 0} (x : Maybe A) → x ≡ unfit → isFit x ≡ true → P
+pub unfit-never : {P : Type 0} {A : Type 0} (x : Maybe A) → x ≡ nothing → isFit x ≡ true → P
 unfit-never x e f = never (let z : false ≡ true = sym (ap isFit e) ∙ f in cc)
 
 -- a string, by where it is shown
@@ -58,7 +58,7 @@ module _ (table text : List ℕ) (i place size : ℕ) (ep : place ≡ getD table
 
 -- kinds 0 to 6 of a node that counts itself alone
 module _ (text store : List ℕ) (v : Node) where
-  pub leaf-counts : (v .count ≡ 1 → ⊥) → leafOf text store v ≡ unfit
+  pub leaf-counts : (v .count ≡ 1 → ⊥) → leafOf text store v ≡ nothing
   leaf-counts h = pick-false (eqb (v .count) 1) _ _ (ne-eqb (v .count) 1 h)
 
   pub leaf-scalar : v .count ≡ 1 → leafOf text store v ≡ scalarOf text store v
@@ -103,32 +103,32 @@ module _ (table text store : List ℕ) (i n : ℕ) (en : n ≡ countAt (drop i (
       (λ h. absurd (omega (arith, e, en, no-count i table (leb-true (length table / 4) i h))))
       (λ h. leb-false (length table / 4) i h)
 
-  pub key-counts : (n ≡ 1 → ⊥) → key ≡ unfit
+  pub key-counts : (n ≡ 1 → ⊥) → key ≡ nothing
   unfolding labelAt
   key-counts h = go (drop i (nodesIn table)) en
     where
-      go : (r : List Node) → n ≡ countAt r → labelAt Pairs text store r ≡ unfit
+      go : (r : List Node) → n ≡ countAt r → labelAt Pairs text store r ≡ nothing
       go [] e = refl
-      go (v ∷ r) e = pick-false (eqb (v .count) 1) (stringOf text store v) unfit (ne-eqb (v .count) 1 (λ z. h (e ∙ z)))
+      go (v ∷ r) e = pick-false (eqb (v .count) 1) (stringOf text store v) nothing (ne-eqb (v .count) 1 (λ z. h (e ∙ z)))
 
   pub key-string : n ≡ 1 → key ≡ stringOf text store (nodeAt i table)
   unfolding labelAt
   key-string e =
       let d : drop i (nodesIn table) ≡ nodeAt i table ∷ drop (i + 1) (nodesIn table) = node-there i table (key-inside e) in
       let c : getD table (4 * i + 1) 0 ≡ 1 = sym (ap countAt d) ∙ sym en ∙ e in
-      ap (labelAt Pairs text store) d ∙ pick-true (eqb (getD table (4 * i + 1) 0) 1) (stringOf text store (nodeAt i table)) unfit (eq-eqb _ 1 c)
+      ap (labelAt Pairs text store) d ∙ pick-true (eqb (getD table (4 * i + 1) 0) 1) (stringOf text store (nodeAt i table)) nothing (eq-eqb _ 1 c)
 
 -- a string is fit wherever its value is
 pub string-kept : (x : Maybe (List ℕ)) → isFit (bind x (λ bs. just (string bs))) ≡ isFit x
 string-kept (just bs) = refl
-string-kept unfit = refl
+string-kept nothing = refl
 
 -- a value, by the node at a place
 module _ (table text store : List ℕ) (left i : ℕ) where
   abbrev value : Maybe Tree
   value = treeAt left text store (drop i (nodesIn table))
 
-  pub value-end : length table / 4 ≤ i → value ≡ unfit
+  pub value-end : length table / 4 ≤ i → value ≡ nothing
   unfolding treeFrom
   value-end h = ap (treeAt left text store) (none-there i table h)
 
@@ -164,14 +164,14 @@ module _ (b : Sort) (table text store : List ℕ) (left i : ℕ) where
   abbrev group : Maybe Tree
   group = grouped left text store b (nodeAt i table) (drop (i + 1) (nodesIn table))
 
-  pub group-deep : left ≡ 0 → group ≡ unfit
+  pub group-deep : left ≡ 0 → group ≡ nothing
   unfolding grouped
   group-deep e = rw e
 
   deeper : (left ≡ 0 → ⊥) → group ≡ grouped (suc (left - 1)) text store b (nodeAt i table) (drop (i + 1) (nodesIn table))
   deeper h = ap (λ (d : ℕ). grouped d text store b (nodeAt i table) (drop (i + 1) (nodesIn table))) (let e : left ≡ suc (left - 1) = omega (arith, h) in e)
 
-  pub group-empty : (left ≡ 0 → ⊥) → getD table (4 * i + 1) 0 ≡ 0 → group ≡ unfit
+  pub group-empty : (left ≡ 0 → ⊥) → getD table (4 * i + 1) 0 ≡ 0 → group ≡ nothing
   unfolding grouped
   group-empty h e = deeper h ∙ pick-false _ _ _ (le-ltb 0 (getD table (4 * i + 1) 0) (omega (arith, e)))
 

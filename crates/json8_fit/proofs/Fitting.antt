@@ -20,7 +20,7 @@ use Rattle.json8_show.specs.Show.{shownAt}
 use Rattle.json8.specs.Nodes.{Node}
 use Rattle.prelude.specs.Limits.{nodeMax}
 use Rattle.trees.specs.Trees.{Label, Tree, branch, Members, one}
-use Rattle.trees.specs.Tables.{Maybe, just, unfit, bind, nodesIn, countAt, bytesOf, stringOf, numberOf, leafOf, labelSize, labelAt, memberSize, TreeReader, membersAt, treeAt, grouped}
+use Rattle.trees.specs.Tables.{Maybe, just, nothing, bind, nodesIn, countAt, bytesOf, stringOf, numberOf, leafOf, labelSize, labelAt, memberSize, TreeReader, membersAt, treeAt, grouped}
 use Rattle.json8_fit.specs.Fitness.{isFit}
 use Rattle.json8_fit.specs.inner.Steps.{nodeAt, Inside, within, memberFit}
 use Rattle.json8_fit.proofs.TableNodes.{behind-label, value-room}
@@ -101,9 +101,9 @@ module _ (b : Sort) (label : List Node → Maybe (Label b)) (tree : TreeReader) 
   three : (x : Maybe (Label b)) (y : Maybe Tree) (z : Maybe (Members b))
       → isFit (bind x (λ k. bind y (λ t. bind z (λ ms. just (one k t ms))))) ≡ (isFit x && isFit y) && isFit z
   three (just k) (just t) (just ms) = refl
-  three (just k) (just t) unfit = refl
-  three (just k) unfit z = refl
-  three unfit y z = refl
+  three (just k) (just t) nothing = refl
+  three (just k) nothing z = refl
+  three nothing y z = refl
 
   pub members-fit : (c w : ℕ) (r : List Node)
       → isFit (membersAt b label tree (suc c) w r) ≡ memberFit b label tree w r && isFit (membersAt b label tree c (w - memberSize b r) (drop (memberSize b r) r))
@@ -166,7 +166,7 @@ module _ (b : Sort) (table text store : List ℕ) (left i : ℕ) where
 
   branched : (x : Maybe (Members b)) → isFit (bind x (λ ms. just (branch b ms))) ≡ isFit x
   branched (just ms) = refl
-  branched unfit = refl
+  branched nothing = refl
 
   pub group-fit : {c n : ℕ} → c ≡ getD table (4 * i + 1) 0 → n ≡ getD table (4 * i + 3) 0 → (left ≡ 0 → ⊥) → (c ≡ 0 → ⊥)
       → isFit (within b table text store (left - 1) n (c - 1) (i + 1)) ≡ isFit group

@@ -12,11 +12,11 @@ ghost use Rattle.json8_fit.specs.inner.Steps.{Inside, nodeAt, memberFit,
 ghost use Rattle.json8_fit.specs.Fitness.{isFit};
 use crate::nodes;
 use crate::nodes::Shape;
-use prelude::limits::DEPTH_MAX;
-use prelude::limits::NODE_MAX;
 use json8::nodes::Sort;
 use json8_show::show;
 use json8_show::show::Shown;
+use prelude::limits::DEPTH_MAX;
+use prelude::limits::NODE_MAX;
 
 // A string of kind 5 or 6 in its buffer.
 fn is_string(table: &[u32], text: &[u8], store: &[u8], i: usize) -> bool
@@ -181,14 +181,5 @@ pub fn fit(table: &[u32], text: &[u8], store: &[u8]) -> bool
     if table.len() / 4 < count {
         return false;
     }
-    are_members(
-        table,
-        text,
-        store,
-        0,
-        1,
-        count,
-        DEPTH_MAX,
-        Sort::Items,
-    )
+    are_members(table, text, store, 0, 1, count, DEPTH_MAX, Sort::Items)
 }

@@ -17,7 +17,7 @@ use Rattle.json8.specs.Nodes.{Node}
 use Rattle.prelude.specs.Limits.{nodeMax}
 use Rattle.json8.specs.Values.{closeOf}
 use Rattle.trees.specs.Trees.{Label, Tree, branch, Members, none, one, openOf, comma, render, renderLabel, renderMembers}
-use Rattle.trees.specs.Tables.{Maybe, just, unfit, bind, nodesIn, countAt, labelSize, labelAt, memberSize, TreeReader, membersAt, treeAt, grouped}
+use Rattle.trees.specs.Tables.{Maybe, just, nothing, bind, nodesIn, countAt, labelSize, labelAt, memberSize, TreeReader, membersAt, treeAt, grouped}
 use Rattle.json8_fit.specs.Fitness.{isFit}
 use Rattle.rooms.specs.inner.Puts.{Put}
 use Rattle.json8_fit.specs.inner.Steps.{nodeAt, Inside, within, memberFit}
@@ -55,9 +55,9 @@ module _ (b : Sort) (label : List Node → Maybe (Label b)) (tree : TreeReader) 
       ≡ (comma first ++ (labelText b x ++ treeText y)) ++ bodyText false z
   unfolding renderBody
   three first (just k) (just t) (just ms) a c d = refl
-  three first (just k) (just t) unfit a c d = false-true d
-  three first (just k) unfit z a c d = false-true c
-  three first unfit y z a c d = false-true a
+  three first (just k) (just t) nothing a c d = false-true d
+  three first (just k) nothing z a c d = false-true c
+  three first nothing y z a c d = false-true a
 
   module _ (first : Bool) (c w : ℕ) (r : List Node) (f : isFit (membersAt b label tree (suc c) w r) ≡ true) where
     both : memberFit b label tree w r && isFit (membersAt b label tree c (w - memberSize b r) (drop (memberSize b r) r)) ≡ true
@@ -125,7 +125,7 @@ module _ (b : Sort) (table text store : List ℕ) (left i : ℕ) (f : isFit (gro
     branched : (x : Maybe (Members b)) → isFit x ≡ true → treeText (bind x (λ ms. just (branch b ms))) ≡ (openOf b ∷ []) ++ (bodyText true x ++ (closeOf b ∷ []))
     unfolding render
     branched (just ms) e = ap (λ (l : List ℕ). openOf b ∷ l) (body-close true ms)
-    branched unfit e = false-true e
+    branched nothing e = false-true e
 
     pub group-put : {room o p q r : ℕ} {out mid on new : List ℕ} → Put (openOf b ∷ []) room o p out mid
         → Put (bodyText true (within b table text store (left - 1) n (c - 1) (i + 1))) room p q mid on → Put (closeOf b ∷ []) room q r on new

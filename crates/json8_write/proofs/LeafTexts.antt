@@ -18,7 +18,7 @@ use Rattle.json8.specs.declared.nodes.Sort.the-variants.{Items, Pairs}
 use Rattle.json8.specs.Nodes.{Node}
 use Rattle.json8_show.specs.Show.{shownBy}
 use Rattle.trees.specs.Trees.{number, string, render}
-use Rattle.trees.specs.Tables.{Maybe, just, unfit, bind, nodesIn, countAt, bytesOf, stringOf, numberOf, leafOf, labelAt}
+use Rattle.trees.specs.Tables.{Maybe, just, nothing, bind, nodesIn, countAt, bytesOf, stringOf, numberOf, leafOf, labelAt}
 use Rattle.json8_fit.specs.Fitness.{isFit}
 use Rattle.rooms.specs.inner.Puts.{Put}
 use Rattle.json8_fit.specs.inner.Steps.{nodeAt, Inside, wordOf}
@@ -97,7 +97,7 @@ module _ (text store : List ℕ) (v : Node) (f : isFit (leafOf text store v) ≡
   string-tree : (x : Maybe (List ℕ)) → treeText (bind x (λ bs. just (string bs))) ≡ stringText x
   unfolding render
   string-tree (just bs) = refl
-  string-tree unfit = refl
+  string-tree nothing = refl
 
   module _ {room o r : ℕ} {out new : List ℕ} where
     pub leaf-string : 4 < v .kind → Put (stringText (stringOf text store v)) room o r out new → Put (treeText (leafOf text store v)) room o r out new
@@ -129,7 +129,7 @@ module _ (table text store : List ℕ) (i : ℕ) (f : isFit (labelAt Pairs text 
 
   colon : (x : Maybe (List ℕ)) → isFit x ≡ true → labelText Pairs x ≡ stringText x ++ (0x3a ∷ [])
   colon (just bs) e = refl
-  colon unfit e = false-true e
+  colon nothing e = false-true e
 
   pub key-put : {room o p r : ℕ} {out mid new : List ℕ} → Put (stringText (stringOf text store (nodeAt i table))) room o p out mid → Put (0x3a ∷ []) room p r mid new
       → Put (labelText Pairs (labelAt Pairs text store (drop i (nodesIn table)))) room o r out new

@@ -11,7 +11,7 @@ use lib.ListN.{length, drop}
 use Rattle.prelude.proofs.Picks.{pick-true, pick-false}
 use Rattle.json8.specs.Nodes.{Node}
 use Rattle.trees.specs.Trees.{Tree}
-use Rattle.trees.specs.Tables.{Maybe, just, unfit, nodesIn, countAt, treeOf}
+use Rattle.trees.specs.Tables.{Maybe, just, nothing, nodesIn, countAt, treeOf}
 use Rattle.trees.specs.Rooms.{bytesHeld, roomOf}
 use Rattle.trees.proofs.Rooms.{tree-room}
 use Rattle.json8_fit.specs.Fitness.{isFit}
@@ -66,5 +66,5 @@ pub text-room : (table text store : List ℕ) {c n room : ℕ} → isFit (treeOf
 text-room table text store {c} {n} {room} f ec en h = go (treeOf (nodesIn table) text store) refl f
   where
     go : (x : Maybe Tree) → treeOf (nodesIn table) text store ≡ x → isFit x ≡ true → length (treeText x) ≤ room
-    go unfit e g = false-true g
+    go nothing e g = false-true g
     go (just t) e g = omega (arith, tree-room text store (nodesIn table) t e, en, ap (λ (k : ℕ). roomOf k (nodesIn table)) ec)

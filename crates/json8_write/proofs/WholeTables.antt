@@ -13,7 +13,7 @@ use Rattle.rooms.proofs.Passes.{Whole}
 use Rattle.json8.specs.declared.nodes.Sort.the-variants.{Items}
 use Rattle.prelude.specs.Limits.{nodeMax, depthMax}
 use Rattle.trees.specs.Trees.{Tree}
-use Rattle.trees.specs.Tables.{Maybe, just, unfit, nodesIn, countAt, treeOf}
+use Rattle.trees.specs.Tables.{Maybe, just, nothing, nodesIn, countAt, treeOf}
 use Rattle.json8_fit.specs.Fitness.{isFit}
 use Rattle.json8_fit.specs.inner.Steps.{within}
 use Rattle.json8_fit.proofs.Choices.{false-true}
@@ -41,8 +41,8 @@ Wrote-It x out r new = (r ≡ wroteTree (length out) x) × (new ≡ treeInto x o
 
 pub wrote-unfit : (x : Maybe Tree) (out : List ℕ) → isFit x ≡ false → Wrote-It x out (Refused 1) out
 wrote-unfit (just t) out e = never (let z : true ≡ false = e in cc)
-wrote-unfit unfit out e = (refl, refl)
+wrote-unfit nothing out e = (refl, refl)
 
 pub wrote-fit : (x : Maybe Tree) (out : List ℕ) {r : WroteTable} {new : List ℕ} → isFit x ≡ true → Whole Wrote (Refused 12) (treeText x) out r new → Wrote-It x out r new
 wrote-fit (just t) out e w = w
-wrote-fit unfit out e w = false-true e
+wrote-fit nothing out e w = false-true e

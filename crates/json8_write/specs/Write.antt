@@ -9,16 +9,16 @@ use Rattle.prelude.specs.Refusals.{noRoom}
 use Rattle.prelude.specs.Refusals
 use Rattle.strings_write.specs.Write.{wroteInto}
 use Rattle.trees.specs.Trees.{Tree, render}
-use Rattle.trees.specs.Tables.{Maybe, just, unfit}
+use Rattle.trees.specs.Tables.{Maybe, just, nothing}
 use Rattle.json8_write.specs.declared.answers.WroteTable.{WroteTable}
 use Rattle.json8_write.specs.declared.answers.WroteTable.the-variants.{Wrote, Refused}
 
 -- the answer for what a table means, in a room
 abbrev pub wroteTree : ℕ → Maybe Tree → WroteTable
 wroteTree room (just t) = pick (leb (length (render t)) room) (Wrote (length (render t))) (Refused noRoom)
-wroteTree room unfit = Refused Refusals.unfit
+wroteTree room nothing = Refused Refusals.unfit
 
 -- what the buffer holds afterwards: the text in front of what was there, or all as it was
 abbrev pub treeInto : Maybe Tree → List ℕ → List ℕ
 treeInto (just t) out = wroteInto (render t) out
-treeInto unfit out = out
+treeInto nothing out = out

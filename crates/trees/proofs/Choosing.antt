@@ -4,7 +4,7 @@ use mathlib.Core.Bool.{Bool, true, false}
 use mathlib.Core.Path.{_≡_, refl}
 use Rattle.prelude.specs.Pick.{pick}
 use Rattle.prelude.proofs.Cases.{never}
-use Rattle.trees.specs.Tables.{Maybe, just, unfit, bind, need}
+use Rattle.trees.specs.Tables.{Maybe, just, nothing, bind, need}
 
 pub record Bound {A B : Type 0} (x : Maybe A) (f : A → Maybe B) (y : B) : Type 0 where
   pub value : A
@@ -13,7 +13,7 @@ pub record Bound {A B : Type 0} (x : Maybe A) (f : A → Maybe B) (y : B) : Type
 
 pub bind-just : {A B : Type 0} (x : Maybe A) (f : A → Maybe B) (y : B) → bind x f ≡ just y → Bound x f y
 bind-just (just a) f y e = record { value = a; was = refl; rest = e }
-bind-just unfit f y e = never (cc)
+bind-just nothing f y e = never (cc)
 
 pub need-just : {A : Type 0} (b : Bool) (x : Maybe A) (y : A) → need b x ≡ just y → (b ≡ true) × (x ≡ just y)
 unfolding pick

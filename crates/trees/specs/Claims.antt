@@ -14,7 +14,7 @@ use Rattle.json8.specs.Nodes.{Node, Read, got, refused}
 use Rattle.json8.specs.Values.{value}
 use Rattle.json8.specs.Read.{readAll, readOf, parsedOf, tableAfter, storeAfter}
 use Rattle.trees.specs.Trees.{Tree, render}
-use Rattle.trees.specs.Tables.{Maybe, just, unfit, nodesIn, countAt, treeOf}
+use Rattle.trees.specs.Tables.{Maybe, just, nothing, nodesIn, countAt, treeOf}
 use Rattle.trees.specs.Sound.{Sound}
 use Rattle.trees.specs.Sizes.{sizeOf, storeOf, storedBytes}
 use Rattle.trees.specs.Rooms.{roomOf}
@@ -26,7 +26,7 @@ tableTree table text store = treeOf (nodesIn table) text store
 -- what a text means: the tree of the nodes that it is read to
 abbrev pub treeIn : List ℕ → Read → Maybe Tree
 treeIn s (got l tag ns bs) = treeOf ns s bs
-treeIn s (refused number at) = unfit
+treeIn s (refused number at) = nothing
 
 abbrev pub textTree : List ℕ → Maybe Tree
 textTree s = treeIn s (readAll s)

@@ -1,4 +1,4 @@
--- The tree that a table means, for any numbers, text and store; nothing where the table is unfit. "Refusal 1 unless: 1 to 1,024 nodes by
+-- The tree that a table means, for any numbers, text and store; nothing where the table is nothing. "Refusal 1 unless: 1 to 1,024 nodes by
 -- the root's count, all inside the table, kinds 0 to 8, one root holding all, subtrees nested exactly, counts true, depth at most 32, keys
 -- of kind 5 or 6, string and number ranges inside their buffer, number texts legal for their kind; other places and lengths aren't looked
 -- at."
@@ -22,14 +22,14 @@ use Rattle.trees.specs.Trees.{Label, Tree, null, bool, number, string, b
 -- something, or no meaning
 pub data Maybe (A : Type 0) : Type 0 where
   just : A → Maybe A
-  unfit : Maybe A
+  nothing : Maybe A
 
 abbrev pub bind : {A B : Type 0} → Maybe A → (A → Maybe B) → Maybe B
 bind (just a) f = f a
-bind unfit f = unfit
+bind nothing f = nothing
 
 abbrev pub need : {A : Type 0} → Bool → Maybe A → Maybe A
-need b x = pick b x unfit
+need b x = pick b x nothing
 
 -- the table's nodes, "four 32-bit numbers a node"
 unfoldable pub nodesIn : List ℕ → List Node
@@ -48,7 +48,7 @@ countAt (v ∷ r) = v .count
 abbrev pub bytesOf : List ℕ → List ℕ → Shown → Maybe (List ℕ)
 bytesOf text store (InText place size) = just (take size (drop place text))
 bytesOf text store (InStore place size) = just (take size (drop place store))
-bytesOf text store Nowhere = unfit
+bytesOf text store Nowhere = nothing
 
 unfoldable pub stringOf : List ℕ → List ℕ → Node → Maybe (List ℕ)
 stringOf text store v = bytesOf text store (shownBy (v .kind) (v .place) (v .size) (length text) (length store))
@@ -82,7 +82,7 @@ labelSize Pairs = 1
 -- "keys of kind 5 or 6"
 unfoldable pub labelAt : (b : Sort) → List ℕ → List ℕ → List Node → Maybe (Label b)
 labelAt Items text store r = just tt
-labelAt Pairs text store [] = unfit
+labelAt Pairs text store [] = nothing
 labelAt Pairs text store (v ∷ r) = need (eqb (v .count) 1) (stringOf text store v)
 
 -- the nodes of the first member, its key's among them
@@ -104,13 +104,13 @@ membersAt b label tree (suc c) w r =
 
 -- a tree, where lists and dicts are given
 unfoldable pub treeFrom : (Sort → Node → List Node → Maybe Tree) → List ℕ → List ℕ → TreeReader
-treeFrom group text store [] = unfit
+treeFrom group text store [] = nothing
 treeFrom group text store (v ∷ r) =
     pick (eqb (v .kind) 7) (group Items v r) (pick (eqb (v .kind) 8) (group Pairs v r) (leafOf text store v))
 
 -- a list or a dict where so many brackets more may be open: "depth at most 32"
 unfoldable pub grouped : ℕ → List ℕ → List ℕ → Sort → Node → List Node → Maybe Tree
-grouped zero text store b v r = unfit
+grouped zero text store b v r = nothing
 grouped (suc left) text store b v r =
     need (ltb 0 (v .count))
     (bind (membersAt b (labelAt b text store) (treeFrom (grouped left text store) text store) (v .size) (v .count - 1) r)

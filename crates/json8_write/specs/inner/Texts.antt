@@ -8,20 +8,20 @@ use Rattle.json8.specs.declared.nodes.Sort.{Sort}
 use Rattle.strings_write.specs.Write.{writeString}
 use Rattle.json8.specs.Nodes.{Node}
 use Rattle.trees.specs.Trees.{Label, Tree, Members, none, one, comma, render, renderLabel}
-use Rattle.trees.specs.Tables.{Maybe, just, unfit, labelSize, TreeReader}
+use Rattle.trees.specs.Tables.{Maybe, just, nothing, labelSize, TreeReader}
 
--- the texts of what a table means; of an unfit one nothing is asked
+-- the texts of what a table means; of an nothing one nothing is asked
 abbrev pub treeText : Maybe Tree → List ℕ
 treeText (just t) = render t
-treeText unfit = []
+treeText nothing = []
 
 abbrev pub stringText : Maybe (List ℕ) → List ℕ
 stringText (just bs) = writeString bs
-stringText unfit = []
+stringText nothing = []
 
 abbrev pub labelText : (b : Sort) → Maybe (Label b) → List ℕ
 labelText b (just k) = renderLabel b k
-labelText b unfit = []
+labelText b nothing = []
 
 -- members without their closing bracket
 unfoldable pub renderBody : {b : Sort} → Bool → Members b → List ℕ
@@ -30,7 +30,7 @@ renderBody {b} first (one k t ms) = (comma first ++ (renderLabel b k ++ render t
 
 abbrev pub bodyText : {b : Sort} → Bool → Maybe (Members b) → List ℕ
 bodyText first (just ms) = renderBody first ms
-bodyText first unfit = []
+bodyText first nothing = []
 
 -- a member's comma, key and value
 abbrev pub memberText : (b : Sort) → (List Node → Maybe (Label b)) → TreeReader → Bool → List Node → List ℕ
