@@ -1,7 +1,7 @@
 # make test: the gate. make demo: the main job on samples. make archive: target/staticlib/libj8.a for C and Rust. make command: the command j8.
 # make install PREFIX=..: command, archive, header and j8.pc. make stack, make size: what the functions take. make bench: their speed beside others.
-# make axioms: what the proofs rest on. make compare, make load, make faults: docs/TESTING.md.
-.PHONY: test demo archive command examples install uninstall stack size axioms compare load faults bench clean
+# make axioms: what the proofs rest on. make compare, make load, make faults, make limits: docs/TESTING.md.
+.PHONY: test demo archive command examples install uninstall stack size axioms compare load faults limits bench clean
 
 VERSION = $(shell sed -n 's/^.define J8_VERSION "\(.*\)"$$/\1/p' include/j8.h)
 PREFIX = /usr/local
@@ -85,6 +85,10 @@ load: archive
 # Faults put into a copy of the reference, of the layer over C or of a generator: the comparison must find each.
 faults: archive
 	@bash rust/compare/faults.sh
+
+# What the program limits must print for the rows of its stdin, by the reference.
+limits:
+	@cd rust && cargo run --offline --release --quiet -p j8-reference --bin limits <../crates/limits/stdin >../crates/limits/stdout
 
 # Installs the peers from Debian's packages, measures, and writes docs/BENCHMARKS.md and docs/plots: some minutes.
 bench: archive

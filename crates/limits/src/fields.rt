@@ -122,15 +122,17 @@ pub fn is_over(row: &[u8], k: usize) -> bool {
 
 // The number that is a row's last field.
 pub fn last(row: &[u8], k: usize) -> usize {
-    if is_over(row, k + 1) {
-        number(field(row, k))
-    } else {
-        WRONG
+    if k > 9 {
+        return WRONG;
     }
+    if is_over(row, k + 1) {
+        return number(field(row, k));
+    }
+    WRONG
 }
 
-fn put(b: u8, n: usize, out: &mut [u8; ROOM_MAX]) -> usize {
-    if n < ROOM_MAX {
+fn put(b: u8, n: usize, out: &mut [u8]) -> usize {
+    if n < out.len() {
         out[n] = b;
         return n + 1;
     }
@@ -138,7 +140,7 @@ fn put(b: u8, n: usize, out: &mut [u8; ROOM_MAX]) -> usize {
 }
 
 // The byte of two hex digits.
-fn put_pair(high: u8, low: u8, n: usize, out: &mut [u8; ROOM_MAX]) -> usize {
+fn put_pair(high: u8, low: u8, n: usize, out: &mut [u8]) -> usize {
     if high > 15 {
         return WRONG;
     }
@@ -149,7 +151,7 @@ fn put_pair(high: u8, low: u8, n: usize, out: &mut [u8; ROOM_MAX]) -> usize {
 }
 
 // Stores the bytes of a field. A part with a count is read again until it was read so often.
-pub fn bytes(s: &[u8], out: &mut [u8; ROOM_MAX]) -> usize {
+pub fn bytes(s: &[u8], out: &mut [u8]) -> usize {
     let mut n = 0;
     let mut at = 0;
     let mut part = 0;
@@ -195,11 +197,11 @@ pub fn bytes(s: &[u8], out: &mut [u8; ROOM_MAX]) -> usize {
     if barred { WRONG } else { n }
 }
 
-fn put_number(v: usize, n: usize, out: &mut [u32; TABLE_MAX]) -> usize {
+fn put_number(v: usize, n: usize, out: &mut [u32]) -> usize {
     if v > 4294967295 {
         return WRONG;
     }
-    if n < TABLE_MAX {
+    if n < out.len() {
         out[n] = v as u32;
         return n + 1;
     }
@@ -207,7 +209,7 @@ fn put_number(v: usize, n: usize, out: &mut [u32; TABLE_MAX]) -> usize {
 }
 
 // Stores the numbers of a field.
-pub fn table(s: &[u8], out: &mut [u32; TABLE_MAX]) -> usize {
+pub fn table(s: &[u8], out: &mut [u32]) -> usize {
     let mut n = 0;
     let mut at = 0;
     let mut part = 0;

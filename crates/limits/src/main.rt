@@ -7,6 +7,7 @@ mod tables;
 mod texts;
 mod uploads;
 
+use check::same;
 use libc::STDIN_FILENO;
 use prelude::slices;
 
@@ -27,8 +28,28 @@ fn run_table(verb: u8, row: &[u8]) {
     tables::run(verb == b'w', row);
 }
 
-// Runs a call, told by the first letters of its words, and prints what it answers.
+// The calls on a text and a room.
+fn is_text_call(name: &[u8]) -> bool {
+    same(name, b"string_read")
+        || same(name, b"token_read")
+        || same(name, b"string_write")
+        || same(name, b"bytes_write")
+        || same(name, b"lines_write")
+}
+
+fn is_call(name: &[u8]) -> bool {
+    is_text_call(name)
+        || same(name, b"upload")
+        || same(name, b"json8_read")
+        || same(name, b"json8_show")
+        || same(name, b"json8_write")
+}
+
+// Runs a call and prints what it answers. The first letters of its words tell the calls apart.
 fn run(row: &[u8]) {
+    if !is_call(fields::field(row, 0)) {
+        return show::wrong();
+    }
     let object = slices::byte_at(row, 0, 0);
     let verb = slices::byte_at(fields::part(row, b'_', 1), 0, 0);
     if object == b'j' {

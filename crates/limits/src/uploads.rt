@@ -29,23 +29,32 @@ fn print_answer(a: Answer, first: bool) {
     show::three(a.number as usize, a.line, a.place);
 }
 
-// The bytes of a call that feeds; none, and a word on it, if it is wrong.
-fn piece_of(call: &[u8], piece: &mut [u8; fields::ROOM_MAX]) -> usize {
-    if slices::byte_at(call, 0, 0) == b'F' {
-        let n = fields::bytes(fields::part(call, b'F', 1), piece);
-        if n < fields::WRONG {
-            return n;
-        }
-    }
+fn nothing() -> usize {
     show::wrong();
     0
+}
+
+// The bytes of a call that feeds; none, and a word on it, if it is wrong.
+fn piece_of(call: &[u8], piece: &mut [u8]) -> usize {
+    if slices::byte_at(call, 0, 0) != b'F' {
+        return nothing();
+    }
+    let n = fields::bytes(fields::part(call, b'F', 1), piece);
+    if n == fields::WRONG {
+        return nothing();
+    }
+    n
+}
+
+fn feed_first(n: usize, piece: &[u8], state: Upload, line: &mut [u8], out: &mut [u8]) -> Fed {
+    let n = fields::within(n, piece);
+    state.feed(&piece[..n], line, out)
 }
 
 fn feed(call: &[u8], state: Upload, line: &mut [u8], out: &mut [u8]) -> Fed {
     let mut piece = texts::filled(0);
     let n = piece_of(call, &mut piece);
-    let n = fields::within(n, &piece);
-    state.feed(&piece[..n], line, out)
+    feed_first(n, &piece, state, line, out)
 }
 
 fn make(call: &[u8], state: Upload, line: &mut [u8], out: &mut [u8]) -> Fed {

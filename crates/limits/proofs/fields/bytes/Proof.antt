@@ -1,4 +1,4 @@
--- The steps left fall; nothing else is asked.
+-- The steps left fall, and each keeps the buffer's length.
 -- Assumes nothing.
 use borrow.Author.Needs.{needs}
 use Rattle.limits.proofs.fields.bytes.Statement.{statement}
@@ -9,7 +9,7 @@ use mathlib.Core.Path.{_≡_}
 
 abbrev Inv-loop : tie.InvT-loop
 Inv-loop s out₀ n₀ at₀ part₀ times₀ barred₀ left₀ out n at part times barred left =
-    Unit {0}
+    length out ≡ length out₀
 
 abbrev μ-loop : tie.MeasureT-loop
 μ-loop s out₀ n₀ at₀ part₀ times₀ barred₀ left₀ out n at part times barred left =
@@ -17,6 +17,9 @@ abbrev μ-loop : tie.MeasureT-loop
 
 loop-holds : tie.Need-loop-holds Inv-loop μ-loop
 loop-holds c = search needs
+
+same-length : tie.Need-same-length Inv-loop μ-loop
+same-length c = search needs
 
 returns : tie.Need-returns Inv-loop μ-loop
 returns c = search needs
@@ -102,8 +105,14 @@ loop-less-8 c = search needs
 loop-again-8 : tie.Need-loop-again-8 Inv-loop μ-loop
 loop-again-8 c = search needs
 
+same-length-2 : tie.Need-same-length-2 Inv-loop μ-loop
+same-length-2 c = search needs
+
 returns-2 : tie.Need-returns-2 Inv-loop μ-loop
 returns-2 c = search needs
+
+same-length-3 : tie.Need-same-length-3 Inv-loop μ-loop
+same-length-3 c = search needs
 
 returns-3 : tie.Need-returns-3 Inv-loop μ-loop
 returns-3 c = search needs
@@ -115,6 +124,7 @@ bytes-spec =
     Inv-loop
     μ-loop
     loop-holds
+    same-length
     returns
     sub-left
     shared-slice-read-x
@@ -143,5 +153,7 @@ bytes-spec =
     loop-again-7
     loop-less-8
     loop-again-8
+    same-length-2
     returns-2
+    same-length-3
     returns-3)

@@ -1,4 +1,4 @@
--- The steps left fall; nothing else is asked.
+-- The steps left fall, and each keeps the table's length.
 -- Assumes nothing.
 use borrow.Author.Needs.{needs}
 use Rattle.limits.proofs.fields.table.Statement.{statement}
@@ -9,7 +9,7 @@ use mathlib.Core.Path.{_≡_}
 
 abbrev Inv-loop : tie.InvT-loop
 Inv-loop s out₀ n₀ at₀ part₀ times₀ left₀ out n at part times left =
-    Unit {0}
+    length out ≡ length out₀
 
 abbrev μ-loop : tie.MeasureT-loop
 μ-loop s out₀ n₀ at₀ part₀ times₀ left₀ out n at part times left =
@@ -17,6 +17,9 @@ abbrev μ-loop : tie.MeasureT-loop
 
 loop-holds : tie.Need-loop-holds Inv-loop μ-loop
 loop-holds c = search needs
+
+same-length : tie.Need-same-length Inv-loop μ-loop
+same-length c = search needs
 
 returns : tie.Need-returns Inv-loop μ-loop
 returns c = search needs
@@ -87,6 +90,9 @@ loop-less-7 c = search needs
 loop-again-7 : tie.Need-loop-again-7 Inv-loop μ-loop
 loop-again-7 c = search needs
 
+same-length-2 : tie.Need-same-length-2 Inv-loop μ-loop
+same-length-2 c = search needs
+
 returns-2 : tie.Need-returns-2 Inv-loop μ-loop
 returns-2 c = search needs
 
@@ -97,6 +103,7 @@ table-spec =
     Inv-loop
     μ-loop
     loop-holds
+    same-length
     returns
     sub-left
     shared-slice-read-x
@@ -120,4 +127,5 @@ table-spec =
     loop-again-6
     loop-less-7
     loop-again-7
+    same-length-2
     returns-2)
