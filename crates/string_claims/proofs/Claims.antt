@@ -3,6 +3,7 @@
 use mathlib.Core.List.{[]}
 use mathlib.Core.Path.{refl}
 use native.Mathlib.Omega.{arith}
+use lib.Dec.{lit≤}
 use Rattle.prelude.specs.Pick.{pick}
 use Rattle.utf8.specs.Class.{classOf}
 use Rattle.utf8.specs.Utf8.{lowOf, highOf, twoBytes, threeBytes, fourBytes, longLen, lenBy, charLen, encode}
@@ -13,18 +14,18 @@ use Rattle.units.specs.Units.{unitAt}
 use Rattle.units.proofs.Sizes.{took-size}
 use Rattle.strings.specs.Read.{readUnits, opening, readToken, readString}
 use Rattle.strings_write.specs.Write.{writeBytes, writeString}
-use Rattle.string_claims.specs.Claims.{Example-Strings, Written-Reads-Back, Bytes-Form-Reads-Back, Written-Token-Reads-Back, Bytes-Form-Token-Reads-Back, Ends-At-Its-Quote, Unicode-Is-Utf8, Writer-Is-Injective, Written-Is-One-Line, Bytes-Form-Is-One-Line, Places-Inside, Cut-Off-At-End, Units-Progress, Written-Length, Read-Length}
+use Rattle.string_claims.specs.Claims.{examples, Example-Strings, Written-Reads-Back, Bytes-Form-Reads-Back, Written-Token-Reads-Back, Bytes-Form-Token-Reads-Back, Ends-At-Its-Quote, Unicode-Is-Utf8, Unicode-Token-Is-Utf8, Writer-Is-Injective, Written-Is-One-Line, Bytes-Form-Is-One-Line, Places-Inside, Cut-Off-At-End, Units-Progress, Written-Length, Read-Length}
 use Rattle.string_claims.proofs.Ends.{token-cut}
 use Rattle.string_claims.proofs.RoundTrip.{quoted-back, token-back, text-back, write-injective}
 use Rattle.strings.proofs.Places.{string-inside, text-inside}
-use Rattle.strings.proofs.Utf8Denoted.{unicode-valid}
+use Rattle.string_claims.proofs.Texts.{text-valid, token-valid, all-texts}
 use Rattle.string_claims.proofs.Printed.{quoted-printed, write-printed, printed-at}
 use Rattle.strings.proofs.Lengths.{string-length}
 use Rattle.strings_write.proofs.WriteLengths.{write-length}
 
 pub example-strings : Example-Strings
 unfolding classOf lowOf highOf twoBytes threeBytes fourBytes longLen lenBy charLen encode hexVal hexDigits hexFrom lookup lowHalf codeUnit fourDigits scalar braced rawByte escape unitAt readUnits opening readToken readString pick
-example-strings = refl
+example-strings room l = all-texts room l examples (record { read = refl; fits = lit≤ tt; short = lit≤ tt }, (record { read = refl; fits = lit≤ tt; short = lit≤ tt }, (record { read = refl; fits = lit≤ tt; short = lit≤ tt }, (record { read = refl; fits = lit≤ tt; short = lit≤ tt }, (record { read = refl; fits = lit≤ tt; short = lit≤ tt }, (record { read = refl; fits = lit≤ tt; short = lit≤ tt }, (record { read = refl; fits = lit≤ tt; short = lit≤ tt }, (record { read = refl; fits = lit≤ tt; short = tt }, (record { read = refl; fits = lit≤ tt; short = tt }, (record { read = refl; fits = lit≤ tt; short = tt }, (record { read = refl; fits = lit≤ tt; short = tt }, (record { read = refl; fits = lit≤ tt; short = tt }, (record { read = refl; fits = lit≤ tt; short = tt }, tt)))))))))))))
 
 pub written-reads-back : Written-Reads-Back
 written-reads-back room s b = text-back room s (writeString s) (token-back s [] b)
@@ -42,7 +43,10 @@ pub ends-at-its-quote : Ends-At-Its-Quote
 ends-at-its-quote s t bs e h = token-cut s bs e h t
 
 pub unicode-is-utf8 : Unicode-Is-Utf8
-unicode-is-utf8 s bs n e o r = rw r at (unicode-valid s n o)
+unicode-is-utf8 room s bs n e o r = rw r at (text-valid room s n o)
+
+pub unicode-token-is-utf8 : Unicode-Token-Is-Utf8
+unicode-token-is-utf8 s bs n e o r = rw r at (token-valid s n o)
 
 pub writer-is-injective : Writer-Is-Injective
 writer-is-injective = write-injective

@@ -3,3 +3,4 @@ pub mod Claims
 pub mod Ends
 pub mod Printed
 pub mod RoundTrip
+pub mod Texts

@@ -39,9 +39,10 @@ examples =
     record { text = "\"a"; answer = refused cutOff 2 } ∷
     record { text = "'a' x"; answer = refused trailing 3 } ∷ []
 
--- "Proved together, as a single list with a single claim"
+-- "Proved together, as a single list with a single claim": in any room of four bytes, which the longest of them needs
 abbrev pub Example-Strings : Type 0
-Example-Strings = map (λ (e : Example). readString (ascii (e .text))) examples ≡ map (λ (e : Example). e .answer) examples
+Example-Strings =
+    (room : ℕ) → 4 ≤ room → map (λ (e : Example). readText room (ascii (e .text))) examples ≡ map (λ (e : Example). e .answer) examples
 
 -- "a text of at most 32,768 bytes reads back the same", into any room that the byte string fits
 abbrev pub Written-Reads-Back : Type 0
@@ -66,9 +67,12 @@ Bytes-Form-Token-Reads-Back = (s t : List ℕ) → IsBytes s → readToken (writ
 abbrev pub Ends-At-Its-Quote : Type 0
 Ends-At-Its-Quote = (s t bs : List ℕ) (e : ℕ) → readToken s ≡ accepted bs e → readToken (take e s ++ t) ≡ accepted bs e
 
--- what `u''` and `''` denote is UTF-8
+-- "an accepted u'' string always gives valid UTF-8", and so does `''`: as a text, and as a token in front of any text
 abbrev pub Unicode-Is-Utf8 : Type 0
-Unicode-Is-Utf8 = (s bs : List ℕ) (n e : ℕ) → opening s ≡ opens Unicode n → readString s ≡ accepted bs e → validUtf8 bs ≡ true
+Unicode-Is-Utf8 = (room : ℕ) (s bs : List ℕ) (n e : ℕ) → opening s ≡ opens Unicode n → readText room s ≡ accepted bs e → validUtf8 bs ≡ true
+
+abbrev pub Unicode-Token-Is-Utf8 : Type 0
+Unicode-Token-Is-Utf8 = (s bs : List ℕ) (n e : ℕ) → opening s ≡ opens Unicode n → readToken s ≡ accepted bs e → validUtf8 bs ≡ true
 
 -- two byte strings with one text are one
 abbrev pub Writer-Is-Injective : Type 0

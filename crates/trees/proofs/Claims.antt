@@ -2,9 +2,10 @@
 -- Assumes nothing.
 use Rattle.trees.specs.Trees.{render}
 use Rattle.trees.specs.Tables.{nodesIn}
-use Rattle.trees.specs.Claims.{Tables-Nest, Written-Table-Reads-Back, Written-Tree-Reads-Back, Fit-Tables-Are-Sound, Read-Table-Is-Fit, Restored-Is-The-Same, Render-Is-Injective, Written-Table-Length}
+use Rattle.trees.specs.Claims.{Tables-Nest, Written-Table-Reads-Back, Written-Tree-Reads-Back, Fit-Tables-Are-Sound, Read-Table-Is-Fit, Restored-Is-The-Same, Render-Is-Injective, Written-Table-Length, Unicode-Strings-Are-Utf8}
 use Rattle.trees.proofs.Fitting.{tree-sound}
 use Rattle.trees.proofs.Rooms.{tree-room}
+use Rattle.trees.proofs.UnicodeStrings.{unicode-string}
 use Rattle.trees.proofs.WholeTexts.{known-tree, written-known, written-read, front-read, render-one, read-nests, read-fit, text-sound}
 
 pub tables-nest : Tables-Nest
@@ -31,3 +32,6 @@ render-is-injective t u a b e = render-one t u a b e
 
 pub written-table-length : Written-Table-Length
 written-table-length r text store t e = tree-room text store r t e
+
+pub unicode-strings-are-utf8 : Unicode-Strings-Are-Utf8
+unicode-strings-are-utf8 = unicode-string

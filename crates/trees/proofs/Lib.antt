@@ -12,3 +12,4 @@ pub mod ReadTrees
 pub mod WholeTexts
 pub mod Rooms
 pub mod Claims
+pub mod UnicodeStrings

@@ -1,20 +1,24 @@
 -- What is claimed of tables, trees and texts: each claim is a type, and proofs/Claims.antt has a term of it.
 -- Assumes nothing.
 use Prim.Native.Nat.{ℕ, _/_, _≤_}
-use mathlib.Core.Bool.{false}
+use mathlib.Core.Bool.{true, false}
 use mathlib.Core.List.{List, [], _∷_, _++_}
 use mathlib.Core.Path.{_≡_}
-use lib.ListN.{length, take}
+use lib.ListN.{length, take, drop}
 use Rattle.prelude.specs.Bytes.{IsBytes}
 use Rattle.prelude.specs.Limits.{textMax, depthMax}
+use Rattle.utf8.specs.Utf8.{validUtf8}
+use Rattle.units.specs.declared.styles.Style.the-variants.{Unicode}
+use Rattle.strings.specs.Read.{opens, opening}
 use Rattle.tokens.specs.Words.{isWord}
 use Rattle.tokens.specs.Numbers.{isNumber}
 use Rattle.json8.specs.declared.answers.Parsed.the-variants.{Done}
 use Rattle.json8.specs.Nodes.{Node, Read, got, refused}
+use Rattle.json8.specs.Leaves.{string}
 use Rattle.json8.specs.Values.{value}
 use Rattle.json8.specs.Read.{readAll, readOf, parsedOf, tableAfter, storeAfter}
 use Rattle.trees.specs.Trees.{Tree, render}
-use Rattle.trees.specs.Tables.{Maybe, just, nothing, nodesIn, countAt, treeOf}
+use Rattle.trees.specs.Tables.{Maybe, just, nothing, nodesIn, countAt, treeOf, stringOf}
 use Rattle.trees.specs.Sound.{Sound}
 use Rattle.trees.specs.Sizes.{sizeOf, storeOf, storedBytes}
 use Rattle.trees.specs.Rooms.{roomOf}
@@ -104,3 +108,10 @@ Render-Is-Injective = (t u : Tree) → Sound t → Sound u → render t ≡ rend
 abbrev pub Written-Table-Length : Type 0
 Written-Table-Length =
     (r : List Node) (text store : List ℕ) (t : Tree) → treeOf r text store ≡ just t → length (render t) ≤ roomOf (countAt r) r
+
+-- "an accepted u'' string always gives valid UTF-8": as a JSON8 token, by the bytes that its node shows, wherever its decoded bytes stand
+abbrev pub Unicode-Strings-Are-Utf8 : Type 0
+Unicode-Strings-Are-Utf8 =
+    (text before behind bs w : List ℕ) (p n k l tag : ℕ) (v : Node) → opening (drop p text) ≡ opens Unicode k
+    → string p n (length before) (drop p text) ≡ got l tag (v ∷ []) bs → stringOf text (before ++ (bs ++ behind)) v ≡ just w
+    → validUtf8 w ≡ true

@@ -9,7 +9,8 @@ use Rattle.prelude.specs.Limits.{lineMax}
 use Rattle.upload.specs.Calls.{Called}
 use Rattle.replay.specs.Lists.{feeds, finishes, run, began, joined, finished, defined}
 use Rattle.replay.proofs.WholeList.{whole-list}
-use Rattle.upload_claims.specs.Claims.{Every-List-Of-Calls, Pieces-Do-Not-Matter, Records-After-Finish, Written-Lines-Read-Back, Every-List-Is-Encoded, Whole-Case, Handing-On-Changes-Nothing, caseText}
+use Rattle.upload_claims.specs.Claims.{Every-List-Of-Calls, Pieces-Do-Not-Matter, Records-After-Finish, Written-Lines-Read-Back, Every-List-Is-Encoded, Whole-Case, Handing-On-Changes-Nothing, caseText, Unicode-Lines-Are-Utf8}
+use Rattle.upload_claims.proofs.UnicodeLines.{unicode-line}
 use Rattle.upload_claims.proofs.Answers.{each-answer, same-pieces}
 use Rattle.upload_claims.proofs.CaseComputed.{case-state, case-out}
 use Rattle.upload_claims.proofs.Encoded.{textOf, planOf, all-lists}
@@ -48,3 +49,6 @@ whole-case line out h k =
 
 pub handing-on-changes-nothing : Handing-On-Changes-Nothing
 handing-on-changes-nothing = handing-on
+
+pub unicode-lines-are-utf8 : Unicode-Lines-Are-Utf8
+unicode-lines-are-utf8 = unicode-line

@@ -17,12 +17,12 @@ use Rattle.replay.proofs.WholeList.{ended-none, ended-refused}
 by-open : (f : Fault) (t line out : List ℕ) → firstFault (length out) t .before ≡ length t → Finished f t out (endBy f t line out)
 unfolding left
 by-open none t line out e = (refl, refl, refl, refl)
-by-open (refuse n p) t line out e = rw (e, take-all (length t) t (omega arith)) (refl, refl, refl, refl, refl)
+by-open (refuse n p) t line out e = rw (e, take-all (length t) t (omega arith)) (refl, refl, refl, refl, refl, refl, refl)
 
 by-byte : (t line out : List ℕ) (n p : ℕ) (text : List ℕ) → length t ≡ firstFault (length out) text .before → t ≡ take (firstFault (length out) text .before) text
     → Finished (refuse n p) text out (standing t (refuse n p) line out)
 unfolding left
-by-byte t line out n p text h e = (refl, refl, refl, h, rw e)
+by-byte t line out n p text h e = (refl, refl, refl, h, refl, rw e, rw e)
 
 by-first : (f : Fault) (t line out : List ℕ) → firstFault (length out) t .why ≡ f
     → Finished (orOpenLine f (length out) t) t out (j8Lines t true line out)

@@ -6,3 +6,4 @@ pub mod Finished
 pub mod Handing
 pub mod WrittenTexts
 pub mod WrittenLines
+pub mod UnicodeLines

@@ -9,6 +9,10 @@ use lib.ListN.{length, take}
 use Rattle.prelude.specs.Bytes.{IsBytes, ascii, LF}
 use Rattle.prelude.specs.Limits.{uploadMax, lineMax}
 use Rattle.prelude.specs.Refusals.{noRoom}
+use Rattle.utf8.specs.Utf8.{validUtf8}
+use Rattle.units.specs.declared.styles.Style.the-variants.{Unicode}
+use Rattle.strings.specs.Read.{opens, opening}
+use Rattle.lines.specs.Line.{holds, strip, readLine}
 use Rattle.lines.specs.Records.{Fault, none, refuse}
 use Rattle.lines_write.specs.Write.{rightRecords, writeQuoted}
 use Rattle.upload.specs.declared.uploads.Upload.{Upload}
@@ -64,6 +68,8 @@ Finished none text out m = EndedWith (recordsOf true text) out m
 Finished (refuse number at) text out m =
     (m .state .refusal ≡ number) × (m .state .place ≡ at) × (m .state .line ≡ m .state .lfs + 1)
     × (m .state .taken ≡ firstFault (length out) text .before)
+    × (m .state .ended ≡ false)
+    × (m .state .used ≡ length (records (cut (take (firstFault (length out) text .before) text) .closed)))
     × (m .out ≡ front (records (cut (take (firstFault (length out) text .before) text) .closed)) out)
 
 -- "After a finish the output holds all the text's records, or those before the first refusal, which the state then holds."
@@ -179,3 +185,8 @@ Handing-On-Changes-Nothing =
     → (handing line small ts .last .lent .state .refusal ≡ noRoom → ⊥)
     → (run (began line large) (callsOf ts) .lent .state .refusal ≡ noRoom → ⊥)
     → Alike (handing line small ts .handed) (handing line small ts .last) (run (began line large) (callsOf ts))
+
+-- "an accepted u'' string always gives valid UTF-8": through a line, whose record has kind 1 then
+abbrev pub Unicode-Lines-Are-Utf8 : Type 0
+Unicode-Lines-Are-Utf8 =
+    (l bs : List ℕ) (n kind : ℕ) → opening (strip l) ≡ opens Unicode n → readLine l ≡ holds kind bs → (kind ≡ 1) × (validUtf8 bs ≡ true)
