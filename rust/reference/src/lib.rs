@@ -230,22 +230,6 @@ fn decode(
     }
 }
 
-/// Reads the J8 string that a text begins with, whatever follows it: its
-/// length, and the place behind its closing quote.
-pub fn read_token(text: &[u8], out: &mut [u8]) -> Result<(usize, usize), Refusal> {
-    let Some((style, start)) = opening(text) else {
-        return refuse(NO_OPENING, 0);
-    };
-    let mut count = Count(0);
-    let end = decode(text, start, style, &mut count)?;
-    if count.0 > out.len() {
-        return refuse(NO_ROOM, 0);
-    }
-    let mut sink = Fill { out, at: 0 };
-    decode(text, start, style, &mut sink)?;
-    Ok((sink.at, end))
-}
-
 /// Reads a J8 string's text into `out`.
 pub fn read(text: &[u8], out: &mut [u8]) -> Result<usize, Refusal> {
     if text.len() > TEXT_MAX {

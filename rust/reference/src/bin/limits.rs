@@ -136,9 +136,17 @@ fn told(answer: Result<usize, Refusal>, out: &[u8]) -> String {
     }
 }
 
+/// The string that a text begins with: if more stands behind it, 11 tells where it ends.
+fn token(text: &[u8], out: &mut [u8]) -> Result<(usize, usize), Refusal> {
+    match j8_reference::read(text, out) {
+        Err(Refusal { number: 11, place }) => Ok((j8_reference::read(&text[..place], out)?, place)),
+        answer => Ok((answer?, text.len())),
+    }
+}
+
 fn token_read(text: &[u8], room: usize) -> String {
     let mut out = vec![0xaa; room];
-    match j8_reference::read_token(text, &mut out) {
+    match token(text, &mut out) {
         Ok((length, end)) => format!("0,0,{length},{end} {}", runs(&out)),
         Err(refusal) => format!("{},{},0,0 {}", refusal.number, refusal.place, runs(&out)),
     }
