@@ -2,10 +2,10 @@
 use crate::outputs;
 use crate::outputs::Outcome;
 use json8::answers::Parsed;
+use json8::answers::WroteTable;
 use json8_read::read;
 use json8_show::show;
 use json8_show::show::Shown;
-use json8_write::answers::WroteTable;
 use json8_write::write;
 use messages::entries;
 use messages::messages::Message;

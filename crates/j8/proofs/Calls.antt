@@ -1,26 +1,14 @@
 -- What the upload's calls leave, as the C interface's structs and the two buffers.
 -- Assumes nothing.
-use mathlib.Core.Bool.{Bool}
 use mathlib.Core.List.{List}
-use mathlib.Core.Path.{_≡_, ap, _∙_}
 use Prim.Native.Nat.{ℕ}
+use mathlib.Core.Path.{_≡_, ap, _∙_}
 use Rattle.upload.specs.declared.uploads.Upload.{Upload}
 use Rattle.upload.specs.declared.uploads.Fed.{Fed}
 use Rattle.upload.specs.Calls.{fresh, Called, lent, called, feed, finish}
-use Rattle.j8.specs.declared.uploads.J8Upload.{J8Upload}
-use Rattle.j8.specs.declared.uploads.J8Fed.{J8Fed}
-use Rattle.j8.specs.Uploads.{isEnded, endedNumber, stateWith, stateOf, uploadWith, uploadOf, answerOf, given, fedFrom, fedOf}
-
-pub state-of : (u : J8Upload) (over : Bool) → over ≡ isEnded (u .ended) → stateWith u over ≡ stateOf u
-state-of u over e = ap (stateWith u) e
-
-pub upload-of : (s : Upload) (over : ℕ) → over ≡ endedNumber (s .ended) → uploadWith s over ≡ uploadOf s
-upload-of s over e = ap (uploadWith s) e
-
-pub fed-from :
-    (f : Fed) (v : J8Upload) → v ≡ uploadOf (f .state)
-    → _≡_ {A = J8Fed} (record { upload = v; answer = answerOf (f .answer) }) (fedFrom f)
-fed-from f v e = ap (λ (w : J8Upload). record { upload = w; answer = answerOf (f .answer) }) e
+use Rattle.structs.specs.declared.uploads.J8Upload.{J8Upload}
+use Rattle.structs.specs.declared.uploads.J8Fed.{J8Fed}
+use Rattle.structs.specs.Uploads.{stateOf, uploadOf, given, fedFrom, fedOf}
 
 pub as-fresh : (s : Upload) (r : J8Upload) → s ≡ fresh → r ≡ uploadOf s → r ≡ uploadOf fresh
 as-fresh s r e d = d ∙ ap uploadOf e

@@ -1,105 +1,17 @@
 // The upload's calls of the C interface, with its structs by value.
 ghost use mathlib.Core.Path.{_≡_};
 ghost use Rattle.upload.specs.Calls.{fresh, feed, finish};
-ghost use Rattle.j8.specs.Uploads.{isEnded, endedNumber, stateOf, uploadOf, given, fedOf, fedFrom};
-use upload::uploads::Fed;
+ghost use Rattle.structs.specs.Uploads.{uploadOf, given, fedOf};
+use structs::uploads;
+use structs::uploads::J8Fed;
+use structs::uploads::J8Upload;
 use upload::uploads::Upload;
-
-// `j8_upload` of the header.
-#[repr(C)]
-pub struct J8Upload {
-    pub taken: usize,
-    pub lfs: usize,
-    pub held: usize,
-    pub used: usize,
-    pub ended: u32,
-    pub refusal: u32,
-    pub line: usize,
-    pub place: usize,
-}
-
-// `j8_answer` of the header.
-#[repr(C)]
-pub struct J8Answer {
-    pub number: u32,
-    pub line: usize,
-    pub place: usize,
-}
-
-// `j8_fed` of the header.
-#[repr(C)]
-pub struct J8Fed {
-    pub upload: J8Upload,
-    pub answer: J8Answer,
-}
-
-fn is_ended(n: u32) -> bool
-    ensures { λ r. ⌜ r ≡ isEnded n ⌝ }
-{
-    if n == 0 {
-        return false;
-    }
-    true
-}
-
-fn ended_number(over: bool) -> u32
-    ensures { λ r. ⌜ r ≡ endedNumber over ⌝ }
-{
-    if over {
-        return 1;
-    }
-    0
-}
-
-fn state_of(u: J8Upload) -> Upload
-    ensures { λ r. ⌜ r ≡ stateOf u ⌝ }
-{
-    Upload {
-        taken: u.taken,
-        lfs: u.lfs,
-        held: u.held,
-        used: u.used,
-        ended: is_ended(u.ended),
-        refusal: u.refusal,
-        line: u.line,
-        place: u.place,
-    }
-}
-
-fn upload_of(s: Upload) -> J8Upload
-    ensures { λ r. ⌜ r ≡ uploadOf s ⌝ }
-{
-    J8Upload {
-        taken: s.taken,
-        lfs: s.lfs,
-        held: s.held,
-        used: s.used,
-        ended: ended_number(s.ended),
-        refusal: s.refusal,
-        line: s.line,
-        place: s.place,
-    }
-}
-
-fn fed_from(f: Fed) -> J8Fed
-    ensures { λ r. ⌜ r ≡ fedFrom f ⌝ }
-{
-    let answer = f.answer;
-    J8Fed {
-        upload: upload_of(f.state),
-        answer: J8Answer {
-            number: answer.number,
-            line: answer.line,
-            place: answer.place,
-        },
-    }
-}
 
 #[no_mangle]
 pub extern "C" fn j8_upload_fresh() -> J8Upload
     ensures { λ r. ⌜ r ≡ uploadOf fresh ⌝ }
 {
-    upload_of(Upload::fresh())
+    uploads::upload_of(Upload::fresh())
 }
 
 #[no_mangle]
@@ -113,9 +25,9 @@ pub extern "C" fn j8_upload_feed(
     ensures held { λ r. ⌜ now (line .exit) ≡ feed (given upload (now (line .entry)) (now (out .entry))) (now (piece .entry)) .lent .line ⌝ }
     ensures stored { λ r. ⌜ now (out .exit) ≡ feed (given upload (now (line .entry)) (now (out .entry))) (now (piece .entry)) .lent .out ⌝ }
 {
-    let s = state_of(upload);
+    let s = uploads::state_of(upload);
     let f = s.feed(piece, line, out);
-    fed_from(f)
+    uploads::fed_from(f)
 }
 
 #[no_mangle]
@@ -124,7 +36,7 @@ pub extern "C" fn j8_upload_finish(upload: J8Upload, line: &mut [u8], out: &mut 
     ensures held { λ r. ⌜ now (line .exit) ≡ finish (given upload (now (line .entry)) (now (out .entry))) .lent .line ⌝ }
     ensures stored { λ r. ⌜ now (out .exit) ≡ finish (given upload (now (line .entry)) (now (out .entry))) .lent .out ⌝ }
 {
-    let s = state_of(upload);
+    let s = uploads::state_of(upload);
     let f = s.finish(line, out);
-    fed_from(f)
+    uploads::fed_from(f)
 }

@@ -10,7 +10,7 @@ use Rattle.replay.specs.Lists.{run, began, joined, defined}
 use Rattle.replay.proofs.WholeList.{whole-list}
 use Rattle.upload_claims.specs.Claims.{Finished, firstRefusal}
 use Rattle.upload_claims.proofs.Claims.{every-list-of-calls, pieces-do-not-matter, records-after-finish}
-use Rattle.j8.specs.Uploads.{answerOf}
+use Rattle.structs.specs.Uploads.{answerOf}
 use Rattle.j8_claims.specs.Runs.{ranCall}
 use Rattle.j8_claims.specs.Claims.{Every-List-Of-C-Calls, C-Pieces-Do-Not-Matter, C-Records-After-Finish, C-Strings-Return, C-Lines-Return, C-Tables-Return}
 use Rattle.j8_claims.proofs.Lists.{run-back, answers-back, handed-back}

@@ -11,9 +11,9 @@ use Rattle.upload.specs.declared.uploads.Answer.{Answer}
 use Rattle.upload.specs.Calls.{Lent, lent, Called, feed, finish}
 use Rattle.replay.specs.Lists.{Call, feeds, finishes, call, run, began, joined, finished, defined}
 use Rattle.upload_claims.specs.Claims.{answers, definedAnswers, Finished, firstRefusal}
-use Rattle.j8.specs.declared.uploads.J8Answer.{J8Answer}
-use Rattle.j8.specs.Uploads.{stateOf, uploadOf, answerOf, given}
-use Rattle.j8.proofs.Claims.{states-return}
+use Rattle.structs.specs.declared.uploads.J8Answer.{J8Answer}
+use Rattle.structs.specs.Uploads.{stateOf, uploadOf, answerOf, given}
+use Rattle.structs.proofs.Claims.{states-return}
 use Rattle.j8_claims.specs.Runs.{RanCall, ranCall, callC, runC, beganC, answersC}
 
 -- a state handed out and in again

@@ -25,10 +25,10 @@ use Rattle.replay.specs.Lines.{cut}
 use Rattle.replay.specs.Lists.{Call, run, began, joined, finished}
 use Rattle.upload_claims.specs.Claims.{Within, EndedWith}
 use Rattle.upload_claims.proofs.Claims.{written-lines-read-back}
-use Rattle.j8.specs.declared.J8Result.{J8Result}
-use Rattle.j8.specs.Results.{done, writtenResult, linesResult}
-use Rattle.j8.specs.Tables.{nodesResult, tableResult}
-use Rattle.j8.specs.Uploads.{given}
+use Rattle.structs.specs.declared.results.J8Result.{J8Result}
+use Rattle.structs.specs.Results.{done, writtenResult, linesResult, tableResult}
+use Rattle.structs.specs.Tables.{nodesResult}
+use Rattle.structs.specs.Uploads.{given}
 use Rattle.j8_claims.specs.Runs.{stringWrite, stringRead, linesWrite, json8Write, json8Read, RanCall, runC, beganC}
 use Rattle.j8_claims.specs.Claims.{StringReturned, LinesReturned, TableReturned}
 use Rattle.j8_claims.proofs.Lists.{run-back, handed-back}

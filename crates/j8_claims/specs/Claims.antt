@@ -15,8 +15,8 @@ use Rattle.lines_write.specs.Write.{rightRecords, writeQuoted}
 use Rattle.replay.specs.Lists.{Call, began, joined, finished, defined}
 use Rattle.replay.specs.Lines.{cut, j8Lines}
 use Rattle.upload_claims.specs.Claims.{definedAnswers, Finished, firstRefusal, EndedWith, Within}
-use Rattle.j8.specs.Results.{done}
-use Rattle.j8.specs.Uploads.{answerOf, given}
+use Rattle.structs.specs.Results.{done}
+use Rattle.structs.specs.Uploads.{answerOf, given}
 use Rattle.j8_claims.specs.Runs.{Ran, stringWrite, stringRead, linesWrite, json8Write, RanNodes, json8Read, RanCall, ranCall, runC, beganC, answersC}
 
 -- Demand 3, of `j8_upload_feed` and `j8_upload_finish`: "Take any list of feeds and finishes of one J8 Lines upload, in any order, empty

@@ -11,14 +11,14 @@ use Rattle.json8_write.specs.Write.{wroteTree, treeInto}
 use Rattle.lines_write.specs.Write.{wroteLines, linesInto}
 use Rattle.upload.specs.Calls.{fresh, zeros, Called, feed, finish}
 use Rattle.replay.specs.Lists.{Call, feeds, finishes}
-use Rattle.j8.specs.declared.J8Result.{J8Result}
-use Rattle.j8.specs.declared.tables.J8Nodes.{J8Nodes}
-use Rattle.j8.specs.declared.uploads.J8Upload.{J8Upload}
-use Rattle.j8.specs.declared.uploads.J8Answer.{J8Answer}
-use Rattle.j8.specs.declared.uploads.J8Fed.{J8Fed}
-use Rattle.j8.specs.Results.{decodedResult, writtenResult, linesResult}
-use Rattle.j8.specs.Tables.{nodesResult, tableResult}
-use Rattle.j8.specs.Uploads.{uploadOf, answerOf, given, fedOf}
+use Rattle.structs.specs.declared.results.J8Result.{J8Result}
+use Rattle.structs.specs.declared.tables.J8Nodes.{J8Nodes}
+use Rattle.structs.specs.declared.uploads.J8Upload.{J8Upload}
+use Rattle.structs.specs.declared.uploads.J8Answer.{J8Answer}
+use Rattle.structs.specs.declared.uploads.J8Fed.{J8Fed}
+use Rattle.structs.specs.Results.{decodedResult, writtenResult, linesResult, tableResult}
+use Rattle.structs.specs.Tables.{nodesResult}
+use Rattle.structs.specs.Uploads.{uploadOf, answerOf, given, fedOf}
 
 -- a result, and the output
 pub record Ran : Type 0 where

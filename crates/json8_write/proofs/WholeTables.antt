@@ -18,8 +18,8 @@ use Rattle.json8_fit.specs.Fitness.{isFit}
 use Rattle.json8_fit.specs.inner.Steps.{within}
 use Rattle.json8_fit.proofs.Choices.{false-true}
 use Rattle.json8_fit.proofs.Roots.{root-count, root-is}
-use Rattle.json8_write.specs.declared.answers.WroteTable.{WroteTable}
-use Rattle.json8_write.specs.declared.answers.WroteTable.the-variants.{Wrote, Refused}
+use Rattle.json8.specs.declared.answers.WroteTable.{WroteTable}
+use Rattle.json8.specs.declared.answers.WroteTable.the-variants.{Wrote, Refused}
 use Rattle.json8_write.specs.Write.{wroteTree, treeInto}
 use Rattle.json8_write.specs.inner.Texts.{treeText, bodyText}
 use Rattle.json8_write.proofs.GroupTexts.{root-within, root-text}

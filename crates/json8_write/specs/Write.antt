@@ -10,8 +10,8 @@ use Rattle.prelude.specs.Refusals
 use Rattle.strings_write.specs.Write.{wroteInto}
 use Rattle.trees.specs.Trees.{Tree, render}
 use Rattle.trees.specs.Tables.{Maybe, just, nothing}
-use Rattle.json8_write.specs.declared.answers.WroteTable.{WroteTable}
-use Rattle.json8_write.specs.declared.answers.WroteTable.the-variants.{Wrote, Refused}
+use Rattle.json8.specs.declared.answers.WroteTable.{WroteTable}
+use Rattle.json8.specs.declared.answers.WroteTable.the-variants.{Wrote, Refused}
 
 -- the answer for what a table means, in a room
 abbrev pub wroteTree : ℕ → Maybe Tree → WroteTable

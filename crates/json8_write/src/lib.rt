@@ -1,6 +1,5 @@
 // JSON8: a node table written in the one form that reads back as the same tree.
 mod ample;
-pub mod answers;
 mod texts;
 mod values;
 pub mod write;

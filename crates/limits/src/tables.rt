@@ -6,7 +6,7 @@ use crate::nodes;
 use crate::show;
 use crate::texts;
 use json8::answers::Parsed;
-use json8_write::answers::WroteTable;
+use json8::answers::WroteTable;
 
 // A table before a call.
 fn filled() -> [u32; fields::TABLE_MAX]

@@ -1,41 +1,24 @@
--- Each answer of `write` becomes the struct, case by case (Conversions).
+-- What the layer below answers, as the struct of its case.
 -- Assumes nothing.
 use borrow.Author.Needs.{needs}
+use mathlib.Core.Path.{sym}
 use Rattle.j8.proofs.tables.j8_json8_write.Statement.{statement}
 use Rattle.j8.proofs.tables.j8_json8_write.Tie as tie
-use Rattle.j8.proofs.Conversions.{table-done, table-refused}
+use Rattle.structs.specs.Results.{tableResult}
+use Rattle.structs.proofs.Conversions.{turned}
 
 write-requires : tie.Need-write-requires
 write-requires c κs = search needs
 
-enum-known-written : tie.Need-enum-known-written
-enum-known-written c = search needs
-
-enum-known-written-2 : tie.Need-enum-known-written-2
-enum-known-written-2 c = search needs
+of-table-requires : tie.Need-of-table-requires
+of-table-requires c κs = search needs
 
 same-length : tie.Need-same-length
 same-length c = search needs
 
 returns : tie.Need-returns
-returns c =
-    (search table-done, search needs)
-
-same-length-2 : tie.Need-same-length-2
-same-length-2 c = search needs
-
-returns-2 : tie.Need-returns-2
-returns-2 c =
-    (search table-refused, search needs)
+returns c = (turned tableResult _ _ _ (sym (c .before .before .before .write .ensures .0)) (c .of-table .ensures), search needs)
 
 pub j8-json8-write-spec : {M : Type 1} → statement M
 j8-json8-write-spec =
-    tie.close
-    (tie.spec
-    write-requires
-    enum-known-written
-    enum-known-written-2
-    same-length
-    returns
-    same-length-2
-    returns-2)
+    tie.close (tie.spec write-requires of-table-requires same-length returns)

@@ -1,9 +1,9 @@
--- Seven fields as they stand, and `ended` by `isEnded` (Calls).
+-- Seven fields as they stand, and `ended` by `isEnded` (States).
 -- Assumes nothing.
 use borrow.Author.Needs.{needs}
-use Rattle.j8.proofs.uploads.state_of.Statement.{statement}
-use Rattle.j8.proofs.uploads.state_of.Tie as tie
-use Rattle.j8.proofs.Calls.{state-of}
+use Rattle.structs.proofs.uploads.state_of.Statement.{statement}
+use Rattle.structs.proofs.uploads.state_of.Tie as tie
+use Rattle.structs.proofs.States.{state-of}
 
 is-ended-requires : tie.Need-is-ended-requires
 is-ended-requires c κs = search needs

@@ -1,17 +1,12 @@
 -- JSON8's structs of include/j8.h.
 -- Assumes nothing.
-use Prim.Native.Nat.{ℕ}
 use Rattle.prelude.specs.Refusals.{unfit}
 use Rattle.json8_show.specs.declared.show.Shown.{Shown}
 use Rattle.json8_show.specs.declared.show.Shown.the-variants.{InText, InStore, Nowhere}
 use Rattle.json8.specs.declared.answers.Parsed.{Parsed}
 use Rattle.json8.specs.declared.answers.Parsed.the-variants.{Done, Refused}
-use Rattle.json8_write.specs.declared.answers.WroteTable.{WroteTable}
-use Rattle.json8_write.specs.declared.answers.WroteTable.the-variants.{Wrote, Refused as Unwritten}
-use Rattle.j8.specs.declared.J8Result.{J8Result}
-use Rattle.j8.specs.declared.tables.J8Nodes.{J8Nodes}
-use Rattle.j8.specs.declared.tables.J8Shown.{J8Shown}
-use Rattle.j8.specs.Results.{done, refusal}
+use Rattle.structs.specs.declared.tables.J8Nodes.{J8Nodes}
+use Rattle.structs.specs.declared.tables.J8Shown.{J8Shown}
 
 -- "number 0: done; place is 0, nodes is how many nodes the table holds, at least one, and stored how many bytes the store holds.
 -- Otherwise number is the refusal and place its place; nodes and stored are 0."
@@ -25,8 +20,3 @@ abbrev pub shownResult : Shown → J8Shown
 shownResult (InText place size) = record { number = 0; stored = 0; place = place; length = size }
 shownResult (InStore place size) = record { number = 0; stored = 1; place = place; length = size }
 shownResult Nowhere = record { number = unfit; stored = 0; place = 0; length = 0 }
-
--- a table written
-abbrev pub tableResult : WroteTable → J8Result
-tableResult (Wrote n) = done n
-tableResult (Unwritten number) = refusal number 0

@@ -1,10 +1,10 @@
 -- The test decides as in `endedNumber`.
 -- Assumes nothing.
-use Rattle.j8.proofs.uploads.ended_number.Statement.{statement}
-use Rattle.j8.proofs.uploads.ended_number.Tie as tie
+use Rattle.structs.proofs.uploads.ended_number.Statement.{statement}
+use Rattle.structs.proofs.uploads.ended_number.Tie as tie
 use borrow.Author.Needs.{needs}
 use Rattle.prelude.specs.Pick.{pick}
-use Rattle.j8.specs.Uploads.{endedNumber}
+use Rattle.structs.specs.Uploads.{endedNumber}
 
 returns : tie.Need-returns
 unfolding endedNumber pick

@@ -1,9 +1,9 @@
--- Seven fields as they stand, and `ended` by `endedNumber` (Calls).
+-- Seven fields as they stand, and `ended` by `endedNumber` (States).
 -- Assumes nothing.
 use borrow.Author.Needs.{needs}
-use Rattle.j8.proofs.uploads.upload_of.Statement.{statement}
-use Rattle.j8.proofs.uploads.upload_of.Tie as tie
-use Rattle.j8.proofs.Calls.{upload-of}
+use Rattle.structs.proofs.uploads.upload_of.Statement.{statement}
+use Rattle.structs.proofs.uploads.upload_of.Tie as tie
+use Rattle.structs.proofs.States.{upload-of}
 
 ended-number-requires : tie.Need-ended-number-requires
 ended-number-requires c κs = search needs

@@ -13,14 +13,14 @@ use Rattle.lines_write.specs.declared.write.WroteLines.the-variants as lines
 use Rattle.json8.specs.declared.answers.Parsed.{Parsed}
 use Rattle.json8.specs.declared.answers.Parsed.the-variants as parsed
 use Rattle.json8_show.specs.declared.show.Shown.{Shown}
-use Rattle.json8_write.specs.declared.answers.WroteTable.{WroteTable}
-use Rattle.json8_write.specs.declared.answers.WroteTable.the-variants as tables
+use Rattle.json8.specs.declared.answers.WroteTable.{WroteTable}
+use Rattle.json8.specs.declared.answers.WroteTable.the-variants as tables
 use Rattle.upload.specs.declared.uploads.Upload.{Upload}
 use Rattle.upload.specs.declared.uploads.Fed.{Fed}
-use Rattle.j8.specs.declared.uploads.J8Upload.{J8Upload}
-use Rattle.j8.specs.Results.{decodedResult, writtenResult, linesResult}
-use Rattle.j8.specs.Uploads.{stateOf, uploadWith, uploadOf, fedFrom}
-use Rattle.j8.specs.Tables.{nodesResult, shownResult, tableResult}
+use Rattle.structs.specs.declared.uploads.J8Upload.{J8Upload}
+use Rattle.structs.specs.Results.{decodedResult, writtenResult, linesResult, tableResult}
+use Rattle.structs.specs.Uploads.{stateOf, uploadWith, uploadOf, fedFrom}
+use Rattle.structs.specs.Tables.{nodesResult, shownResult}
 
 -- a state that goes out as a struct comes back as it was
 abbrev pub States-Return : Type 0

@@ -8,7 +8,9 @@ use Rattle.strings_write.specs.declared.answers.Written.{Written}
 use Rattle.strings_write.specs.declared.answers.Written.the-variants as texts
 use Rattle.lines_write.specs.declared.write.WroteLines.{WroteLines}
 use Rattle.lines_write.specs.declared.write.WroteLines.the-variants as lines
-use Rattle.j8.specs.declared.J8Result.{J8Result}
+use Rattle.json8.specs.declared.answers.WroteTable.{WroteTable}
+use Rattle.json8.specs.declared.answers.WroteTable.the-variants as tables
+use Rattle.structs.specs.declared.results.J8Result.{J8Result}
 
 abbrev pub done : ℕ → J8Result
 done n = record { number = 0; place = 0; length = n }
@@ -30,3 +32,8 @@ writtenResult (texts.Full number) = refusal number 0
 abbrev pub linesResult : WroteLines → J8Result
 linesResult (lines.Wrote n) = done n
 linesResult (lines.Refused number) = refusal number 0
+
+-- a table written
+abbrev pub tableResult : WroteTable → J8Result
+tableResult (tables.Wrote n) = done n
+tableResult (tables.Refused number) = refusal number 0

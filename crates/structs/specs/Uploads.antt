@@ -9,9 +9,9 @@ use Rattle.upload.specs.declared.uploads.Upload.{Upload}
 use Rattle.upload.specs.declared.uploads.Answer.{Answer}
 use Rattle.upload.specs.declared.uploads.Fed.{Fed}
 use Rattle.upload.specs.Calls.{Lent, Called}
-use Rattle.j8.specs.declared.uploads.J8Upload.{J8Upload}
-use Rattle.j8.specs.declared.uploads.J8Answer.{J8Answer}
-use Rattle.j8.specs.declared.uploads.J8Fed.{J8Fed}
+use Rattle.structs.specs.declared.uploads.J8Upload.{J8Upload}
+use Rattle.structs.specs.declared.uploads.J8Answer.{J8Answer}
+use Rattle.structs.specs.declared.uploads.J8Fed.{J8Fed}
 
 -- "a call takes all but 0 as 1"
 unfoldable pub isEnded : ℕ → Bool

@@ -19,20 +19,20 @@ use Rattle.json8.specs.declared.answers.Parsed.{Parsed}
 use Rattle.json8.specs.declared.answers.Parsed.the-variants as parsed
 use Rattle.json8_show.specs.declared.show.Shown.{Shown}
 use Rattle.json8_show.specs.declared.show.Shown.the-variants.{InText, InStore, Nowhere}
-use Rattle.json8_write.specs.declared.answers.WroteTable.{WroteTable}
-use Rattle.json8_write.specs.declared.answers.WroteTable.the-variants as tables
+use Rattle.json8.specs.declared.answers.WroteTable.{WroteTable}
+use Rattle.json8.specs.declared.answers.WroteTable.the-variants as tables
 use Rattle.upload.specs.declared.uploads.Upload.{Upload}
 use Rattle.upload.specs.declared.uploads.Answer.{Answer}
 use Rattle.upload.specs.declared.uploads.Fed.{Fed}
-use Rattle.j8.specs.declared.J8Result.{J8Result}
-use Rattle.j8.specs.declared.tables.J8Nodes.{J8Nodes}
-use Rattle.j8.specs.declared.tables.J8Shown.{J8Shown}
-use Rattle.j8.specs.declared.uploads.J8Upload.{J8Upload}
-use Rattle.j8.specs.declared.uploads.J8Fed.{J8Fed}
-use Rattle.j8.specs.Results.{decodedResult, writtenResult, linesResult}
-use Rattle.j8.specs.Uploads.{isEnded, endedNumber, stateWith, stateOf, uploadWith, uploadOf, answerOf, fedFrom}
-use Rattle.j8.specs.Tables.{nodesResult, shownResult, tableResult}
-use Rattle.j8.specs.Claims.{States-Return, Structs-Return, Fed-Tells-All, DecodedNumbered, WrittenNumbered, LinesNumbered, NodesNumbered, TableNumbered, Results-Tell-All}
+use Rattle.structs.specs.declared.results.J8Result.{J8Result}
+use Rattle.structs.specs.declared.tables.J8Nodes.{J8Nodes}
+use Rattle.structs.specs.declared.tables.J8Shown.{J8Shown}
+use Rattle.structs.specs.declared.uploads.J8Upload.{J8Upload}
+use Rattle.structs.specs.declared.uploads.J8Fed.{J8Fed}
+use Rattle.structs.specs.Results.{decodedResult, writtenResult, linesResult, tableResult}
+use Rattle.structs.specs.Uploads.{isEnded, endedNumber, stateWith, stateOf, uploadWith, uploadOf, answerOf, fedFrom}
+use Rattle.structs.specs.Tables.{nodesResult, shownResult}
+use Rattle.structs.specs.Claims.{States-Return, Structs-Return, Fed-Tells-All, DecodedNumbered, WrittenNumbered, LinesNumbered, NodesNumbered, TableNumbered, Results-Tell-All}
 
 -- whether an upload is ended, there and back
 over-back : (b : Bool) → isEnded (endedNumber b) ≡ b

@@ -1,9 +1,9 @@
 -- The test decides as in `isEnded`.
 -- Assumes nothing.
-use Rattle.j8.proofs.uploads.is_ended.Statement.{statement}
-use Rattle.j8.proofs.uploads.is_ended.Tie as tie
+use Rattle.structs.proofs.uploads.is_ended.Statement.{statement}
+use Rattle.structs.proofs.uploads.is_ended.Tie as tie
 use Rattle.prelude.proofs.Picks.{picks}
-use Rattle.j8.specs.Uploads.{isEnded}
+use Rattle.structs.specs.Uploads.{isEnded}
 
 returns : tie.Need-returns
 unfolding isEnded

@@ -1,9 +1,9 @@
--- The state by `upload_of`, and the answer's fields as they stand (Calls).
+-- The state by `upload_of`, and the answer's fields as they stand (States).
 -- Assumes nothing.
 use borrow.Author.Needs.{needs}
-use Rattle.j8.proofs.uploads.fed_from.Statement.{statement}
-use Rattle.j8.proofs.uploads.fed_from.Tie as tie
-use Rattle.j8.proofs.Calls.{fed-from}
+use Rattle.structs.proofs.uploads.fed_from.Statement.{statement}
+use Rattle.structs.proofs.uploads.fed_from.Tie as tie
+use Rattle.structs.proofs.States.{fed-from}
 
 upload-of-requires : tie.Need-upload-of-requires
 upload-of-requires c κs = search needs
