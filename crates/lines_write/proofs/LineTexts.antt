@@ -21,7 +21,7 @@ use Rattle.utf8.specs.Utf8.{validUtf8}
 use Rattle.units.specs.declared.styles.Form.the-variants.{AsJson, AsBytes}
 use Rattle.strings_write.specs.Write.{writeString}
 use Rattle.strings_write.specs.inner.Passes.{Passed}
-use Rattle.strings_write.proofs.Writing.{quoted-positive}
+use Rattle.strings_write.proofs.Writing.{quoted-positive, stored-whole}
 use Rattle.lines_write.specs.declared.write.WroteLines.{WroteLines}
 use Rattle.lines_write.specs.declared.write.WroteLines.the-variants.{Wrote, Refused}
 use Rattle.lines.specs.Line.{kindOf}
@@ -179,7 +179,7 @@ module _ (s : List ℕ) (at n room o : ℕ) (h : at ≤ length s) (en : n ≡ si
       line-put out2 f g w =
           let a : length (lineAt (drop at s)) ≡ m + 1 = omega (arith, line-length, size-is) in
           let k : putMid b (length out - b) out new ≡ sets out o (writeString payload) =
-          ap (putMid b (length out - b) out) (p .stored fits) ∙ sets-part out (writeString payload) o b f g in
+          ap (putMid b (length out - b) out) (stored-whole p fits) ∙ sets-part out (writeString payload) o b f g in
           record {
             answer = rw (le-leb (length (lineAt (drop at s))) (room - o) (omega (arith, line-inside))) (sym a);
             stored = λ z. w ∙ ap (λ (x : List ℕ). set x (o + m) LF) k

@@ -19,7 +19,7 @@ use Rattle.utf8.specs.Utf8.{validUtf8}
 use Rattle.units.specs.declared.styles.Form.the-variants.{AsJson, AsBytes}
 use Rattle.strings_write.specs.Write.{quoted, writeString}
 use Rattle.strings_write.specs.inner.Passes.{Passed}
-use Rattle.strings_write.proofs.Writing.{quoted-positive}
+use Rattle.strings_write.proofs.Writing.{quoted-positive, stored-whole}
 use Rattle.rooms.specs.inner.Puts.{Put}
 
 -- nothing can be put past the room
@@ -95,4 +95,4 @@ module _ (s out : List ℕ) (room o b m : ℕ) (part : List ℕ) (h : o ≤ room
     pub string-put : (o ≤ length out → b ≡ o) → (length out ≤ o → b ≡ length out)
         → Put (writeString s) room o (o + m) out (putMid b (length out - b) out part)
     string-put f g = put-done (omega (arith, string-fits .0)) (omega (arith, string-fits .1))
-        (ap (putMid b (length out - b) out) (p .stored (string-fits .0)) ∙ sets-part out (writeString s) o b f g)
+        (ap (putMid b (length out - b) out) (stored-whole p (string-fits .0)) ∙ sets-part out (writeString s) o b f g)
