@@ -24,7 +24,7 @@ fn bytes_held(table: &[u32], i: usize) -> usize
 }
 
 // Room for the text of the first n nodes.
-pub fn room_of(table: &[u32], n: usize) -> usize
+pub(crate) fn room_of(table: &[u32], n: usize) -> usize
     requires { ⌜ (n ≤ nodeMax) × (n ≤ length (now table) / 4) ⌝ }
     ensures { λ r. ⌜ r ≡ roomOf n (nodesIn (now (table .entry))) ⌝ }
 {

@@ -1,4 +1,4 @@
-// JSON8's own words and marks, put at a place as far as the buffer reaches.
+// JSON8's own words and marks, put at a place as far as room and buffer reach.
 ghost use mathlib.Core.List.{[], _∷_};
 ghost use Prim.Native.Nat.{_≤_};
 ghost use Rattle.rooms.specs.inner.Puts.{roomMax, Put};
@@ -31,7 +31,7 @@ fn put_true(room: usize, o: usize, out: &mut [u8]) -> usize
 }
 
 // The word of a kind, 0 to 2.
-pub fn put_word(kind: u32, room: usize, o: usize, out: &mut [u8]) -> usize
+pub(crate) fn put_word(kind: u32, room: usize, o: usize, out: &mut [u8]) -> usize
     requires { ⌜ room ≤ roomMax ⌝ }
     ensures { λ r. ⌜ Put (render (wordOf kind)) room o r (now (out .entry)) (now (out .exit)) ⌝ }
 {
@@ -45,7 +45,7 @@ pub fn put_word(kind: u32, room: usize, o: usize, out: &mut [u8]) -> usize
 }
 
 // The comma before a member that isn't the first.
-pub fn put_comma(first: bool, room: usize, o: usize, out: &mut [u8]) -> usize
+pub(crate) fn put_comma(first: bool, room: usize, o: usize, out: &mut [u8]) -> usize
     requires { ⌜ room ≤ roomMax ⌝ }
     ensures { λ r. ⌜ Put (comma first) room o r (now (out .entry)) (now (out .exit)) ⌝ }
 {
@@ -55,7 +55,7 @@ pub fn put_comma(first: bool, room: usize, o: usize, out: &mut [u8]) -> usize
     parts::put_byte(b',', room, o, out)
 }
 
-pub fn put_open(sort: Sort, room: usize, o: usize, out: &mut [u8]) -> usize
+pub(crate) fn put_open(sort: Sort, room: usize, o: usize, out: &mut [u8]) -> usize
     requires { ⌜ room ≤ roomMax ⌝ }
     ensures { λ r. ⌜ Put (openOf sort ∷ []) room o r (now (out .entry)) (now (out .exit)) ⌝ }
 {
@@ -65,7 +65,7 @@ pub fn put_open(sort: Sort, room: usize, o: usize, out: &mut [u8]) -> usize
     }
 }
 
-pub fn put_close(sort: Sort, room: usize, o: usize, out: &mut [u8]) -> usize
+pub(crate) fn put_close(sort: Sort, room: usize, o: usize, out: &mut [u8]) -> usize
     requires { ⌜ room ≤ roomMax ⌝ }
     ensures { λ r. ⌜ Put (closeOf sort ∷ []) room o r (now (out .entry)) (now (out .exit)) ⌝ }
 {

@@ -203,7 +203,7 @@ fn group_text(
 }
 
 // So many members from node i on, which fill w nodes. A table is written as its one root, so that only groups call this again.
-pub fn members_text(
+pub(crate) fn members_text(
     t: &[u8; 256],
     table: &[u32],
     text: &[u8],

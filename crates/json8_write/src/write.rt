@@ -19,7 +19,7 @@ use prelude::limits::DEPTH_MAX;
 use prelude::refusals;
 use utf8::classes;
 
-// One pass over a fit table: the text of its root is put as far as the buffer reaches.
+// One pass over a fit table: the text of its root is put as far as room and buffer reach.
 fn pass(
     t: &[u8; 256],
     table: &[u32],

@@ -1,17 +1,16 @@
 // The Lines writer.
 ghost use mathlib.Core.Bool.{true};
 ghost use mathlib.Core.Path.{_≡_};
-ghost use Prim.Native.Nat.{_+_, _*_, _-_, _<_, _≤_};
+ghost use Prim.Native.Nat.{_+_, _*_, _≤_};
 ghost use lib.ListN.{length, getD, drop};
 ghost use Rattle.utf8.specs.Class.{IsTable};
-ghost use Rattle.prelude.specs.Refusals.{noRoom};
-ghost use Rattle.lines_write.specs.declared.write.WroteLines.the-variants.{Wrote, Refused};
+ghost use Rattle.rooms.specs.inner.Puts.{roomMax, Put};
 ghost use Rattle.lines_write.specs.Write.{rightRecord, rightRecords, lineAt, linesFrom, wroteLines, linesInto};
-ghost use Rattle.lines_write.specs.inner.Passes.{Placed};
 use lines::read;
 use lines::records::HEAD;
 use prelude::refusals;
 use prelude::slices;
+use rooms::parts;
 use utf8::classes;
 
 // The text's length, or the number of the refusal, which stands at 0.
@@ -59,48 +58,33 @@ fn right_records(t: &[u8; 256], s: &[u8]) -> bool
     true
 }
 
-// The line of a right record, put at o as far as the buffer reaches: its length, or 0 where it passes the room.
+// The line of a right record.
 fn put_line(t: &[u8; 256], s: &[u8], at: usize, room: usize, o: usize, out: &mut [u8]) -> usize
-    requires { ⌜ IsTable (now t) × (at ≤ length (now s)) × (rightRecord (drop at (now s)) ≡ true) × (o ≤ room) ⌝ }
-    ensures { λ r. ⌜ Placed (λ n. n) 0 (lineAt (drop at (now (s .entry)))) (room - o) o r (now (out .entry)) (now (out .exit)) ⌝ }
+    requires { ⌜ IsTable (now t) × (at ≤ length (now s)) × (rightRecord (drop at (now s)) ≡ true) × (room ≤ roomMax) ⌝ }
+    ensures { λ r. ⌜ Put (lineAt (drop at (now (s .entry)))) room o r (now (out .entry)) (now (out .exit)) ⌝ }
 {
-    if room - o == 0 {
-        return 0;
-    }
     let n = number_at(s, at, 0);
     let valid = number_at(s, at, 2) == 1;
     let from = at + HEAD;
-    let b = slices::least(o, out.len());
-    let m = strings_write::write::write_part(
-        t,
-        valid,
-        &s[from..from + n],
-        room - o - 1,
-        &mut out[b..],
-    );
-    if m == 0 {
-        return 0;
-    }
-    slices::put(b'\n', o + m, out);
-    m + 1
+    let p = parts::put_part(t, valid, &s[from..from + n], room, o, out);
+    parts::put_byte(b'\n', room, p, out)
 }
 
-// The lines of right records, as far as the buffer reaches. The count stops at the room, so it can't run over.
-fn pass(t: &[u8; 256], s: &[u8], room: usize, out: &mut [u8]) -> WroteLines
-    requires { ⌜ IsTable (now t) × (rightRecords 0 (now s) ≡ true) ⌝ }
-    ensures { λ r. ⌜ Placed Wrote (Refused noRoom) (linesFrom 0 (now (s .entry))) room 0 r (now (out .entry)) (now (out .exit)) ⌝ }
+// The lines of right records. The first that passes the room is the last that is put.
+fn pass(t: &[u8; 256], s: &[u8], room: usize, out: &mut [u8]) -> usize
+    requires { ⌜ IsTable (now t) × (rightRecords 0 (now s) ≡ true) × (room ≤ roomMax) ⌝ }
+    ensures { λ r. ⌜ Put (linesFrom 0 (now (s .entry))) room 0 r (now (out .entry)) (now (out .exit)) ⌝ }
 {
     let mut at = 0;
     let mut o: usize = 0;
     while at < s.len() {
-        let m = put_line(t, s, at, room, o, out);
-        if m == 0 {
-            return WroteLines::Refused(refusals::NO_ROOM);
+        o = put_line(t, s, at, room, o, out);
+        if room < o {
+            return o;
         }
-        o += m;
         at += HEAD + number_at(s, at, 0);
     }
-    WroteLines::Wrote(o)
+    o
 }
 
 // Writes the strings of records, each quoted and with an LF behind it: the text in front of out, or a refusal and out as it was.
@@ -114,12 +98,10 @@ pub fn write(records: &[u8], out: &mut [u8]) -> WroteLines
         return WroteLines::Refused(refusals::UNFIT);
     }
     let room = out.len();
-    let judged = pass(&t, records, room, &mut out[..0]);
-    match judged {
-        WroteLines::Wrote(n) => {
-            pass(&t, records, room, out);
-            WroteLines::Wrote(n)
-        }
-        WroteLines::Refused(number) => WroteLines::Refused(number),
+    let n = pass(&t, records, room, &mut out[..0]);
+    if room < n {
+        return WroteLines::Refused(refusals::NO_ROOM);
     }
+    pass(&t, records, room, out);
+    WroteLines::Wrote(n)
 }

@@ -13,7 +13,7 @@ use rooms::parts;
 use strings_write::answers::Written;
 use utf8::classes;
 
-// An entry, as far as the buffer reaches.
+// An entry, as far as room and buffer reach.
 fn put_entry(t: &[u8; 256], n: usize, s: &[u8], room: usize, out: &mut [u8]) -> usize
     requires { ⌜ IsTable (now t) × (room ≤ roomMax) ⌝ }
     ensures { λ r. ⌜ Put (entryText n (now (s .entry))) room 0 r (now (out .entry)) (now (out .exit)) ⌝ }

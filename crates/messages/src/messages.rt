@@ -129,7 +129,7 @@ fn put_length(n: usize, room: usize, out: &mut [u8]) -> usize
     )
 }
 
-// A message's line, as far as the buffer reaches.
+// A message's line, as far as room and buffer reach.
 fn put_message(m: Message, room: usize, out: &mut [u8]) -> usize
     requires { ⌜ room ≤ roomMax ⌝ }
     ensures { λ r. ⌜ Put (messageText m) room 0 r (now (out .entry)) (now (out .exit)) ⌝ }

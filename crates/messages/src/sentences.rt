@@ -53,7 +53,7 @@ fn put_line(s: &[u8], n: usize, room: usize, o: usize, out: &mut [u8]) -> usize
 }
 
 // A line for each number, from 1; the first is that of all others.
-pub fn put_sentence(number: u32, room: usize, o: usize, out: &mut [u8]) -> usize
+pub(crate) fn put_sentence(number: u32, room: usize, o: usize, out: &mut [u8]) -> usize
     requires { ⌜ room ≤ roomMax ⌝ }
     ensures { λ r. ⌜ Put (sentence number) room o r (now (out .entry)) (now (out .exit)) ⌝ }
 {

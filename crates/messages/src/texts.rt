@@ -1,10 +1,10 @@
-// Numbers, put at a place as far as the buffer reaches.
+// Numbers, put at a place as far as room and buffer reach.
 ghost use Prim.Native.Nat.{_≤_};
 ghost use Rattle.rooms.specs.inner.Puts.{roomMax, Put};
 ghost use Rattle.messages.specs.Texts.{decimal};
 use rooms::parts;
 
-pub fn put_decimal(n: usize, room: usize, o: usize, out: &mut [u8]) -> usize
+pub(crate) fn put_decimal(n: usize, room: usize, o: usize, out: &mut [u8]) -> usize
     requires { ⌜ room ≤ roomMax ⌝ }
     ensures { λ r. ⌜ Put (decimal n) room o r (now (out .entry)) (now (out .exit)) ⌝ }
 {

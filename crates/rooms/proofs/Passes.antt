@@ -17,6 +17,7 @@ use Rattle.prelude.proofs.Stores.{sets-over, empty-front}
 use Rattle.prelude.specs.Pick.{pick}
 use Rattle.strings_write.specs.Write.{wroteInto}
 use Rattle.rooms.specs.inner.Puts.{Put}
+use Rattle.rooms.proofs.Puts.{fits, over}
 
 module _ {A : Type 0} (done : ℕ → A) (full : A) (t out : List ℕ) where
   -- what writing answers and leaves
@@ -36,7 +37,7 @@ module _ {A : Type 0} (done : ℕ → A) (full : A) (t out : List ℕ) where
       (ap done e ∙ sym (pick-true _ _ _ f), w ∙ sets-over t out h ∙ sym (pick-true _ _ _ f))
 
   pub one-pass : {n : ℕ} {new : List ℕ} → length t ≤ length out → Put t (length out) 0 n out new → Whole (done n) new
-  one-pass {n} {new} h p = stored n new h (p .fits (omega arith) .0 ∙ zero-add _) (p .fits (omega arith) .1)
+  one-pass {n} {new} h p = stored n new h (fits p (omega arith) .0 ∙ zero-add _) (fits p (omega arith) .1)
 
   -- a pass over the empty part `l` of the buffer tells whether the text fits
   module _ (l : List ℕ) (z : length l ≡ 0) {l₀ : List ℕ} {n : ℕ} (p : Put t (length out) 0 n l₀ l) where
@@ -47,7 +48,7 @@ module _ {A : Type 0} (done : ℕ → A) (full : A) (t out : List ℕ) where
     too-long h =
         let g : length out < length t =
         split (leb (length t) (length out))
-        (λ e. let k : length t ≤ length out = leb-true (length t) (length out) e in absurd (omega (arith, p .fits (omega arith) .0)))
+        (λ e. let k : length t ≤ length out = leb-true (length t) (length out) e in absurd (omega (arith, fits p (omega arith) .0)))
         (λ e. leb-false (length t) (length out) e) in
         (left g .0, same ∙ left g .1)
 
@@ -56,5 +57,5 @@ module _ {A : Type 0} (done : ℕ → A) (full : A) (t out : List ℕ) where
         let g : length t ≤ length out =
         split (leb (length t) (length out))
         (λ e. leb-true (length t) (length out) e)
-        (λ e. absurd (omega (arith, p .over (omega (arith, leb-false (length t) (length out) e))))) in
-        stored n new g (p .fits (omega arith) .0 ∙ zero-add _) (u .fits (omega arith) .1 ∙ ap (λ (k : List ℕ). sets k 0 t) same)
+        (λ e. absurd (omega (arith, over p (omega (arith, leb-false (length t) (length out) e))))) in
+        stored n new g (fits p (omega arith) .0 ∙ zero-add _) (fits u (omega arith) .1 ∙ ap (λ (k : List ℕ). sets k 0 t) same)

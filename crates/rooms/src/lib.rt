@@ -1,2 +1,2 @@
-// Parts of a text, put at a place of a room as far as the buffer reaches.
+// Parts of a text, put at a place as far as room and buffer reach.
 pub mod parts;

@@ -6,7 +6,7 @@ use mathlib.Core.List.{List, [], _∷_, _++_, append-assoc}
 use Prim.Native.Nat.{ℕ, _+_, _-_, _*_, _≤_}
 use native.Mathlib.Omega.{arith}
 use lib.ListN.{length, take, drop, set, length-append, length-drop, drop-of-length-le}
-use lib.Seq.{sets, take-add, take-length, drop-drop, length-take-le}
+use lib.Seq.{sets, take-add, take-all, take-length, drop-drop, length-take-le}
 use Rattle.prelude.specs.Bytes.{doubleQuote}
 use Rattle.prelude.proofs.Stores.{sets-append}
 use Rattle.utf8.specs.Utf8.{validFrom, validUtf8}
@@ -19,11 +19,11 @@ use Rattle.units.proofs.LiteralLaws.{run-fits, run-valid}
 use Rattle.strings_write.specs.Write.{writeUnits, quoted, writeString}
 use Rattle.strings_write.specs.inner.Passes.{Passed}
 use Rattle.bytewise.specs.inner.Bytewise.{bytesText, textOf, Texted, Fronted}
-use Rattle.strings_write.proofs.WriteLengths.{quoted-length, quoted-least}
+use Rattle.strings_write.proofs.WriteLengths.{quoted-length, quoted-least, write-length}
 use Rattle.strings_write.proofs.WriteSteps.{write-run}
 use Rattle.bytewise.proofs.Fronts.{sets-again}
 use Rattle.strings_write.proofs.ValidTexts.{bytewise}
-use Rattle.strings_write.proofs.Writing.{valid-text, other-text, finished, literal-part}
+use Rattle.strings_write.proofs.Writing.{valid-text, other-text, finished, stored-whole, literal-part}
 
 module _ (s : List ℕ) (at : ℕ) (k : Running Json s 0 at) where
   abbrev run : ℕ
@@ -90,10 +90,13 @@ module _ (s o : List ℕ) (at room : ℕ) (out : List ℕ) (f : Fronted s o at o
         rw (valid-text s (valid-from s at (f .run) ∙ sym v)) (finished (omega (arith, quoted-length AsJson s)) l p)
 
   -- any other data: its text covers the front
-  pub other-text-over : (r : ℕ) (new : List ℕ) → false ≡ validUtf8 (drop at s) → Passed (quoted AsBytes s) room r out new → Passed (writeString s) room r o new
-  other-text-over r new v p =
+  pub other-text-over : (r : ℕ) (new : List ℕ) → 6 * length s + 2 ≤ room → false ≡ validUtf8 (drop at s) → Passed (quoted AsBytes s) room r out new → Passed (writeString s) room r o new
+  other-text-over r new h v p =
       let n : length (doubleQuote ∷ take at s) ≤ length (quoted AsBytes s) = omega (arith, length-take-le at s (f .run .inside), quoted-least AsBytes s, f .run .inside) in
-      rw (other-text s (valid-from s at (f .run) ∙ sym v)) (record {
+      let e : writeString s ≡ quoted AsBytes s = other-text s (valid-from s at (f .run) ∙ sym v) in
+      let l : length (quoted AsBytes s) ≤ room = omega (arith, write-length s, ap length e) in
+      rw e (record {
         answer = p .answer;
-        stored = λ h. p .stored h ∙ ap (λ (x : List ℕ). sets x 0 (quoted AsBytes s)) (f .stored) ∙ sets-again (doubleQuote ∷ take at s) (quoted AsBytes s) o 0 n;
+        stored = stored-whole p l ∙ ap (λ (x : List ℕ). sets x 0 (quoted AsBytes s)) (f .stored) ∙ sets-again (doubleQuote ∷ take at s) (quoted AsBytes s) o 0 n
+            ∙ ap (sets o 0) (sym (take-all room (quoted AsBytes s) l));
       })

@@ -2,8 +2,8 @@
 ghost use mathlib.Core.Bool.{true};
 ghost use mathlib.Core.List.{List};
 ghost use mathlib.Core.Path.{_≡_};
-ghost use Prim.Native.Nat.{ℕ, _+_, _*_, _≤_};
-ghost use lib.ListN.{length, drop};
+ghost use Prim.Native.Nat.{ℕ, _+_, _*_, _≤_, _<_};
+ghost use lib.ListN.{length, take, drop};
 ghost use lib.Seq.{sets};
 ghost use Rattle.utf8.specs.Class.{IsTable};
 ghost use Rattle.utf8.specs.Utf8.{validUtf8};
@@ -45,10 +45,11 @@ fn put_mark(form: Form, out: &mut [u8]) -> usize
     }
 }
 
-// Writes the data in a form, as far as the buffer reaches: the text's length, or 0 as soon as it passes the room.
-// Every text has two bytes, so 0 is no length; and the count stops at the room, so it can't run over.
+// Writes the data in a form into a buffer that isn't longer than the room: the text's length, or 0 as soon as it passes the room.
+// Every text has two bytes, so 0 is no length; and the count stops at the room, so it can't run over. What passes the room is stored as far
+// as the buffer reaches before the count stops.
 fn pass(t: &[u8; 256], form: Form, s: &[u8], room: usize, out: &mut [u8]) -> usize
-    requires { ⌜ IsTable (now t) ⌝ }
+    requires { ⌜ IsTable (now t) × (length (now out) ≤ room) ⌝ }
     ensures { λ r. ⌜ Passed (quoted form (now (s .entry))) room r (now (out .entry)) (now (out .exit)) ⌝ }
 {
     let style = styles::style_of(form);
@@ -64,18 +65,18 @@ fn pass(t: &[u8; 256], form: Form, s: &[u8], room: usize, out: &mut [u8]) -> usi
         if e == at {
             let x = s[at];
             let m = written::escape_len(form, x);
+            written::put_escape(form, x, o, out);
             if cap - o < m {
                 return 0;
             }
-            written::put_escape(form, x, o, out);
             o += m;
             at += 1;
         } else {
             let n = e - at;
+            slices::copy_run(s, at, n, o, out);
             if cap - o < n {
                 return 0;
             }
-            slices::copy_run(s, at, n, o, out);
             o += n;
             at = e;
         }
@@ -84,24 +85,46 @@ fn pass(t: &[u8; 256], form: Form, s: &[u8], room: usize, out: &mut [u8]) -> usi
     o + 1
 }
 
+// The same in any buffer: the part that lies in the room is lent.
+fn write_form(t: &[u8; 256], form: Form, s: &[u8], room: usize, out: &mut [u8]) -> usize
+    requires { ⌜ IsTable (now t) ⌝ }
+    ensures { λ r. ⌜ Passed (quoted form (now (s .entry))) room r (now (out .entry)) (now (out .exit)) ⌝ }
+{
+    let n = slices::least(room, out.len());
+    pass(t, form, s, room, &mut out[..n])
+}
+
 // The same in the form that the data takes, by whether it is valid UTF-8.
 pub fn write_part(t: &[u8; 256], valid: bool, s: &[u8], room: usize, out: &mut [u8]) -> usize
     requires { ⌜ IsTable (now t) × (valid ≡ validUtf8 (now s)) ⌝ }
     ensures { λ r. ⌜ Passed (writeString (now (s .entry))) room r (now (out .entry)) (now (out .exit)) ⌝ }
 {
     if valid {
-        return pass(t, Form::AsJson, s, room, out);
+        return write_form(t, Form::AsJson, s, room, out);
     }
-    pass(t, Form::AsBytes, s, room, out)
+    write_form(t, Form::AsBytes, s, room, out)
 }
 
-// The text of data that is one run of literal characters: its length, or 0 where it passes the room.
+// The front of the text of data that is one run of literal characters, where the text passes the room.
+fn literal_front(s: &[u8], room: usize, out: &mut [u8])
+    requires { ⌜ (literalRun Json 0 (now s) ≡ length (now s)) × (room < length (now s) + 2) ⌝ }
+    ensures { λ r. ⌜ now (out .exit) ≡ sets (now (out .entry)) 0 (take room (writeString (now (s .entry)))) ⌝ }
+{
+    if room == 0 {
+        return;
+    }
+    slices::put(b'"', 0, out);
+    slices::copy_run(s, 0, room - 1, 1, out);
+}
+
+// The text of such data: its length, or 0 where it passes the room.
 fn literal_part(s: &[u8], room: usize, out: &mut [u8]) -> usize
     requires { ⌜ literalRun Json 0 (now s) ≡ length (now s) ⌝ }
     ensures { λ r. ⌜ Passed (writeString (now (s .entry))) room r (now (out .entry)) (now (out .exit)) ⌝ }
 {
     let size = s.len();
     if room < size + 2 {
+        literal_front(s, room, out);
         return 0;
     }
     slices::put(b'"', 0, out);
@@ -179,7 +202,7 @@ fn write_behind(t: &[u8; 256], s: &[u8], at: usize, room: usize, out: &mut [u8])
         out[o] = b'"';
         return o + 1;
     }
-    pass(t, Form::AsBytes, s, room, out)
+    write_form(t, Form::AsBytes, s, room, out)
 }
 
 // The same for any data. In an ample room what stands as it is is stored as it is tested, and nothing is measured.

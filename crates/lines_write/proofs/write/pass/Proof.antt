@@ -1,10 +1,10 @@
--- The invariant `Filling`: what is written, and then the lines of the records left, is the text (LineTexts).
+-- The invariant `Filling`: what is put, and then the lines of the records left, is the text (LineTexts).
 -- Assumes nothing.
 use Rattle.lines_write.proofs.write.pass.Statement.{statement}
 use Rattle.lines_write.proofs.write.pass.Tie as tie
 use Prim.Native.Nat.{_-_}
 use native.Mathlib.Omega.{arith}
-use mathlib.Core.Path.{refl, _∙_}
+use mathlib.Core.Path.{_∙_}
 use lib.ListN.{length}
 use Rattle.lines_write.proofs.LineTexts.{Filling, begun, kept, here-right, overfull, moved, filled}
 
@@ -22,7 +22,7 @@ loop-holds c =
 
 put-line-requires : tie.Need-put-line-requires Inv-loop μ-loop
 put-line-requires c κs =
-    (c .before .before .before .before .before .pre .0, c .before .before .loop .inv .inside, here-right (c .before .before .loop .inv) (c .before .loop-test .taken), c .before .before .loop .inv .below)
+    (c .before .before .before .before .before .pre .0, c .before .before .loop .inv .inside, here-right (c .before .before .loop .inv) (c .before .loop-test .taken), c .before .before .before .before .before .pre .2)
 
 same-length : tie.Need-same-length Inv-loop μ-loop
 same-length c =
@@ -30,11 +30,7 @@ same-length c =
 
 returns : tie.Need-returns Inv-loop μ-loop
 returns c =
-    overfull (c .before .before .before .before .before .before .loop .inv) (c .before .before .before .before .before .loop-test .taken) _ _ (c .before .before .before .put-line .ensures) (c .if1 .taken)
-
-add-o : tie.Need-add-o Inv-loop μ-loop
-add-o c =
-    omega (arith, moved (c .before .before .before .before .before .before .loop .inv) (c .before .before .before .before .before .loop-test .taken) _ _ (c .before .before .before .put-line .ensures) (c .if1 .left) _ refl .below)
+    overfull (c .before .before .before .before .before .before .loop .inv) (c .before .before .before .before .before .loop-test .taken) (c .before .before .before .put-line .ensures) (c .if1 .taken)
 
 number-at-requires : tie.Need-number-at-requires Inv-loop μ-loop
 number-at-requires c κs =
@@ -46,15 +42,15 @@ add-at c =
 
 add-at-2 : tie.Need-add-at-2 Inv-loop μ-loop
 add-at-2 c =
-    omega (arith, moved (c .before .before .before .before .before .before .before .loop .inv) (c .before .before .before .before .before .before .loop-test .taken) _ _ (c .before .before .before .before .put-line .ensures) (c .before .if1 .left) _ (c .number-at .ensures .0) .inside)
+    omega (arith, moved (c .before .before .before .before .before .before .before .loop .inv) (c .before .before .before .before .before .before .loop-test .taken) (c .before .before .before .before .put-line .ensures) _ (c .number-at .ensures .0) .inside)
 
 loop-less : tie.Need-loop-less Inv-loop μ-loop
 loop-less c =
-    omega (arith, moved (c .before .before .before .before .before .before .before .loop .inv) (c .before .before .before .before .before .before .loop-test .taken) _ _ (c .before .before .before .before .put-line .ensures) (c .before .if1 .left) _ (c .number-at .ensures .0) .inside)
+    omega (arith, moved (c .before .before .before .before .before .before .before .loop .inv) (c .before .before .before .before .before .before .loop-test .taken) (c .before .before .before .before .put-line .ensures) _ (c .number-at .ensures .0) .inside)
 
 loop-again : tie.Need-loop-again Inv-loop μ-loop
 loop-again c =
-    moved (c .before .before .before .before .before .before .before .loop .inv) (c .before .before .before .before .before .before .loop-test .taken) _ _ (c .before .before .before .before .put-line .ensures) (c .before .if1 .left) _ (c .number-at .ensures .0)
+    moved (c .before .before .before .before .before .before .before .loop .inv) (c .before .before .before .before .before .before .loop-test .taken) (c .before .before .before .before .put-line .ensures) _ (c .number-at .ensures .0)
 
 same-length-2 : tie.Need-same-length-2 Inv-loop μ-loop
 same-length-2 c =
@@ -74,7 +70,6 @@ pass-spec =
     put-line-requires
     same-length
     returns
-    add-o
     number-at-requires
     add-at
     add-at-2

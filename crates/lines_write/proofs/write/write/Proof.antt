@@ -1,12 +1,16 @@
--- Records that aren't right are refused first; then the first pass has no buffer, and what it measured is what the second stores (LineTexts).
+-- Records that aren't right are refused first; then the first pass has no buffer, and what it measured is what the second stores (Passes).
 -- Assumes nothing.
 use borrow.Author.Needs.{needs}
 use Rattle.lines_write.proofs.write.write.Statement.{statement}
 use Rattle.lines_write.proofs.write.write.Tie as tie
 use mathlib.Core.Path.{sym, _∙_}
 use borrow.Author.Tests.{not-true, not-false}
+use native.Mathlib.Omega.{arith}
 use denote.Ref.{now}
-use Rattle.lines_write.proofs.LineTexts.{not-right, too-full, both-passes}
+use Rattle.rooms.proofs.Passes.{too-long, two-passes}
+use Rattle.lines_write.specs.declared.write.WroteLines.the-variants.{Wrote, Refused}
+use Rattle.lines_write.specs.Write.{linesFrom}
+use Rattle.lines_write.proofs.LineTexts.{not-right, all-right}
 
 table-requires : tie.Need-table-requires
 table-requires c κs = search needs
@@ -26,31 +30,25 @@ slice-aggregate-pass c = search needs
 
 pass-requires : tie.Need-pass-requires
 pass-requires c κs =
-    (c .before .before .before .before .before .table .ensures, sym (c .before .before .before .right-records .ensures) ∙ not-false _ (c .before .before .if1 .left))
-
-enum-known-judged : tie.Need-enum-known-judged
-enum-known-judged c = search needs
-
-pass-requires-2 : tie.Need-pass-requires-2
-pass-requires-2 c κs =
-    (c .before .before .before .before .before .before .before .before .before .before .before .before .before .table .ensures, sym (c .before .before .before .before .before .before .before .before .before .before .before .right-records .ensures) ∙ not-false _ (c .before .before .before .before .before .before .before .before .before .before .if1 .left))
-
-enum-known-judged-2 : tie.Need-enum-known-judged-2
-enum-known-judged-2 c = search needs
+    (c .before .before .before .before .before .table .ensures, sym (c .before .before .before .right-records .ensures) ∙ not-false _ (c .before .before .if1 .left), omega arith)
 
 same-length : tie.Need-same-length
 same-length c = search needs
 
 returns-2 : tie.Need-returns-2
 returns-2 c =
-    both-passes (now (c .before .before .before .before .before .before .before .before .before .before .before .before .before .before .before .before .before .before .before .args .records)) (now (c .before .before .before .before .before .before .before .before .before .before .before .before .before .before .before .before .before .before .before .args .out)) _ (c .before .before .before .before .before .before .before .before .before .before .before .before .before .before .right-records .ensures) (not-false _ (c .before .before .before .before .before .before .before .before .before .before .before .before .before .if1 .left)) _ (c .before .before .before .before .before .before .before .before .before .before .pass .last .1 .1 .1 .0) _ (c .before .before .before .before .before .before .before .before .before .before .pass .ensures) (c .before .before .before .before .before .before .before .before .before .before .pass .kept .1 .1 .1 .0) _ (c .before .before .before .before .before .before .judged .given .1) _ _ (c .before .before .pass2 .ensures)
+    all-right (now (c .before .before .before .before .before .before .before .before .before .before .before .before .args .records)) (now (c .before .before .before .before .before .before .before .before .before .before .before .before .args .out)) _ (c .before .before .before .before .before .before .before .right-records .ensures) (not-false _ (c .before .before .before .before .before .before .if1 .left)) (too-long Wrote (Refused 12) (linesFrom 0 (now (c .before .before .before .before .before .before .before .before .before .before .before .before .args .records))) (now (c .before .before .before .before .before .before .before .before .before .before .before .before .args .out)) (c .before .before .before .pass .last .1 .1 .1 .0) (c .before .before .before .pass .kept .1 .1 .1 .0) (c .before .before .before .pass .ensures) (c .if2 .taken))
+
+pass-requires-2 : tie.Need-pass-requires-2
+pass-requires-2 c κs =
+    (c .before .before .before .before .before .before .before .before .before .before .before .table .ensures, sym (c .before .before .before .before .before .before .before .before .before .right-records .ensures) ∙ not-false _ (c .before .before .before .before .before .before .before .before .if1 .left), omega arith)
 
 same-length-2 : tie.Need-same-length-2
 same-length-2 c = search needs
 
 returns-3 : tie.Need-returns-3
 returns-3 c =
-    too-full (now (c .before .before .before .before .before .before .before .before .before .before .before .before .before .before .args .records)) (now (c .before .before .before .before .before .before .before .before .before .before .before .before .before .before .args .out)) _ (c .before .before .before .before .before .before .before .before .before .right-records .ensures) (not-false _ (c .before .before .before .before .before .before .before .before .if1 .left)) _ (c .before .before .before .before .before .pass .last .1 .1 .1 .0) _ (c .before .before .before .before .before .pass .ensures) (c .before .before .before .before .before .pass .kept .1 .1 .1 .0) _ (c .before .judged2 .given .1)
+    all-right (now (c .before .before .before .before .before .before .before .before .before .before .before .before .before .before .before .before .before .args .records)) (now (c .before .before .before .before .before .before .before .before .before .before .before .before .before .before .before .before .before .args .out)) _ (c .before .before .before .before .before .before .before .before .before .before .before .before .right-records .ensures) (not-false _ (c .before .before .before .before .before .before .before .before .before .before .before .if1 .left)) (two-passes Wrote (Refused 12) (linesFrom 0 (now (c .before .before .before .before .before .before .before .before .before .before .before .before .before .before .before .before .before .args .records))) (now (c .before .before .before .before .before .before .before .before .before .before .before .before .before .before .before .before .before .args .out)) (c .before .before .before .before .before .before .before .before .pass .last .1 .1 .1 .0) (c .before .before .before .before .before .before .before .before .pass .kept .1 .1 .1 .0) (c .before .before .before .before .before .before .before .before .pass .ensures) (c .before .before .before .before .before .if2 .left) (c .before .before .pass2 .ensures))
 
 pub write-spec : {M : Type 1} → statement M
 write-spec =
@@ -62,10 +60,8 @@ write-spec =
     slice-relend-prefix-pass
     slice-aggregate-pass
     pass-requires
-    enum-known-judged
-    pass-requires-2
-    enum-known-judged-2
     same-length
     returns-2
+    pass-requires-2
     same-length-2
     returns-3)

@@ -1,17 +1,21 @@
--- Over the room, or put (Puts).
+-- Past the room, at its end, or put (Puts).
 -- Assumes nothing.
 use borrow.Author.Needs.{needs}
 use Rattle.rooms.proofs.parts.put_byte.Statement.{statement}
 use Rattle.rooms.proofs.parts.put_byte.Tie as tie
 use native.Mathlib.Omega.{arith}
-use Rattle.rooms.proofs.Puts.{put-over, put-done}
+use Rattle.rooms.proofs.Puts.{put-past, put-full, put-done}
+
+returns : tie.Need-returns
+returns c =
+    put-past (c .if2 .taken)
 
 add-result : tie.Need-add-result
 add-result c = search needs
 
-returns : tie.Need-returns
-returns c =
-    put-over (omega arith) (omega arith)
+returns-2 : tie.Need-returns-2
+returns-2 c =
+    put-full (omega arith) (omega arith)
 
 put-requires : tie.Need-put-requires
 put-requires c κs = search needs
@@ -22,10 +26,11 @@ add-result-2 c = search needs
 same-length : tie.Need-same-length
 same-length c = search needs
 
-returns-2 : tie.Need-returns-2
-returns-2 c =
+returns-3 : tie.Need-returns-3
+returns-3 c =
     put-done (omega arith) (omega arith) (c .before .before .put .ensures)
 
 pub put-byte-spec : {M : Type 1} → statement M
 put-byte-spec =
-    tie.close (tie.spec add-result returns put-requires add-result-2 same-length returns-2)
+    tie.close
+    (tie.spec returns add-result returns-2 put-requires add-result-2 same-length returns-3)

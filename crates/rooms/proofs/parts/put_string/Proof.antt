@@ -34,18 +34,18 @@ same-length c = search needs
 
 returns-2 : tie.Need-returns-2
 returns-2 c =
-    string-over (now (c .before .before .before .before .before .before .before .before .before .args .s)) (now (c .before .before .before .before .before .before .before .before .before .args .out)) _ _ _ _ _ (omega arith) (c .before .before .before .write-run .ensures) (c .if2 .taken) (omega arith)
+    string-over (now (c .before .before .before .before .before .before .before .before .before .args .s)) (now (c .before .before .before .before .before .before .before .before .before .args .out)) _ _ _ _ _ (omega arith) (c .before .before .before .before .before .least .ensures .2) (c .before .before .before .before .before .least .ensures .3) (c .before .before .before .write-run .ensures) (c .if2 .taken)
 
 add-result-2 : tie.Need-add-result-2
 add-result-2 c =
-    omega (arith, string-inside (now (c .before .before .before .before .before .before .before .before .before .args .s)) (now (c .before .before .before .before .before .before .before .before .before .args .out)) _ _ _ _ _ (omega arith) (c .before .before .before .write-run .ensures) (c .if2 .left), c .before .before .before .before .before .before .before .before .before .pre .1)
+    omega (arith, string-inside (now (c .before .before .before .before .before .before .before .before .before .args .s)) (now (c .before .before .before .before .before .before .before .before .before .args .out)) _ _ _ _ _ (omega arith) (c .before .before .before .before .before .least .ensures .2) (c .before .before .before .before .before .least .ensures .3) (c .before .before .before .write-run .ensures) (c .if2 .left), c .before .before .before .before .before .before .before .before .before .pre .1)
 
 same-length-2 : tie.Need-same-length-2
 same-length-2 c = search needs
 
 returns-3 : tie.Need-returns-3
 returns-3 c =
-    string-put (now (c .before .before .before .before .before .before .before .before .before .args .s)) (now (c .before .before .before .before .before .before .before .before .before .args .out)) _ _ _ _ _ (omega arith) (c .before .before .before .write-run .ensures) (c .if2 .left) (c .before .before .before .before .before .least .ensures .2) (c .before .before .before .before .before .least .ensures .3)
+    string-put (now (c .before .before .before .before .before .before .before .before .before .args .s)) (now (c .before .before .before .before .before .before .before .before .before .args .out)) _ _ _ _ _ (omega arith) (c .before .before .before .before .before .least .ensures .2) (c .before .before .before .before .before .least .ensures .3) (c .before .before .before .write-run .ensures) (c .if2 .left)
 
 pub put-string-spec : {M : Type 1} → statement M
 put-string-spec =

@@ -10,9 +10,16 @@ use native.Mathlib.Omega.{arith}
 add-if1 : tie.Need-add-if1
 add-if1 c = search needs
 
+literal-front-requires : tie.Need-literal-front-requires
+literal-front-requires c κs =
+    (c .before .before .before .before .pre, omega arith)
+
+same-length : tie.Need-same-length
+same-length c = search needs
+
 returns : tie.Need-returns
 returns c =
-    literal-over (now (c .before .before .before .args .s)) (now (c .before .before .before .args .out)) (c .before .before .before .pre) (omega arith)
+    literal-over (now (c .before .before .before .before .before .before .before .args .s)) (now (c .before .before .before .before .before .before .before .args .out)) (c .before .before .before .before .before .before .before .pre) (omega arith) (c .before .before .literal-front .ensures)
 
 put-requires : tie.Need-put-requires
 put-requires c κs = search needs
@@ -29,8 +36,8 @@ put-requires-2 c κs = search needs
 add-result : tie.Need-add-result
 add-result c = search needs
 
-same-length : tie.Need-same-length
-same-length c = search needs
+same-length-2 : tie.Need-same-length-2
+same-length-2 c = search needs
 
 returns-2 : tie.Need-returns-2
 returns-2 c =
@@ -41,11 +48,13 @@ literal-part-spec =
     tie.close
     (tie.spec
     add-if1
+    literal-front-requires
+    same-length
     returns
     put-requires
     copy-run-requires
     add-put
     put-requires-2
     add-result
-    same-length
+    same-length-2
     returns-2)

@@ -5,15 +5,14 @@ use Rattle.strings_write.proofs.write.pass.Tie as tie
 use denote.Ref.{now}
 use borrow.Author.Needs.{needs}
 use native.Mathlib.Omega.{arith}
-use mathlib.Core.Path.{_≡_, refl, sym, ap, _∙_}
-use Prim.Native.Nat.{_+_, _-_, _≤_, _<_}
-use lib.ListN.{length, getD, length-set}
-use Rattle.strings_write.specs.Write.{quoted}
-use Rattle.strings_write.proofs.Writing.{Writing, begun, escape-moved, escape-stuck, run-inside, run-moved, run-stuck, kept, last, stopped, finished, mark-long}
+use mathlib.Core.Path.{ap, _∙_}
+use Prim.Native.Nat.{_-_, _≤_}
+use lib.ListN.{length, length-set}
+use Rattle.strings_write.proofs.Writing.{Writing, mark-stuck, begun, escape-moved, escape-stuck, run-inside, run-moved, run-stuck, kept, last}
 
 abbrev Inv-loop : tie.InvT-loop
 Inv-loop t form s room out₀ style first cap o₀ at₀ out o at =
-    Writing form s cap out₀ at o out
+    Writing form s room out₀ at o out
 
 abbrev μ-loop : tie.MeasureT-loop
 μ-loop t form s room out₀ style first cap o₀ at₀ out o at =
@@ -33,7 +32,7 @@ same-length c =
 
 returns : tie.Need-returns Inv-loop μ-loop
 returns c =
-    stopped (mark-long (c .before .before .before .before .before .before .before .before .args .form) (now (c .before .before .before .before .before .before .before .before .args .s)) (c .before .before .before .before .before .before .before .before .args .room) _ (c .before .before .before .put-mark .ensures .0) (c .if1 .taken))
+    mark-stuck (c .before .before .before .before .before .before .before .before .args .form) (now (c .before .before .before .before .before .before .before .before .args .s)) (c .before .before .before .put-mark .ensures .0) (c .if1 .taken) (c .before .before .before .before .before .before .before .before .pre .1) (c .before .before .before .put-mark .ensures .1)
 
 sub-cap : tie.Need-sub-cap Inv-loop μ-loop
 sub-cap c =
@@ -41,11 +40,11 @@ sub-cap c =
 
 loop-holds : tie.Need-loop-holds Inv-loop μ-loop
 loop-holds c =
-    begun (c .before .before .before .put-mark .ensures .0) (c .if1 .left)
+    begun (c .before .before .before .before .before .before .before .before .args .form) (now (c .before .before .before .before .before .before .before .before .args .s)) (c .before .before .before .put-mark .ensures .0) (c .if1 .left)
 
 short-run-requires : tie.Need-short-run-requires Inv-loop μ-loop
 short-run-requires c κs =
-    (c .before .before .before .before .before .before .before .before .before .before .pre, c .before .loop .inv .inside)
+    (c .before .before .before .before .before .before .before .before .before .before .pre .0, c .before .loop .inv .inside)
 
 shared-slice-read-x : tie.Need-shared-slice-read-x Inv-loop μ-loop
 shared-slice-read-x c =
@@ -55,22 +54,21 @@ escape-len-requires : tie.Need-escape-len-requires Inv-loop μ-loop
 escape-len-requires c κs =
     tt
 
-sub-if3 : tie.Need-sub-if3 Inv-loop μ-loop
-sub-if3 c =
-    omega (arith, c .before .before .before .before .before .loop .inv .below)
-
-same-length-2 : tie.Need-same-length-2 Inv-loop μ-loop
-same-length-2 c =
-    kept (c .before .before .before .before .before .before .loop .inv) (now (c .before .before .before .before .before .before .before .before .before .before .before .before .before .before .before .args .out)) (c .before .before .before .before .before .before .before .before .before .before .put-mark .ensures .1)
-
-returns-2 : tie.Need-returns-2 Inv-loop μ-loop
-returns-2 c =
-    let g : c .before .before .before .before .before .before .before .before .before .before .before .before .before .before .before .args .room < length (quoted (c .before .before .before .before .before .before .before .before .before .before .before .before .before .before .before .args .form) (now (c .before .before .before .before .before .before .before .before .before .before .before .before .before .before .before .args .s))) = omega (arith, escape-stuck (c .before .before .before .before .before .before .loop .inv) (c .before .before .before .before .before .before .before .before .before .before .before .before .style-of .ensures) _ _ (c .before .before .before .before .before .loop-test .taken) (c .before .before .before .before .short-run .ensures) (c .before .before .before .if2 .taken) (c .before .escape-len .ensures) (c .if3 .taken)) in
-    stopped g
-
 put-escape-requires : tie.Need-put-escape-requires Inv-loop μ-loop
 put-escape-requires c κs =
     tt
+
+sub-if3 : tie.Need-sub-if3 Inv-loop μ-loop
+sub-if3 c =
+    omega (arith, c .before .before .before .before .before .before .before .before .before .loop .inv .below)
+
+same-length-2 : tie.Need-same-length-2 Inv-loop μ-loop
+same-length-2 c =
+    c .before .before .before .put-escape .kept .1 .1 .1 .0 ∙ kept (c .before .before .before .before .before .before .before .before .before .before .loop .inv) (now (c .before .before .before .before .before .before .before .before .before .before .before .before .before .before .before .before .before .before .before .args .out)) (c .before .before .before .before .before .before .before .before .before .before .before .before .before .before .put-mark .ensures .1)
+
+returns-2 : tie.Need-returns-2 Inv-loop μ-loop
+returns-2 c =
+    escape-stuck (c .before .before .before .before .before .before .before .before .before .before .loop .inv) (c .before .before .before .before .before .before .before .before .before .before .before .before .before .before .before .before .style-of .ensures) _ _ (c .before .before .before .before .before .before .before .before .before .loop-test .taken) (c .before .before .before .before .before .before .before .before .short-run .ensures) (c .before .before .before .before .before .before .before .if2 .taken) (c .before .before .before .before .before .escape-len .ensures) (c .before .before .before .put-escape .ensures) (now (c .before .before .before .before .before .before .before .before .before .before .before .before .before .before .before .before .before .before .before .args .out)) (c .before .before .before .before .before .before .before .before .before .before .before .before .before .before .put-mark .ensures .1) (c .before .before .before .before .before .before .before .before .before .before .before .before .before .before .before .before .before .before .before .pre .1) (c .if3 .taken)
 
 add-o : tie.Need-add-o Inv-loop μ-loop
 add-o c =
@@ -86,28 +84,27 @@ loop-less c =
 
 loop-again : tie.Need-loop-again Inv-loop μ-loop
 loop-again c =
-    escape-moved (c .before .before .before .before .before .before .before .before .before .before .loop .inv) (c .before .before .before .before .before .before .before .before .before .before .before .before .before .before .before .before .style-of .ensures) _ _ (c .before .before .before .before .before .before .before .before .before .loop-test .taken) (c .before .before .before .before .before .before .before .before .short-run .ensures) (c .before .before .before .before .before .before .before .if2 .taken) (c .before .before .before .before .before .escape-len .ensures) (c .before .before .before .before .if3 .left) (c .before .before .put-escape .ensures)
+    escape-moved (c .before .before .before .before .before .before .before .before .before .before .loop .inv) (c .before .before .before .before .before .before .before .before .before .before .before .before .before .before .before .before .style-of .ensures) _ _ (c .before .before .before .before .before .before .before .before .before .loop-test .taken) (c .before .before .before .before .before .before .before .before .short-run .ensures) (c .before .before .before .before .before .before .before .if2 .taken) (c .before .before .before .before .before .escape-len .ensures) (c .before .before .before .put-escape .ensures) (c .if3 .left)
 
 sub-n : tie.Need-sub-n Inv-loop μ-loop
 sub-n c =
     omega (arith, c .before .short-run .ensures)
 
+copy-run-requires : tie.Need-copy-run-requires Inv-loop μ-loop
+copy-run-requires c κs =
+    run-inside (c .before .before .before .before .loop .inv) (c .before .before .before .before .before .before .before .before .before .before .style-of .ensures) _ (c .before .before .before .loop-test .taken) (c .before .before .short-run .ensures)
+
 sub-if4 : tie.Need-sub-if4 Inv-loop μ-loop
 sub-if4 c =
-    omega (arith, c .before .before .before .loop .inv .below)
+    omega (arith, c .before .before .before .before .before .before .before .loop .inv .below)
 
 same-length-3 : tie.Need-same-length-3 Inv-loop μ-loop
 same-length-3 c =
-    kept (c .before .before .before .before .loop .inv) (now (c .before .before .before .before .before .before .before .before .before .before .before .before .before .args .out)) (c .before .before .before .before .before .before .before .before .put-mark .ensures .1)
+    c .before .before .before .copy-run .kept .1 .1 .1 .1 .0 ∙ kept (c .before .before .before .before .before .before .before .before .loop .inv) (now (c .before .before .before .before .before .before .before .before .before .before .before .before .before .before .before .before .before .args .out)) (c .before .before .before .before .before .before .before .before .before .before .before .before .put-mark .ensures .1)
 
 returns-3 : tie.Need-returns-3 Inv-loop μ-loop
 returns-3 c =
-    let g : c .before .before .before .before .before .before .before .before .before .before .before .before .before .args .room < length (quoted (c .before .before .before .before .before .before .before .before .before .before .before .before .before .args .form) (now (c .before .before .before .before .before .before .before .before .before .before .before .before .before .args .s))) = omega (arith, run-stuck (c .before .before .before .before .loop .inv) (c .before .before .before .before .before .before .before .before .before .before .style-of .ensures) _ (c .before .before .before .loop-test .taken) (c .before .before .short-run .ensures) (c .if4 .taken)) in
-    stopped g
-
-copy-run-requires : tie.Need-copy-run-requires Inv-loop μ-loop
-copy-run-requires c κs =
-    run-inside (c .before .before .before .before .before .loop .inv) (c .before .before .before .before .before .before .before .before .before .before .before .style-of .ensures) _ (c .before .before .before .before .loop-test .taken) (c .before .before .before .short-run .ensures)
+    run-stuck (c .before .before .before .before .before .before .before .before .loop .inv) (c .before .before .before .before .before .before .before .before .before .before .before .before .before .before .style-of .ensures) _ (c .before .before .before .before .before .before .before .loop-test .taken) (c .before .before .before .before .before .before .short-run .ensures) (c .before .before .before .copy-run .ensures) (now (c .before .before .before .before .before .before .before .before .before .before .before .before .before .before .before .before .before .args .out)) (c .before .before .before .before .before .before .before .before .before .before .before .before .put-mark .ensures .1) (c .before .before .before .before .before .before .before .before .before .before .before .before .before .before .before .before .before .pre .1) (c .if4 .taken)
 
 add-o-2 : tie.Need-add-o-2 Inv-loop μ-loop
 add-o-2 c =
@@ -119,7 +116,7 @@ loop-less-2 c =
 
 loop-again-2 : tie.Need-loop-again-2 Inv-loop μ-loop
 loop-again-2 c =
-    run-moved (c .before .before .before .before .before .before .before .before .loop .inv) (c .before .before .before .before .before .before .before .before .before .before .before .before .before .before .style-of .ensures) _ (c .before .before .before .before .before .before .before .loop-test .taken) (c .before .before .before .before .before .before .short-run .ensures) (c .before .before .before .before .if4 .left) (c .before .before .copy-run .ensures)
+    run-moved (c .before .before .before .before .before .before .before .before .loop .inv) (c .before .before .before .before .before .before .before .before .before .before .before .before .before .before .style-of .ensures) _ (c .before .before .before .before .before .before .before .loop-test .taken) (c .before .before .before .before .before .before .short-run .ensures) (c .before .before .before .copy-run .ensures) (c .if4 .left)
 
 quote-in-requires : tie.Need-quote-in-requires Inv-loop μ-loop
 quote-in-requires c κs =
@@ -140,8 +137,7 @@ same-length-4 c =
 returns-4 : tie.Need-returns-4 Inv-loop μ-loop
 returns-4 c =
     let h : length (now (c .before .before .before .before .before .before .before .before .before .before .before .before .before .before .before .args .s)) ≤ c .before .before .before .before .before .before .loop .at = omega arith in
-    let e = last (c .before .before .before .before .before .before .loop .inv) (now (c .before .before .before .before .before .before .before .before .before .before .before .before .before .before .before .args .out)) (c .before .before .before .before .before .before .before .before .before .before .put-mark .ensures .1) h (rw (c .before .before .before .before .quote-in .ensures) at (c .before .before .put .ensures)) in
-    finished (omega (arith, e .0, c .before .before .before .before .before .before .loop .inv .below)) (e .0) (e .1)
+    last (c .before .before .before .before .before .before .loop .inv) (now (c .before .before .before .before .before .before .before .before .before .before .before .before .before .before .before .args .out)) (c .before .before .before .before .before .before .before .before .before .before .put-mark .ensures .1) h (rw (c .before .before .before .before .quote-in .ensures) at (c .before .before .put .ensures))
 
 pub pass-spec : {M : Type 1} → statement M
 pass-spec =
@@ -158,19 +154,19 @@ pass-spec =
     short-run-requires
     shared-slice-read-x
     escape-len-requires
+    put-escape-requires
     sub-if3
     same-length-2
     returns-2
-    put-escape-requires
     add-o
     add-at
     loop-less
     loop-again
     sub-n
+    copy-run-requires
     sub-if4
     same-length-3
     returns-3
-    copy-run-requires
     add-o-2
     loop-less-2
     loop-again-2

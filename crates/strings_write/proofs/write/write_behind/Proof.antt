@@ -52,15 +52,15 @@ returns-2 : tie.Need-returns-2
 returns-2 c =
     λ o f. valid-text-behind _ o _ _ _ (c .before .before .before .before .before .before .before .before .before .before .judge .ensures .1 o f) (sym (c .before .before .before .before .before .if2 .taken) ∙ c .before .before .before .before .before .before .before .before .before .before .judge .ensures .2) _ _ (c .before .before .before .before .before .before .before .before .before .before .before .before .before .before .pre .2) (c .before .before .put-rest .ensures)
 
-pass-requires : tie.Need-pass-requires
-pass-requires c κs = search needs
+write-form-requires : tie.Need-write-form-requires
+write-form-requires c κs = search needs
 
 same-length-3 : tie.Need-same-length-3
 same-length-3 c = search needs
 
 returns-3 : tie.Need-returns-3
 returns-3 c =
-    λ o f. other-text-over _ o _ _ _ (c .before .before .before .before .before .before .before .before .before .judge .ensures .1 o f) _ _ (sym (c .before .before .before .before .if2 .left) ∙ c .before .before .before .before .before .before .before .before .before .judge .ensures .2) (c .before .before .pass .ensures)
+    λ o f. other-text-over _ o _ _ _ (c .before .before .before .before .before .before .before .before .before .judge .ensures .1 o f) _ _ (c .before .before .before .before .before .before .before .before .before .before .before .before .before .pre .2) (sym (c .before .before .before .before .if2 .left) ∙ c .before .before .before .before .before .before .before .before .before .judge .ensures .2) (c .before .before .write-form .ensures)
 
 pub write-behind-spec : {M : Type 1} → statement M
 write-behind-spec =
@@ -78,6 +78,6 @@ write-behind-spec =
     add-result-2
     same-length-2
     returns-2
-    pass-requires
+    write-form-requires
     same-length-3
     returns-3)

@@ -5,8 +5,8 @@ use Rattle.strings_write.proofs.write.write_part.Statement.{statement}
 use Rattle.strings_write.proofs.write.write_part.Tie as tie
 use Rattle.strings_write.proofs.Writing.{valid-pass, other-pass}
 
-pass-requires : tie.Need-pass-requires
-pass-requires c κs = search needs
+write-form-requires : tie.Need-write-form-requires
+write-form-requires c κs = search needs
 
 same-length : tie.Need-same-length
 same-length c = search needs
@@ -15,8 +15,8 @@ returns : tie.Need-returns
 returns c =
     search valid-pass
 
-pass-requires-2 : tie.Need-pass-requires-2
-pass-requires-2 c κs = search needs
+write-form-requires-2 : tie.Need-write-form-requires-2
+write-form-requires-2 c κs = search needs
 
 same-length-2 : tie.Need-same-length-2
 same-length-2 c = search needs
@@ -27,4 +27,4 @@ returns-2 c =
 
 pub write-part-spec : {M : Type 1} → statement M
 write-part-spec =
-    tie.close (tie.spec pass-requires same-length returns pass-requires-2 same-length-2 returns-2)
+    tie.close (tie.spec write-form-requires same-length returns write-form-requires-2 same-length-2 returns-2)
