@@ -10,7 +10,7 @@ use borrow.Author.Tests.{le-leb, leb-true}
 use lib.Dec.{eqb, leb, ltb}
 use Rattle.prelude.proofs.Cases.{and-left, and-right}
 use Rattle.prelude.proofs.Picks.{pick-case}
-use Rattle.prelude.specs.Bytes.{ascii}
+use Rattle.prelude.specs.Bytes.{ascii, LF}
 use Rattle.prelude.specs.Pick.{pick}
 use Rattle.units.proofs.WrittenUnits.{Printed, printed-append}
 use Rattle.strings_write.specs.Write.{writeString}
@@ -19,7 +19,7 @@ use Rattle.messages.specs.declared.messages.Message.{Message}
 use Rattle.messages.specs.declared.messages.Message.the-variants.{Refused, Verdict, Failed, Empty, Long}
 use Rattle.messages.specs.declared.messages.Spot.{Spot}
 use Rattle.messages.specs.declared.messages.Spot.the-variants.{Line, Text, Quoted}
-use Rattle.messages.specs.Texts.{LF, nought, decimalIn, decimal}
+use Rattle.messages.specs.Texts.{nought, decimalIn, decimal}
 use Rattle.messages.specs.Sentences.{Row, rows, unknown, sentenceIn, sentence}
 use Rattle.messages.specs.Messages.{entryText, counted, placeText, numberText, lineText, columnText, spotText, verdictText, messageText}
 use Rattle.messages.specs.Claims.{inLine, OneLine}

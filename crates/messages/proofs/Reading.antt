@@ -14,7 +14,7 @@ use Rattle.prelude.proofs.Picks.{pick-true, pick-false}
 use Rattle.prelude.specs.Pick.{pick}
 use Rattle.utf8.specs.Utf8.{tail}
 use Rattle.messages.specs.declared.positions.Position.{Position}
-use Rattle.messages.specs.Texts.{LF}
+use Rattle.prelude.specs.Bytes.{LF}
 use Rattle.messages.specs.Positions.{at, behindByte, behind, positionOf}
 
 -- behind a byte

@@ -13,11 +13,11 @@ use lib.ListN.{length, getD, take, drop, drop-of-length-le}
 use lib.Seq.{drop-cons}
 use Rattle.prelude.proofs.Cases.{split, never, and-left, and-right}
 use Rattle.prelude.proofs.Picks.{pick-true, pick-false}
-use Rattle.prelude.specs.Bytes.{ascii}
+use Rattle.prelude.specs.Bytes.{ascii, LF}
 use Rattle.prelude.specs.Pick.{pick}
-use Rattle.messages.specs.Texts.{LF}
+use Rattle.line_ends.specs.inner.Ends.{lineRun}
 use Rattle.messages.specs.Sentences.{Row, rows, unknown, sentenceIn, sentence}
-use Rattle.messages.specs.inner.Lines.{fromLine, lineRun, firstLine, lineOf}
+use Rattle.messages.specs.inner.Lines.{fromLine, firstLine, lineOf}
 
 -- a text behind its first line
 abbrev behind : List ℕ → List ℕ
@@ -145,32 +145,6 @@ module _ (s : List ℕ) (n left i : ℕ) (l : Looking s n left i) where
       looking-byte g =
           let e : suc (left - 1) ≡ left = omega (arith, f) in
           record { inside = omega arith; same = step ∙ pick-false _ _ _ (ne-eqb _ LF g) ∙ ap (fromLine s (drop (i + 1) s)) e }
-
--- the end of a line is looked for: it is as far from i on as from where it began
-pub record Ending (s : List ℕ) (at i : ℕ) : Type 0 where
-  pub inside : i ≤ length s
-  pub same : i + lineRun (drop i s) ≡ at + lineRun (drop at s)
-
-pub ending-first : (s : List ℕ) (at : ℕ) → at ≤ length s → Ending s at at
-ending-first s at h = record { inside = h; same = refl }
-
-module _ (s : List ℕ) (at i : ℕ) (l : Ending s at i) where
-  pub ending-last : length s ≤ i → i ≡ at + lineRun (drop at s)
-  unfolding lineRun
-  ending-last h = let e : lineRun (drop i s) ≡ 0 = ap lineRun (drop-of-length-le s h) in omega (arith, l .same, e)
-
-  module _ (h : i < length s) where
-    begins : lineRun (drop i s) ≡ pick (eqb (getD s i 0) LF) 0 (suc (lineRun (drop (i + 1) s)))
-    unfolding lineRun
-    begins = let e : drop i s ≡ getD s i 0 ∷ drop (i + 1) s = rw add-one (drop-cons s i 0 h) in ap lineRun e
-
-    pub ending-found : getD s i 0 ≡ LF → i ≡ at + lineRun (drop at s)
-    ending-found e = let z : lineRun (drop i s) ≡ 0 = begins ∙ pick-true _ _ _ (eq-eqb _ LF e) in omega (arith, l .same, z)
-
-    pub ending-on : (getD s i 0 ≡ LF → ⊥) → Ending s at (i + 1)
-    ending-on g =
-        let z : lineRun (drop i s) ≡ suc (lineRun (drop (i + 1) s)) = begins ∙ pick-false _ _ _ (ne-eqb _ LF g) in
-        record { inside = omega arith; same = omega (arith, l .same, z) }
 
 -- the bytes from one place to the other are the line
 pub line-between : (s : List ℕ) (n at end : ℕ) → drop at s ≡ fromLine s s n → end ≡ at + lineRun (drop at s) → take (end - at) (drop at s) ≡ lineOf s n

@@ -7,7 +7,8 @@ use mathlib.Core.Path.{_≡_}
 use lib.Dec.{eqb, leb}
 use Rattle.prelude.specs.Pick.{pick}
 use Rattle.messages.specs.declared.messages.Message.{Message}
-use Rattle.messages.specs.Texts.{LF, decimal, denotes}
+use Rattle.prelude.specs.Bytes.{LF}
+use Rattle.messages.specs.Texts.{decimal, denotes}
 use Rattle.messages.specs.Messages.{entryText, messageText}
 
 -- a number's digits denote it

@@ -7,7 +7,7 @@ use lib.ListN.{take}
 use Rattle.prelude.specs.Pick.{pick}
 use Rattle.utf8.specs.Utf8.{tail}
 use Rattle.messages.specs.declared.positions.Position.{Position}
-use Rattle.messages.specs.Texts.{LF}
+use Rattle.prelude.specs.Bytes.{LF}
 
 abbrev pub at : ℕ → ℕ → Position
 at line column = record { line = line; column = column }

@@ -5,10 +5,6 @@ use mathlib.Core.List.{List, [], _∷_, _++_}
 use lib.Dec.{ltb}
 use Rattle.prelude.specs.Pick.{pick}
 
--- what ends a line
-abbrev pub LF : ℕ
-LF = 0x0a
-
 -- the byte of the digit 0; those of the others follow it
 abbrev pub nought : ℕ
 nought = 0x30

@@ -1,10 +1,10 @@
 // The sentence of each refusal.
 ghost use mathlib.Core.Path.{_≡_};
-ghost use Prim.Native.Nat.{_+_, _≤_};
+ghost use Prim.Native.Nat.{_≤_};
 ghost use lib.ListN.{length, drop};
 ghost use Rattle.rooms.specs.inner.Puts.{roomMax, Put};
 ghost use Rattle.messages.specs.Sentences.{sentence};
-ghost use Rattle.messages.specs.inner.Lines.{fromLine, lineRun, lineOf};
+ghost use Rattle.messages.specs.inner.Lines.{fromLine, lineOf};
 use rooms::parts;
 
 // The place of line n of a text, from 0, or of its first line where it has no such.
@@ -27,28 +27,13 @@ fn line_at(s: &[u8], n: usize) -> usize
     0
 }
 
-// The place of the next LF from a place on, or the end.
-fn line_end(s: &[u8], at: usize) -> usize
-    requires { ⌜ at ≤ length (now s) ⌝ }
-    ensures { λ r. ⌜ (r ≡ at + lineRun (drop at (now (s .entry)))) × (r ≤ length (now (s .entry))) ⌝ }
-{
-    let mut i = at;
-    while i < s.len() {
-        if s[i] == b'\n' {
-            return i;
-        }
-        i += 1;
-    }
-    i
-}
-
 // Line n of a text, without its end.
 fn put_line(s: &[u8], n: usize, room: usize, o: usize, out: &mut [u8]) -> usize
     requires { ⌜ room ≤ roomMax ⌝ }
     ensures { λ r. ⌜ Put (lineOf (now (s .entry)) n) room o r (now (out .entry)) (now (out .exit)) ⌝ }
 {
     let at = line_at(s, n);
-    let end = line_end(s, at);
+    let end = line_ends::lf_from(s, at);
     parts::put_run(s, at, end - at, room, o, out)
 }
 

@@ -19,7 +19,7 @@ use Rattle.prelude.specs.Limits.{uploadMax, lineMax}
 use Rattle.prelude.specs.Pick.{pick}
 use Rattle.prelude.specs.Refusals.{tooLong, overLimit}
 use Rattle.upload.specs.Calls.{Lent, lent, withRefusal, stored, behindLF, atEnd, byteBy, feedByte, feedBytes, finishBy, finishAll, fitState, fitLent, withoutLine, answerOf, stopState, stopLent, guarded, feed, finish}
-use Rattle.upload.specs.inner.Runs.{Fit}
+use Rattle.upload.specs.inner.Fitness.{Fit}
 use Rattle.upload.proofs.Kept.{line-fits, NonZero, line-nonzero, Ok, ok-bytes}
 
 -- is_fit

@@ -1,12 +1,11 @@
 // The bytes of a piece, taken by runs up to the next LF; and an upload's end.
-ghost use mathlib.Core.Bool.{false};
 ghost use mathlib.Core.List.{List};
 ghost use mathlib.Core.Path.{_≡_};
 ghost use Prim.Native.Nat.{ℕ, _+_, _≤_};
 ghost use lib.ListN.{length, take, drop};
 ghost use Rattle.prelude.specs.Limits.{uploadMax, lineMax};
 ghost use Rattle.upload.specs.Calls.{lent, withRefusal, stored, atEnd, feedByte, feedBytes, finishAll};
-ghost use Rattle.upload.specs.inner.Runs.{Fit, lineRun, NoLF};
+ghost use Rattle.upload.specs.inner.Fitness.{Fit};
 use crate::uploads::Upload;
 use lines::records;
 use prelude::limits::LINE_MAX;
@@ -75,50 +74,6 @@ fn take_byte(s: Upload, b: u8, line: &mut [u8], out: &mut [u8]) -> Upload
     }
 }
 
-// Whether one of 32 bytes is an LF. They are tested without an early end, so that they are compared at once.
-fn any_lf(p: &[u8], at: usize) -> bool
-    requires { ⌜ at + 32 ≤ length (now p) ⌝ }
-    ensures { λ r. ⌜ (r ≡ false → NoLF (now (p .entry)) at 32) ⌝ }
-{
-    let mut found = false;
-    let mut k: usize = 0;
-    while k < 32 {
-        found = found | (p[at + k] == b'\n');
-        k += 1;
-    }
-    found
-}
-
-// The place of the next LF from a place on, or the end, byte by byte.
-fn lf_near(p: &[u8], from: usize) -> usize
-    requires { ⌜ from ≤ length (now p) ⌝ }
-    ensures { λ r. ⌜ r ≡ from + lineRun (drop from (now (p .entry))) ⌝ }
-{
-    let mut i = from;
-    while i < p.len() {
-        if p[i] == b'\n' {
-            return i;
-        }
-        i += 1;
-    }
-    i
-}
-
-// The place of the next LF from a place on, or the end.
-fn lf_from(p: &[u8], from: usize) -> usize
-    requires { ⌜ from ≤ length (now p) ⌝ }
-    ensures { λ r. ⌜ r ≡ from + lineRun (drop from (now (p .entry))) ⌝ }
-{
-    let mut i = from;
-    while 32 <= p.len() - i {
-        if any_lf(p, i) {
-            return lf_near(p, i);
-        }
-        i += 32;
-    }
-    lf_near(p, i)
-}
-
 // How many of n bytes that are no LF find their place in the line and in the upload.
 fn run_fits(s: Upload, n: usize) -> usize
     requires { ⌜ (s .held ≤ lineMax) × (s .taken ≤ uploadMax) ⌝ }
@@ -156,7 +111,7 @@ pub fn take_bytes(state: Upload, piece: &[u8], line: &mut [u8], out: &mut [u8]) 
         if s.refusal != 0 {
             return s;
         }
-        let e = lf_from(piece, i);
+        let e = line_ends::lf_from(piece, i);
         let a = run_fits(s, e - i);
         s = take_run(s, piece, i, a, line);
         i += a;

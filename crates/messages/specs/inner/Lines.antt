@@ -5,18 +5,14 @@ use mathlib.Core.List.{List, [], _∷_}
 use lib.Dec.{eqb}
 use lib.ListN.{take}
 use Rattle.prelude.specs.Pick.{pick}
-use Rattle.messages.specs.Texts.{LF}
+use Rattle.line_ends.specs.inner.Ends.{lineRun}
+use Rattle.prelude.specs.Bytes.{LF}
 
 -- a text from its line n on, from 0, or another one where it has no such line
 unfoldable pub fromLine : List ℕ → List ℕ → ℕ → List ℕ
 fromLine other [] n = other
 fromLine other (x ∷ r) zero = x ∷ r
 fromLine other (x ∷ r) (suc n) = pick (eqb x LF) (fromLine other r n) (fromLine other r (suc n))
-
--- how many bytes stand before the first LF
-unfoldable pub lineRun : List ℕ → ℕ
-lineRun [] = 0
-lineRun (x ∷ r) = pick (eqb x LF) 0 (suc (lineRun r))
 
 -- the first line of a text
 abbrev pub firstLine : List ℕ → List ℕ

@@ -11,23 +11,23 @@ use Rattle.messages.proofs.SentenceLines.{line-between}
 line-at-requires : tie.Need-line-at-requires
 line-at-requires c κs = search needs
 
-line-end-requires : tie.Need-line-end-requires
-line-end-requires c κs = search needs
+lf-from-requires : tie.Need-lf-from-requires
+lf-from-requires c κs = search needs
 
 sub-put-run : tie.Need-sub-put-run
-sub-put-run c = search needs
+sub-put-run c = omega (arith, c .lf-from .ensures)
 
 put-run-requires : tie.Need-put-run-requires
-put-run-requires c κs = search needs
+put-run-requires c κs = ?
 
 same-length : tie.Need-same-length
 same-length c = search needs
 
 returns : tie.Need-returns
 returns c =
-    put-as (sym (line-between (now (c .before .before .before .before .before .before .before .before .args .s)) (c .before .before .before .before .before .before .before .before .args .n) _ _ (c .before .before .before .before .before .line-at .ensures .1) (c .before .before .before .before .line-end .ensures .0))) (c .before .before .put-run .ensures)
+    put-as (sym (line-between (now (c .before .before .before .before .before .before .before .before .args .s)) (c .before .before .before .before .before .before .before .before .args .n) _ _ (c .before .before .before .before .before .line-at .ensures .1) (c .before .before .before .before .lf-from .ensures))) (c .before .before .put-run .ensures)
 
 pub put-line-spec : {M : Type 1} → statement M
 put-line-spec =
     tie.close
-    (tie.spec line-at-requires line-end-requires sub-put-run put-run-requires same-length returns)
+    (tie.spec line-at-requires lf-from-requires sub-put-run put-run-requires same-length returns)

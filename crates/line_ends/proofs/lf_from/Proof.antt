@@ -1,14 +1,14 @@
--- The invariant: the LF looked for is found from the place reached as from the first (Runs).
+-- The invariant: the LF looked for is found from the place reached as from the first (Ends).
 -- Assumes nothing.
-use Rattle.upload.proofs.pieces.lf_from.Statement.{statement}
-use Rattle.upload.proofs.pieces.lf_from.Tie as tie
+use Rattle.line_ends.proofs.lf_from.Statement.{statement}
+use Rattle.line_ends.proofs.lf_from.Tie as tie
 use Prim.Native.Nat.{_+_, _-_, _≤_}
 use mathlib.Core.Path.{_≡_, refl}
 use native.Mathlib.Omega.{arith}
 use lib.ListN.{length, drop}
 use denote.Ref.{now}
-use Rattle.upload.specs.inner.Runs.{lineRun}
-use Rattle.upload.proofs.Runs.{run-block}
+use Rattle.line_ends.specs.inner.Ends.{lineRun}
+use Rattle.line_ends.proofs.Ends.{run-block}
 
 abbrev Inv-loop : tie.InvT-loop
 Inv-loop p from i₀ i =

@@ -1,15 +1,15 @@
 -- The invariant: the LF looked for is found from the place reached as from the first.
 -- Assumes nothing.
-use Rattle.upload.proofs.pieces.lf_near.Statement.{statement}
-use Rattle.upload.proofs.pieces.lf_near.Tie as tie
+use Rattle.line_ends.proofs.lf_near.Statement.{statement}
+use Rattle.line_ends.proofs.lf_near.Tie as tie
 use Prim.Native.Nat.{suc, _+_, _-_, _≤_}
 use mathlib.Core.Path.{_≡_, refl}
 use lib.ListN.{length, drop}
 use native.Mathlib.Omega.{arith}
 use native.Mathlib.Numerals.{add-one}
 use denote.Ref.{now}
-use Rattle.upload.specs.inner.Runs.{lineRun}
-use Rattle.upload.proofs.Runs.{at-on, at-lf, at-end}
+use Rattle.line_ends.specs.inner.Ends.{lineRun}
+use Rattle.line_ends.proofs.Ends.{at-on, at-lf, at-end}
 
 abbrev Inv-loop : tie.InvT-loop
 Inv-loop p from i₀ i =

@@ -1,7 +1,7 @@
 -- The invariant: if nothing was found, none of the first k bytes is an LF.
 -- Assumes nothing.
-use Rattle.upload.proofs.pieces.any_lf.Statement.{statement}
-use Rattle.upload.proofs.pieces.any_lf.Tie as tie
+use Rattle.line_ends.proofs.any_lf.Statement.{statement}
+use Rattle.line_ends.proofs.any_lf.Tie as tie
 use Prim.Native.Nat.{_+_, _-_, _≤_}
 use mathlib.Core.Path.{_≡_}
 use mathlib.Core.Bool.{false}
@@ -10,7 +10,7 @@ use lib.ListN.{getD}
 use denote.Ref.{now}
 use borrow.Author.Tests.{eqb-false}
 use Rattle.runs.proofs.BlockLaws.{one-more}
-use Rattle.upload.specs.inner.Runs.{NoLF}
+use Rattle.line_ends.specs.inner.Ends.{NoLF}
 
 abbrev Inv-loop : tie.InvT-loop
 Inv-loop p at found₀ k₀ found k =
