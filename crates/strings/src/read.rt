@@ -31,7 +31,7 @@ pub enum Mark {
 }
 
 // Behind a turn: the next place and the bytes stored so far; or the string's end and its length; or a refusal's number and place.
-pub enum Turned {
+pub(crate) enum Turned {
     On(usize, usize),
     Finish(usize, usize),
     Refuse(u32, usize),
@@ -179,7 +179,7 @@ fn read_units(t: &[u8; 256], s: &[u8], from: usize, style: Style, out: &mut [u8]
 
 // The string that a text begins with, whatever follows its closing quote. It stores as far as there is room: lend it a part without
 // room until the text is known to be right.
-pub fn token(t: &[u8; 256], s: &[u8], out: &mut [u8]) -> Token
+fn token(t: &[u8; 256], s: &[u8], out: &mut [u8]) -> Token
     requires { ⌜ IsTable (now t) ⌝ }
     ensures is { λ r. ⌜ r ≡ tokenOf (readToken (now (s .entry))) ⌝ }
     ensures stored { λ r. ⌜ Stored (readToken (now (s .entry))) (now (out .entry)) (now (out .exit)) ⌝ }
@@ -292,7 +292,7 @@ fn read_open(s: &[u8], from: usize, style: Style, out: &mut [u8]) -> Decoded
 }
 
 // Reads the J8 string that a text of any length is.
-pub fn read_string(s: &[u8], out: &mut [u8]) -> Decoded
+fn read_string(s: &[u8], out: &mut [u8]) -> Decoded
     ensures answer { λ r. ⌜ r ≡ decodedOf (fitted (length (now (out .entry))) (readString (now (s .entry)))) ⌝ }
     ensures stored { λ r. ⌜ now (out .exit) ≡ readInto (fitted (length (now (out .entry))) (readString (now (s .entry)))) (now (out .entry)) ⌝ }
 {
