@@ -13,7 +13,7 @@ use units::styles::Style;
 
 // A control, the backslash, the closing quote, or a byte that is not ASCII.
 pub fn odd(q: u8, b: u8) -> bool
-    ensures { λ r. ⌜ (r ≡ false → Alone q b) ⌝ }
+    ensures { λ r. ⌜ (r ≡ false → Alone q b) × (Alone q b → r ≡ false) ⌝ }
 {
     (b < 32) | ((b >= 128) | ((b == b'\\') | (b == q)))
 }
@@ -38,7 +38,7 @@ fn odd_pair(q: u8, b: u8, c: u8) -> bool
 // Whether one of n bytes is odd.
 pub fn any_odd(q: u8, s: &[u8], at: usize, n: usize) -> bool
     requires { ⌜ at + n ≤ length (now s) ⌝ }
-    ensures { λ r. ⌜ (r ≡ false → AllAlone q (now (s .entry)) at n) ⌝ }
+    ensures { λ r. ⌜ (r ≡ false → AllAlone q (now (s .entry)) at n) × (AllAlone q (now (s .entry)) at n → r ≡ false) ⌝ }
 {
     let mut found = false;
     let mut k: usize = 0;

@@ -235,7 +235,7 @@ pub fn two_passes(t: &[u8; 256], s: &[u8], from: usize, style: Style, out: &mut 
 // Whether the closing quote stands at a place and is the text's last byte.
 pub fn closes(s: &[u8], e: usize, style: Style) -> bool
     requires { ⌜ e ≤ length (now s) ⌝ }
-    ensures { λ r. ⌜ (r ≡ true → Closed style (now (s .entry)) e) ⌝ }
+    ensures { λ r. ⌜ (r ≡ true → Closed style (now (s .entry)) e) × (Closed style (now (s .entry)) e → r ≡ true) ⌝ }
 {
     if s.len() - e != 1 {
         return false;
