@@ -9,7 +9,10 @@ use lib.Dec.{eqb}
 use lib.ListN.{length}
 use Rattle.prelude.specs.Pick.{pick}
 use Rattle.prelude.proofs.Cases.{split, never}
-use Rattle.strings.specs.Read.{StringRead, accepted, refused}
+use Rattle.strings.specs.declared.answers.Decoded.{Decoded}
+use Rattle.strings.specs.declared.answers.Decoded.the-variants as strings
+use Rattle.strings_write.specs.declared.answers.Written.{Written}
+use Rattle.strings_write.specs.declared.answers.Written.the-variants as texts
 use Rattle.lines_write.specs.declared.write.WroteLines.{WroteLines}
 use Rattle.lines_write.specs.declared.write.WroteLines.the-variants as lines
 use Rattle.json8.specs.declared.answers.Parsed.{Parsed}
@@ -26,10 +29,10 @@ use Rattle.j8.specs.declared.tables.J8Nodes.{J8Nodes}
 use Rattle.j8.specs.declared.tables.J8Shown.{J8Shown}
 use Rattle.j8.specs.declared.uploads.J8Upload.{J8Upload}
 use Rattle.j8.specs.declared.uploads.J8Fed.{J8Fed}
-use Rattle.j8.specs.Results.{readResult, linesResult}
+use Rattle.j8.specs.Results.{decodedResult, writtenResult, linesResult}
 use Rattle.j8.specs.Uploads.{isEnded, endedNumber, stateWith, stateOf, uploadWith, uploadOf, answerOf, fedFrom}
 use Rattle.j8.specs.Tables.{nodesResult, shownResult, tableResult}
-use Rattle.j8.specs.Claims.{States-Return, Structs-Return, Fed-Tells-All, ReadNumbered, LinesNumbered, NodesNumbered, TableNumbered, SameRead, Results-Tell-All}
+use Rattle.j8.specs.Claims.{States-Return, Structs-Return, Fed-Tells-All, DecodedNumbered, WrittenNumbered, LinesNumbered, NodesNumbered, TableNumbered, Results-Tell-All}
 
 -- whether an upload is ended, there and back
 over-back : (b : Bool) → isEnded (endedNumber b) ≡ b
@@ -57,11 +60,19 @@ fed-tells-all f g e =
     λ i. record { state = s i; answer = record { number = n i; line = l i; place = p i } }
 
 -- strings
-read-tells : (v w : StringRead) → ReadNumbered v → ReadNumbered w → readResult v ≡ readResult w → SameRead v w
-read-tells (accepted bs e) (accepted cs f) x y p = ap (λ (r : J8Result). r .length) p
-read-tells (accepted bs e) (refused number at) x y p = y (sym (ap (λ (r : J8Result). r .number) p))
-read-tells (refused number at) (accepted bs e) x y p = x (ap (λ (r : J8Result). r .number) p)
-read-tells (refused number at) (refused other place) x y p = (ap (λ (r : J8Result). r .number) p, ap (λ (r : J8Result). r .place) p)
+decoded-tells : (v w : Decoded) → DecodedNumbered v → DecodedNumbered w → decodedResult v ≡ decodedResult w → v ≡ w
+decoded-tells (strings.Done n) (strings.Done m) x y p = ap strings.Done (ap (λ (r : J8Result). r .length) p)
+decoded-tells (strings.Done n) (strings.Refused number place) x y p = absurd (y (sym (ap (λ (r : J8Result). r .number) p)))
+decoded-tells (strings.Refused number place) (strings.Done n) x y p = absurd (x (ap (λ (r : J8Result). r .number) p))
+decoded-tells (strings.Refused number place) (strings.Refused other q) x y p =
+    let a : number ≡ other = ap (λ (r : J8Result). r .number) p in
+    let b : place ≡ q = ap (λ (r : J8Result). r .place) p in λ i. strings.Refused (a i) (b i)
+
+written-tells : (v w : Written) → WrittenNumbered v → WrittenNumbered w → writtenResult v ≡ writtenResult w → v ≡ w
+written-tells (texts.Wrote n) (texts.Wrote m) x y p = ap texts.Wrote (ap (λ (r : J8Result). r .length) p)
+written-tells (texts.Wrote n) (texts.Full number) x y p = absurd (y (sym (ap (λ (r : J8Result). r .number) p)))
+written-tells (texts.Full number) (texts.Wrote n) x y p = absurd (x (ap (λ (r : J8Result). r .number) p))
+written-tells (texts.Full number) (texts.Full other) x y p = ap texts.Full (ap (λ (r : J8Result). r .number) p)
 
 -- lines
 lines-tells : (v w : WroteLines) → LinesNumbered v → LinesNumbered w → linesResult v ≡ linesResult w → v ≡ w
@@ -100,4 +111,4 @@ shown-tells Nowhere (InText a b) p = let z : _≡_ {A = ℕ} 1 0 = ap (λ (r : J
 shown-tells Nowhere (InStore a b) p = let z : _≡_ {A = ℕ} 1 0 = ap (λ (r : J8Shown). r .number) p in absurd (omega arith)
 
 pub results-tell-all : Results-Tell-All
-results-tell-all = (read-tells, lines-tells, nodes-tells, table-tells, shown-tells)
+results-tell-all = (decoded-tells, written-tells, lines-tells, nodes-tells, table-tells, shown-tells)

@@ -1,19 +1,11 @@
 -- The enum answers of the layers below as the C interface's struct, case by case.
 -- Assumes nothing.
-use mathlib.Core.Bool.{Bool, true, false}
-use mathlib.Core.List.{List}
-use mathlib.Core.Path.{_≡_, refl, sym, ap, _∙_}
+use mathlib.Core.Path.{_≡_, sym, ap, _∙_}
 use Prim.Native.Nat.{ℕ}
-use lib.Dec.{leb}
-use lib.ListN.{length}
-use Rattle.prelude.specs.Pick.{pick}
-use Rattle.prelude.proofs.Cases.{split, never}
 use Rattle.strings.specs.declared.answers.Decoded.{Decoded}
-use Rattle.strings.specs.declared.answers.Decoded.the-variants.{Done, Refused}
+use Rattle.strings.specs.declared.answers.Decoded.the-variants as strings
 use Rattle.strings_write.specs.declared.answers.Written.{Written}
-use Rattle.strings_write.specs.declared.answers.Written.the-variants.{Wrote, Full}
-use Rattle.strings.specs.Read.{StringRead, accepted, refused, decodedOf}
-use Rattle.strings_write.specs.Write.{writtenIn}
+use Rattle.strings_write.specs.declared.answers.Written.the-variants as texts
 use Rattle.lines_write.specs.declared.write.WroteLines.{WroteLines}
 use Rattle.lines_write.specs.declared.write.WroteLines.the-variants as lines
 use Rattle.json8_show.specs.declared.show.Shown.{Shown}
@@ -23,39 +15,21 @@ use Rattle.json8.specs.declared.answers.Parsed.the-variants as parsed
 use Rattle.json8_write.specs.declared.answers.WroteTable.{WroteTable}
 use Rattle.json8_write.specs.declared.answers.WroteTable.the-variants as tables
 use Rattle.j8.specs.Tables.{nodesResult, shownResult, tableResult}
-use Rattle.j8.specs.Results.{done, refusal, readResult, writeResult, linesResult}
+use Rattle.j8.specs.Results.{done, refusal, decodedResult, writtenResult, linesResult}
 
-module _ (d : Decoded) where
-  pub read-done : (v : StringRead) (n : ℕ) → d ≡ decodedOf v → d ≡ Done n → done n ≡ readResult v
-  read-done (accepted bs e) n p q = let z : n ≡ length bs = cc in ap done z
-  read-done (refused m at) n p q = never (cc)
+module _ (d e : Decoded) (p : d ≡ e) where
+  pub read-done : (n : ℕ) → d ≡ strings.Done n → done n ≡ decodedResult e
+  read-done n q = ap decodedResult (sym q ∙ p)
 
-  pub read-refused : (v : StringRead) (number place : ℕ) → d ≡ decodedOf v → d ≡ Refused number place → refusal number place ≡ readResult v
-  read-refused (accepted bs e) number place p q = never (cc)
-  read-refused (refused m at) number place p q = let a : number ≡ m = cc in let b : place ≡ at = cc in (λ i. refusal (a i) (b i))
+  pub read-refused : (number place : ℕ) → d ≡ strings.Refused number place → refusal number place ≡ decodedResult e
+  read-refused number place q = ap decodedResult (sym q ∙ p)
 
-module _ (w : Written) (room : ℕ) (text : List ℕ) (p : w ≡ writtenIn room text) where
-  fits-is : leb (length text) room ≡ true → w ≡ Wrote (length text)
-  unfolding writtenIn pick
-  fits-is e = p ∙ rw e
+module _ (w v : Written) (p : w ≡ v) where
+  pub write-done : (n : ℕ) → w ≡ texts.Wrote n → done n ≡ writtenResult v
+  write-done n q = ap writtenResult (sym q ∙ p)
 
-  full-is : leb (length text) room ≡ false → w ≡ Full 12
-  unfolding writtenIn pick
-  full-is e = p ∙ rw e
-
-  pub write-done : (n : ℕ) → w ≡ Wrote n → done n ≡ writeResult room text
-  unfolding writeResult pick
-  write-done n q =
-      split (leb (length text) room)
-      (λ e. let f : w ≡ Wrote (length text) = fits-is e in let z : n ≡ length text = cc in rw e (ap done z))
-      (λ e. let f : w ≡ Full 12 = full-is e in never (cc))
-
-  pub write-full : (number : ℕ) → w ≡ Full number → refusal number 0 ≡ writeResult room text
-  unfolding writeResult pick
-  write-full number q =
-      split (leb (length text) room)
-      (λ e. let f : w ≡ Wrote (length text) = fits-is e in never (cc))
-      (λ e. let f : w ≡ Full 12 = full-is e in let z : number ≡ 12 = cc in rw e (ap (λ (k : ℕ). refusal k 0) z))
+  pub write-full : (number : ℕ) → w ≡ texts.Full number → refusal number 0 ≡ writtenResult v
+  write-full number q = ap writtenResult (sym q ∙ p)
 
 module _ (w v : WroteLines) (p : w ≡ v) where
   pub lines-done : (n : ℕ) → w ≡ lines.Wrote n → done n ≡ linesResult v

@@ -1,12 +1,13 @@
 -- What is claimed of the structs of include/j8.h, beside the contracts: turned into each other, they lose nothing. Each claim is a type, and
 -- proofs/Claims.antt has a term of it.
 -- Assumes nothing.
-use Prim.Native.Nat.{ℕ}
 use mathlib.Core.Path.{_≡_}
 use lib.Dec.{eqb}
-use lib.ListN.{length}
 use Rattle.prelude.specs.Pick.{pick}
-use Rattle.strings.specs.Read.{StringRead, accepted, refused}
+use Rattle.strings.specs.declared.answers.Decoded.{Decoded}
+use Rattle.strings.specs.declared.answers.Decoded.the-variants as strings
+use Rattle.strings_write.specs.declared.answers.Written.{Written}
+use Rattle.strings_write.specs.declared.answers.Written.the-variants as texts
 use Rattle.lines_write.specs.declared.write.WroteLines.{WroteLines}
 use Rattle.lines_write.specs.declared.write.WroteLines.the-variants as lines
 use Rattle.json8.specs.declared.answers.Parsed.{Parsed}
@@ -17,7 +18,7 @@ use Rattle.json8_write.specs.declared.answers.WroteTable.the-variants as tables
 use Rattle.upload.specs.declared.uploads.Upload.{Upload}
 use Rattle.upload.specs.declared.uploads.Fed.{Fed}
 use Rattle.j8.specs.declared.uploads.J8Upload.{J8Upload}
-use Rattle.j8.specs.Results.{readResult, linesResult}
+use Rattle.j8.specs.Results.{decodedResult, writtenResult, linesResult}
 use Rattle.j8.specs.Uploads.{stateOf, uploadWith, uploadOf, fedFrom}
 use Rattle.j8.specs.Tables.{nodesResult, shownResult, tableResult}
 
@@ -34,9 +35,13 @@ abbrev pub Fed-Tells-All : Type 0
 Fed-Tells-All = (f g : Fed) → fedFrom f ≡ fedFrom g → f ≡ g
 
 -- a refusal has a number other than 0
-abbrev pub ReadNumbered : StringRead → Type 0
-ReadNumbered (accepted bs e) = Unit
-ReadNumbered (refused number at) = number ≡ 0 → ⊥
+abbrev pub DecodedNumbered : Decoded → Type 0
+DecodedNumbered (strings.Done n) = Unit
+DecodedNumbered (strings.Refused number place) = number ≡ 0 → ⊥
+
+abbrev pub WrittenNumbered : Written → Type 0
+WrittenNumbered (texts.Wrote n) = Unit
+WrittenNumbered (texts.Full number) = number ≡ 0 → ⊥
 
 abbrev pub LinesNumbered : WroteLines → Type 0
 LinesNumbered (lines.Wrote n) = Unit
@@ -50,17 +55,11 @@ abbrev pub TableNumbered : WroteTable → Type 0
 TableNumbered (tables.Wrote n) = Unit
 TableNumbered (tables.Refused number) = number ≡ 0 → ⊥
 
--- what a struct tells of a string: how many bytes it denotes, or the refusal
-abbrev pub SameRead : StringRead → StringRead → Type 0
-SameRead (accepted bs e) (accepted cs f) = length bs ≡ length cs
-SameRead (accepted bs e) (refused number at) = ⊥
-SameRead (refused number at) (accepted bs e) = ⊥
-SameRead (refused number at) (refused other place) = (number ≡ other) × (at ≡ place)
-
 -- "number 0: done", and each other number a refusal: one struct, one answer
 abbrev pub Results-Tell-All : Type 0
 Results-Tell-All =
-    ((v w : StringRead) → ReadNumbered v → ReadNumbered w → readResult v ≡ readResult w → SameRead v w)
+    ((v w : Decoded) → DecodedNumbered v → DecodedNumbered w → decodedResult v ≡ decodedResult w → v ≡ w)
+    × ((v w : Written) → WrittenNumbered v → WrittenNumbered w → writtenResult v ≡ writtenResult w → v ≡ w)
     × ((v w : WroteLines) → LinesNumbered v → LinesNumbered w → linesResult v ≡ linesResult w → v ≡ w)
     × ((v w : Parsed) → NodesNumbered v → NodesNumbered w → nodesResult v ≡ nodesResult w → v ≡ w)
     × ((v w : WroteTable) → TableNumbered v → TableNumbered w → tableResult v ≡ tableResult w → v ≡ w)

@@ -2,14 +2,12 @@
 -- Otherwise number is the refusal and place its place; length is 0."
 -- Assumes nothing.
 use Prim.Native.Nat.{ℕ}
-use mathlib.Core.List.{List}
-use lib.Dec.{leb}
-use lib.ListN.{length}
-use Rattle.prelude.specs.Pick.{pick}
-use Rattle.prelude.specs.Refusals.{noRoom}
-use Rattle.strings.specs.Read.{StringRead, accepted, refused}
+use Rattle.strings.specs.declared.answers.Decoded.{Decoded}
+use Rattle.strings.specs.declared.answers.Decoded.the-variants as strings
+use Rattle.strings_write.specs.declared.answers.Written.{Written}
+use Rattle.strings_write.specs.declared.answers.Written.the-variants as texts
 use Rattle.lines_write.specs.declared.write.WroteLines.{WroteLines}
-use Rattle.lines_write.specs.declared.write.WroteLines.the-variants.{Wrote, Refused}
+use Rattle.lines_write.specs.declared.write.WroteLines.the-variants as lines
 use Rattle.j8.specs.declared.J8Result.{J8Result}
 
 abbrev pub done : ℕ → J8Result
@@ -19,15 +17,16 @@ abbrev pub refusal : ℕ → ℕ → J8Result
 refusal number place = record { number = number; place = place; length = 0 }
 
 -- a string read
-abbrev pub readResult : StringRead → J8Result
-readResult (accepted bs e) = done (length bs)
-readResult (refused number at) = refusal number at
+abbrev pub decodedResult : Decoded → J8Result
+decodedResult (strings.Done n) = done n
+decodedResult (strings.Refused number place) = refusal number place
 
--- a text written into so much room
-unfoldable pub writeResult : ℕ → List ℕ → J8Result
-writeResult room text = pick (leb (length text) room) (done (length text)) (refusal noRoom 0)
+-- a string written
+abbrev pub writtenResult : Written → J8Result
+writtenResult (texts.Wrote n) = done n
+writtenResult (texts.Full number) = refusal number 0
 
 -- records written as lines
 abbrev pub linesResult : WroteLines → J8Result
-linesResult (Wrote n) = done n
-linesResult (Refused number) = refusal number 0
+linesResult (lines.Wrote n) = done n
+linesResult (lines.Refused number) = refusal number 0

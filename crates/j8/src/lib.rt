@@ -1,9 +1,9 @@
 // The C interface: include/j8.h has each function's words for a caller.
 ghost use mathlib.Core.Path.{_≡_};
 ghost use lib.ListN.{length};
-ghost use Rattle.strings.specs.Read.{readText, readInto};
-ghost use Rattle.strings_write.specs.Write.{writeString, wroteInto};
-ghost use Rattle.j8.specs.Results.{readResult, writeResult, linesResult};
+ghost use Rattle.strings.specs.Read.{readText, readInto, decodedOf};
+ghost use Rattle.strings_write.specs.Write.{writeString, writtenIn, wroteInto};
+ghost use Rattle.j8.specs.Results.{decodedResult, writtenResult, linesResult};
 ghost use Rattle.lines_write.specs.Write.{wroteLines, linesInto};
 use lines_write::write::WroteLines;
 use strings::answers::Decoded;
@@ -24,7 +24,7 @@ pub struct J8Result {
 
 #[no_mangle]
 pub extern "C" fn j8_string_read(text: &[u8], out: &mut [u8]) -> J8Result
-    ensures answer { λ r. ⌜ r ≡ readResult (readText (length (now (out .entry))) (now (text .entry))) ⌝ }
+    ensures answer { λ r. ⌜ r ≡ decodedResult (decodedOf (readText (length (now (out .entry))) (now (text .entry)))) ⌝ }
     ensures stored { λ r. ⌜ now (out .exit) ≡ readInto (readText (length (now (out .entry))) (now (text .entry))) (now (out .entry)) ⌝ }
 {
     let decoded = read::read(text, out);
@@ -44,7 +44,7 @@ pub extern "C" fn j8_string_read(text: &[u8], out: &mut [u8]) -> J8Result
 
 #[no_mangle]
 pub extern "C" fn j8_string_write(data: &[u8], out: &mut [u8]) -> J8Result
-    ensures answer { λ r. ⌜ r ≡ writeResult (length (now (out .entry))) (writeString (now («data» .entry))) ⌝ }
+    ensures answer { λ r. ⌜ r ≡ writtenResult (writtenIn (length (now (out .entry))) (writeString (now («data» .entry)))) ⌝ }
     ensures stored { λ r. ⌜ now (out .exit) ≡ wroteInto (writeString (now («data» .entry))) (now (out .entry)) ⌝ }
 {
     let written = write::write(data, out);

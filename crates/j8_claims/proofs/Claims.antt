@@ -12,9 +12,9 @@ use Rattle.upload_claims.specs.Claims.{Finished, firstRefusal}
 use Rattle.upload_claims.proofs.Claims.{every-list-of-calls, pieces-do-not-matter, records-after-finish}
 use Rattle.j8.specs.Uploads.{answerOf}
 use Rattle.j8_claims.specs.Runs.{ranCall}
-use Rattle.j8_claims.specs.Claims.{Every-List-Of-C-Calls, C-Pieces-Do-Not-Matter, C-Records-After-Finish, C-Strings-Return, C-Tables-Return}
+use Rattle.j8_claims.specs.Claims.{Every-List-Of-C-Calls, C-Pieces-Do-Not-Matter, C-Records-After-Finish, C-Strings-Return, C-Lines-Return, C-Tables-Return}
 use Rattle.j8_claims.proofs.Lists.{run-back, answers-back, handed-back}
-use Rattle.j8_claims.proofs.Returned.{string-returned, table-returned}
+use Rattle.j8_claims.proofs.Returned.{string-returned, lines-returned, table-returned}
 
 pub every-list-of-c-calls : Every-List-Of-C-Calls
 every-list-of-c-calls cs line out h = (
@@ -32,6 +32,9 @@ c-records-after-finish cs line out h f =
 
 pub c-strings-return : C-Strings-Return
 c-strings-return = string-returned
+
+pub c-lines-return : C-Lines-Return
+c-lines-return records text cs line out l b e h = lines-returned records text e h cs line out l b
 
 pub c-tables-return : C-Tables-Return
 c-tables-return = table-returned

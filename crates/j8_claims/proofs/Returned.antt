@@ -1,17 +1,18 @@
 -- What one C function writes and another reads: the text stands in front of the buffer, as long as the result says.
 -- Assumes nothing.
 use Prim.Native.Nat.{ℕ, _/_, _≤_}
+use mathlib.Core.Bool.{true}
 use mathlib.Core.List.{List, [], _++_}
-use mathlib.Core.Path.{_≡_, refl, sym, ap, _∙_}
+use mathlib.Core.Path.{_≡_, refl, sym, ap, _∙_, subst}
 use borrow.Author.Tests.{le-leb}
 use lib.Dec.{leb}
 use lib.ListN.{length, take, drop}
 use lib.Seq.{take-append-seam}
 use Rattle.prelude.specs.Bytes.{IsBytes}
-use Rattle.prelude.specs.Limits.{textMax}
+use Rattle.prelude.specs.Limits.{textMax, lineMax, uploadMax}
 use Rattle.prelude.specs.Pick.{pick}
 use Rattle.strings.specs.Read.{readText}
-use Rattle.strings_write.specs.Write.{writeString, wroteInto}
+use Rattle.strings_write.specs.Write.{writeString, writtenIn, wroteInto}
 use Rattle.string_claims.proofs.Claims.{written-reads-back}
 use Rattle.json8.specs.Read.{readOf, parsedOf}
 use Rattle.trees.specs.Trees.{Tree, render}
@@ -19,10 +20,18 @@ use Rattle.trees.specs.Tables.{just, nodesIn, treeOf}
 use Rattle.trees.specs.Sizes.{sizeOf, storeOf}
 use Rattle.trees.proofs.Claims.{written-table-reads-back}
 use Rattle.json8_write.specs.Write.{wroteTree, treeInto}
-use Rattle.j8.specs.Results.{done, writeResult}
+use Rattle.lines_write.specs.Write.{rightRecords, writeQuoted, wroteLines, linesInto}
+use Rattle.replay.specs.Lines.{cut}
+use Rattle.replay.specs.Lists.{Call, run, began, joined, finished}
+use Rattle.upload_claims.specs.Claims.{Within, EndedWith}
+use Rattle.upload_claims.proofs.Claims.{written-lines-read-back}
+use Rattle.j8.specs.declared.J8Result.{J8Result}
+use Rattle.j8.specs.Results.{done, writtenResult, linesResult}
 use Rattle.j8.specs.Tables.{nodesResult, tableResult}
-use Rattle.j8_claims.specs.Runs.{stringWrite, stringRead, json8Write, json8Read}
-use Rattle.j8_claims.specs.Claims.{StringReturned, TableReturned}
+use Rattle.j8.specs.Uploads.{given}
+use Rattle.j8_claims.specs.Runs.{stringWrite, stringRead, linesWrite, json8Write, json8Read, RanCall, runC, beganC}
+use Rattle.j8_claims.specs.Claims.{StringReturned, LinesReturned, TableReturned}
+use Rattle.j8_claims.proofs.Lists.{run-back, handed-back}
 
 -- a text that fits stands in front, and the rest is as it was
 wrote : (text out : List ℕ) → length text ≤ length out → wroteInto text out ≡ text ++ drop (length text) out
@@ -32,8 +41,8 @@ wrote text out h = rw (le-leb (length text) (length out) h)
 front : (text out : List ℕ) → length text ≤ length out → take (length text) (wroteInto text out) ≡ text
 front text out h = ap (take (length text)) (wrote text out h) ∙ take-append-seam text (drop (length text) out)
 
-write-done : (text : List ℕ) (room : ℕ) → length text ≤ room → writeResult room text ≡ done (length text)
-unfolding writeResult pick
+write-done : (text : List ℕ) (room : ℕ) → length text ≤ room → writtenResult (writtenIn room text) ≡ done (length text)
+unfolding writtenIn pick
 write-done text room h = rw (le-leb (length text) room h)
 
 pub string-returned :
@@ -44,6 +53,28 @@ string-returned bytes out into b h k l =
     let f = front (writeString bytes) out h in
     let r = written-reads-back (length into) bytes b k l in
     record { wrote = w; read = rw (w, f, r); same = rw (w, f, r) }
+
+module _ (records text : List ℕ) (e : rightRecords 0 records ≡ true) (h : length (writeQuoted records) ≤ length text) where
+  lines-done : linesResult (wroteLines (length text) records) ≡ done (length (writeQuoted records))
+  unfolding wroteLines pick
+  lines-done = rw (e, le-leb (length (writeQuoted records)) (length text) h)
+
+  lines-front : take (length (writeQuoted records)) (linesInto records text) ≡ writeQuoted records
+  unfolding linesInto pick
+  lines-front =
+      rw (e, le-leb (length (writeQuoted records)) (length text) h) (take-append-seam (writeQuoted records) (drop (length (writeQuoted records)) text))
+
+  pub lines-returned :
+      (cs : List Call) (line out : List ℕ) → lineMax ≤ length line → IsBytes records
+      → joined cs ≡ take (linesWrite records text .result .length) (linesWrite records text .out) → finished cs ≡ true
+      → Within lineMax (cut (writeQuoted records) .closed) → length (writeQuoted records) ≤ uploadMax → length records ≤ length out
+      → LinesReturned records (linesWrite records text) (runC (beganC line out) cs) out
+  lines-returned cs line out l b j f w u r =
+      let p : joined cs ≡ writeQuoted records = j ∙ ap (λ (r : J8Result). take (r .length) (linesInto records text)) lines-done ∙ lines-front in
+      let q : given (runC (beganC line out) cs .fed .upload) (runC (beganC line out) cs .line) (runC (beganC line out) cs .out)
+      ≡ run (began line out) cs .lent =
+      ap (λ (r : RanCall). given (r .fed .upload) (r .line) (r .out)) (run-back (began line out) cs) ∙ handed-back (run (began line out) cs) in
+      record { wrote = lines-done; read = subst (EndedWith records out) (sym q) (written-lines-read-back records cs line out l b e p f w u r) }
 
 table-done : (t : Tree) (room : ℕ) → length (render t) ≤ room → tableResult (wroteTree room (just t)) ≡ done (length (render t))
 unfolding pick

@@ -6,17 +6,18 @@ use mathlib.Core.List.{List, [], _++_, map}
 use mathlib.Core.Path.{_≡_}
 use lib.ListN.{length, take, drop}
 use Rattle.prelude.specs.Bytes.{IsBytes}
-use Rattle.prelude.specs.Limits.{textMax, lineMax}
+use Rattle.prelude.specs.Limits.{textMax, lineMax, uploadMax}
 use Rattle.strings_write.specs.Write.{writeString}
 use Rattle.trees.specs.Trees.{Tree, render}
 use Rattle.trees.specs.Tables.{just, nodesIn, treeOf}
 use Rattle.trees.specs.Sizes.{sizeOf, storeOf}
+use Rattle.lines_write.specs.Write.{rightRecords, writeQuoted}
 use Rattle.replay.specs.Lists.{Call, began, joined, finished, defined}
-use Rattle.replay.specs.Lines.{j8Lines}
-use Rattle.upload_claims.specs.Claims.{definedAnswers, Finished, firstRefusal}
+use Rattle.replay.specs.Lines.{cut, j8Lines}
+use Rattle.upload_claims.specs.Claims.{definedAnswers, Finished, firstRefusal, EndedWith, Within}
 use Rattle.j8.specs.Results.{done}
 use Rattle.j8.specs.Uploads.{answerOf, given}
-use Rattle.j8_claims.specs.Runs.{Ran, stringWrite, stringRead, json8Write, RanNodes, json8Read, RanCall, ranCall, runC, beganC, answersC}
+use Rattle.j8_claims.specs.Runs.{Ran, stringWrite, stringRead, linesWrite, json8Write, RanNodes, json8Read, RanCall, ranCall, runC, beganC, answersC}
 
 -- Demand 3, of `j8_upload_feed` and `j8_upload_finish`: "Take any list of feeds and finishes of one J8 Lines upload, in any order, empty
 -- pieces and refused calls included. .. After every such list, the state and both buffers are exactly what the J8 Lines definition gives for
@@ -52,6 +53,20 @@ abbrev pub C-Strings-Return : Type 0
 C-Strings-Return =
     (bytes out into : List ℕ) → IsBytes bytes → length (writeString bytes) ≤ length out → length (writeString bytes) ≤ textMax → length bytes ≤ length into
     → StringReturned bytes (stringWrite bytes out) (stringRead (take (stringWrite bytes out .result .length) (stringWrite bytes out .out)) into) into
+
+-- records that `j8_lines_write` wrote in front of a buffer and that an upload read from there
+pub record LinesReturned (records : List ℕ) (written : Ran) (last : RanCall) (out : List ℕ) : Type 0 where
+  pub wrote : written .result ≡ done (length (writeQuoted records))
+  pub read : EndedWith records out (given (last .fed .upload) (last .line) (last .out))
+
+-- in any pieces, where each line, the text and the records stay within their limits
+abbrev pub C-Lines-Return : Type 0
+C-Lines-Return =
+    (records text : List ℕ) (cs : List Call) (line out : List ℕ) → lineMax ≤ length line → IsBytes records → rightRecords 0 records ≡ true
+    → length (writeQuoted records) ≤ length text
+    → joined cs ≡ take (linesWrite records text .result .length) (linesWrite records text .out) → finished cs ≡ true
+    → Within lineMax (cut (writeQuoted records) .closed) → length (writeQuoted records) ≤ uploadMax → length records ≤ length out
+    → LinesReturned records (linesWrite records text) (runC (beganC line out) cs) out
 
 -- a table that `j8_json8_write` wrote in front of a buffer and `j8_json8_read` read from there: the same tree, with its counts
 pub record TableReturned (t : Tree) (written : Ran) (back : RanNodes) : Type 0 where

@@ -3,11 +3,12 @@
 use Prim.Native.Nat.{ℕ, _/_}
 use mathlib.Core.List.{List, [], _∷_}
 use lib.ListN.{length}
-use Rattle.strings.specs.Read.{readText, readInto}
-use Rattle.strings_write.specs.Write.{writeString, wroteInto}
+use Rattle.strings.specs.Read.{readText, readInto, decodedOf}
+use Rattle.strings_write.specs.Write.{writeString, writtenIn, wroteInto}
 use Rattle.json8.specs.Read.{readOf, parsedOf, tableAfter, storeAfter}
 use Rattle.trees.specs.Tables.{nodesIn, treeOf}
 use Rattle.json8_write.specs.Write.{wroteTree, treeInto}
+use Rattle.lines_write.specs.Write.{wroteLines, linesInto}
 use Rattle.upload.specs.Calls.{fresh, zeros, Called, feed, finish}
 use Rattle.replay.specs.Lists.{Call, feeds, finishes}
 use Rattle.j8.specs.declared.J8Result.{J8Result}
@@ -15,7 +16,7 @@ use Rattle.j8.specs.declared.tables.J8Nodes.{J8Nodes}
 use Rattle.j8.specs.declared.uploads.J8Upload.{J8Upload}
 use Rattle.j8.specs.declared.uploads.J8Answer.{J8Answer}
 use Rattle.j8.specs.declared.uploads.J8Fed.{J8Fed}
-use Rattle.j8.specs.Results.{readResult, writeResult}
+use Rattle.j8.specs.Results.{decodedResult, writtenResult, linesResult}
 use Rattle.j8.specs.Tables.{nodesResult, tableResult}
 use Rattle.j8.specs.Uploads.{uploadOf, answerOf, given, fedOf}
 
@@ -26,11 +27,15 @@ pub record Ran : Type 0 where
 
 -- `j8_string_write(data, out)`
 abbrev pub stringWrite : List ℕ → List ℕ → Ran
-stringWrite bytes out = record { result = writeResult (length out) (writeString bytes); out = wroteInto (writeString bytes) out }
+stringWrite bytes out = record { result = writtenResult (writtenIn (length out) (writeString bytes)); out = wroteInto (writeString bytes) out }
 
 -- `j8_string_read(text, out)`
 abbrev pub stringRead : List ℕ → List ℕ → Ran
-stringRead text out = record { result = readResult (readText (length out) text); out = readInto (readText (length out) text) out }
+stringRead text out = record { result = decodedResult (decodedOf (readText (length out) text)); out = readInto (readText (length out) text) out }
+
+-- `j8_lines_write(records, out)`
+abbrev pub linesWrite : List ℕ → List ℕ → Ran
+linesWrite records out = record { result = linesResult (wroteLines (length out) records); out = linesInto records out }
 
 -- `j8_json8_write(table, text, store, out)`
 abbrev pub json8Write : List ℕ → List ℕ → List ℕ → List ℕ → Ran

@@ -32,6 +32,7 @@ fn run_table(verb: u8, row: &[u8]) {
 fn is_text_call(name: &[u8]) -> bool {
     same(name, b"string_read")
         || same(name, b"token_read")
+        || same(name, b"line_read")
         || same(name, b"string_write")
         || same(name, b"bytes_write")
         || same(name, b"lines_write")

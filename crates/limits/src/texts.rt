@@ -3,6 +3,7 @@ ghost use mathlib.Core.Path.{_≡_};
 ghost use lib.ListN.{length};
 use crate::fields;
 use crate::show;
+use lines::read::Line;
 use lines_write::write::WroteLines;
 use strings::answers::Decoded;
 use strings::answers::Token;
@@ -30,6 +31,15 @@ fn print_token(answer: Token) {
     }
 }
 
+// With the payload's kind.
+fn print_line(answer: Line) {
+    match answer {
+        Line::Ignored => show::four(0, 0, 0, 0),
+        Line::Holds(kind, n) => show::four(0, 0, n, kind as usize),
+        Line::Refused(number, place) => show::four(number as usize, place, 0, 0),
+    }
+}
+
 fn print_written(answer: Written) {
     match answer {
         Written::Wrote(n) => show::three(0, 0, n),
@@ -50,6 +60,10 @@ fn read(text: &[u8], out: &mut [u8]) {
 
 fn read_token(text: &[u8], out: &mut [u8]) {
     print_token(strings::read::read_token(text, out));
+}
+
+fn read_line(line: &[u8], out: &mut [u8]) {
+    print_line(lines::read::read(line, out));
 }
 
 fn write(data: &[u8], out: &mut [u8]) {
@@ -80,6 +94,9 @@ fn answer(object: u8, verb: u8, text: &[u8], out: &mut [u8]) {
     }
     if object == b't' {
         return read_token(text, out);
+    }
+    if object == b'l' {
+        return read_line(text, out);
     }
     read(text, out);
 }

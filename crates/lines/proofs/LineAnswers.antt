@@ -9,6 +9,7 @@ use lib.Dec.{ltb}
 use borrow.Author.Tests.{lt-ltb, le-ltb}
 use lib.ListN.{length, take, drop, length-append, length-take}
 use lib.Seq.{sets, take-length, take-append-seam}
+use Rattle.prelude.specs.Limits.{lineMax}
 use Rattle.prelude.specs.Pick.{pick}
 use Rattle.prelude.proofs.Cases.{split, never}
 use Rattle.prelude.proofs.Stores.{sets-over}
@@ -28,7 +29,7 @@ use Rattle.lines.specs.declared.bare.Checked.the-variants.{Fine, Faulty}
 use Rattle.lines.specs.declared.read.Line.{Line}
 use Rattle.lines.specs.declared.read.Line.the-variants.{Ignored, Holds, Refused}
 use Rattle.lines.specs.Line.{LineRead, ignored, holds, faulty, bare, kindOf, fromString, fromBare, byOpening, readStripped, shifted, leads, trimmed, readLine}
-use Rattle.lines.specs.Answers.{fittedLine, lineAnswer, lineInto}
+use Rattle.lines.specs.Answers.{fittedLine, readLineText, lineOf, lineInto}
 use Rattle.lines.specs.inner.Told.{Told}
 use Rattle.lines.proofs.LineEnds.{strip-part, strip-inside}
 use Rattle.lines.proofs.Refusing.{LineFault, stripped-fault}
@@ -198,7 +199,7 @@ module _ (a m : ℕ) (out new : List ℕ) where
 
 -- the two equations of `Told`, which a call's contract has one by one
 abbrev Parts : LineRead → Line → List ℕ → List ℕ → Type 0
-Parts v r out new = (r ≡ lineAnswer (fittedLine (length out) v)) × (new ≡ lineInto (fittedLine (length out) v) out)
+Parts v r out new = (r ≡ lineOf (fittedLine (length out) v)) × (new ≡ lineInto (fittedLine (length out) v) out)
 
 parts : (v : LineRead) (r : Line) (out new : List ℕ) → Told v r out new → Parts v r out new
 parts v r out new t = (t .answer, t .stored)
@@ -241,3 +242,15 @@ module _ (l out : List ℕ) (a n : ℕ) (ea : a ≡ leads l) (en : n ≡ length 
     pub place-inside : (number place : ℕ) → r ≡ Refused number place → (number ≡ 12 → ⊥) → a + place ≤ length l
     place-inside number place e z =
         omega (arith, as-faulty a (length part) out new (readStripped part) r number place (stripped-fault part) t e z .1, part-length, strip-inside l a n ea en .1)
+
+-- the cap
+pub too-long : (l out : List ℕ) → lineMax < length l
+    → (Refused 2 lineMax ≡ lineOf (readLineText (length out) l)) × (out ≡ lineInto (readLineText (length out) l) out)
+unfolding readLineText pick
+too-long l out h = rw (lt-ltb lineMax (length l) h) (refl, refl)
+
+pub short-enough : (l out new : List ℕ) (r : Line) → length l ≤ lineMax
+    → (r ≡ lineOf (fittedLine (length out) (readLine l))) × (new ≡ lineInto (fittedLine (length out) (readLine l)) out)
+    → (r ≡ lineOf (readLineText (length out) l)) × (new ≡ lineInto (readLineText (length out) l) out)
+unfolding readLineText pick
+short-enough l out new r h t = rw (le-ltb lineMax (length l) h) t

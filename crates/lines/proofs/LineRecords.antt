@@ -15,7 +15,7 @@ use Rattle.prelude.proofs.Cases.{split, never}
 use Rattle.lines.specs.declared.read.Line.{Line}
 use Rattle.lines.specs.declared.read.Line.the-variants.{Ignored, Holds, Refused}
 use Rattle.lines.specs.Line.{LineRead, ignored, holds, faulty, readLine}
-use Rattle.lines.specs.Answers.{fittedLine, lineAnswer, lineInto}
+use Rattle.lines.specs.Answers.{fittedLine, lineOf, lineInto}
 use Rattle.lines.specs.inner.Told.{Told}
 use Rattle.lines.specs.Records.{head, recordOf, recordBy, lineRecord, Fault, none, refuse, faultBy, lineFault, putAt, Appended, appendBy, appendLine}
 
@@ -148,7 +148,7 @@ module _ (out : List ℕ) (used from : ℕ) (le : used ≤ length out) (ef : fro
       (bs, (ap (λ (m : ℕ). holds m bs) a, (c, (ltb-false _ _ b, t .stored ∙ rw b)))))
   holds-is (faulty m q) r new k n t e = let z : Refused m q ≡ Holds k n = sym (t .answer) ∙ e in never (cc)
 
-  module _ (l new : List ℕ) (r : Line) (p : (r ≡ lineAnswer (fittedLine (length part) (readLine l))) × (new ≡ lineInto (fittedLine (length part) (readLine l)) part)) where
+  module _ (l new : List ℕ) (r : Line) (p : (r ≡ lineOf (fittedLine (length part) (readLine l))) × (new ≡ lineInto (fittedLine (length part) (readLine l)) part)) where
     t : Told (readLine l) r part new
     t = record { answer = p .0; stored = p .1 }
 

@@ -7,11 +7,12 @@ ghost use Rattle.runs.specs.inner.Blocks.{Running};
 ghost use Rattle.strings.specs.Read.{opens, opening, readString};
 ghost use Rattle.strings.specs.inner.Turns.{Closed};
 ghost use Rattle.lines.specs.Line.{bare, kindOf, fromString, fromBare, readStripped, readLine};
-ghost use Rattle.lines.specs.Answers.{fittedLine, lineAnswer, lineInto};
+ghost use Rattle.lines.specs.Answers.{fittedLine, readLineText, lineOf, lineInto};
 ghost use Rattle.lines.specs.inner.Told.{Told};
 use crate::bare;
 use crate::bare::Checked;
 use crate::strip;
+use prelude::limits::LINE_MAX;
 use prelude::refusals;
 use prelude::slices;
 use runs::blocks;
@@ -111,9 +112,10 @@ fn read_stripped(s: &[u8], out: &mut [u8]) -> Line
     }
 }
 
-// Reads a line, without its LF: the string's bytes in front of out, or out as it was. Places are those of the line as it stands.
-pub fn read_line(l: &[u8], out: &mut [u8]) -> Line
-    ensures answer { λ r. ⌜ r ≡ lineAnswer (fittedLine (length (now (out .entry))) (readLine (now (l .entry)))) ⌝ }
+// Reads a line of any length, without its LF: the string's bytes in front of out, or out as it was. Places are those of the line as it
+// stands.
+pub(crate) fn read_line(l: &[u8], out: &mut [u8]) -> Line
+    ensures answer { λ r. ⌜ r ≡ lineOf (fittedLine (length (now (out .entry))) (readLine (now (l .entry)))) ⌝ }
     ensures stored { λ r. ⌜ now (out .exit) ≡ lineInto (fittedLine (length (now (out .entry))) (readLine (now (l .entry)))) (now (out .entry)) ⌝ }
 {
     let a = strip::lead(l);
@@ -132,4 +134,15 @@ pub fn read_line(l: &[u8], out: &mut [u8]) -> Line
             Line::Refused(number, a + place)
         }
     }
+}
+
+// Reads a line, without its LF, of at most 1,024 bytes.
+pub fn read(l: &[u8], out: &mut [u8]) -> Line
+    ensures answer { λ r. ⌜ r ≡ lineOf (readLineText (length (now (out .entry))) (now (l .entry))) ⌝ }
+    ensures stored { λ r. ⌜ now (out .exit) ≡ lineInto (readLineText (length (now (out .entry))) (now (l .entry))) (now (out .entry)) ⌝ }
+{
+    if LINE_MAX < l.len() {
+        return Line::Refused(refusals::TOO_LONG, LINE_MAX);
+    }
+    read_line(l, out)
 }

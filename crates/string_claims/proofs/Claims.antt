@@ -1,7 +1,7 @@
 -- The claims of specs/Claims.antt, each from the law that has it.
 -- Assumes nothing.
 use mathlib.Core.List.{[]}
-use mathlib.Core.Path.{refl}
+use mathlib.Core.Path.{_≡_, refl, sym, ap}
 use native.Mathlib.Omega.{arith}
 use lib.Dec.{lit≤}
 use Rattle.prelude.specs.Pick.{pick}
@@ -12,9 +12,10 @@ use Rattle.units.specs.Hex.{hexVal, hexDigits, hexFrom}
 use Rattle.units.specs.Escapes.{lookup, lowHalf, codeUnit, fourDigits, scalar, braced, rawByte, escape}
 use Rattle.units.specs.Units.{unitAt}
 use Rattle.units.proofs.Sizes.{took-size}
-use Rattle.strings.specs.Read.{readUnits, opening, readToken, readString}
+use Rattle.strings.specs.declared.answers.Token.the-variants.{Ended, Failed}
+use Rattle.strings.specs.Read.{readUnits, opening, readToken, readString, TokenNumbers}
 use Rattle.strings_write.specs.Write.{writeBytes, writeString}
-use Rattle.string_claims.specs.Claims.{examples, Example-Strings, Written-Reads-Back, Bytes-Form-Reads-Back, Written-Token-Reads-Back, Bytes-Form-Token-Reads-Back, Ends-At-Its-Quote, Unicode-Is-Utf8, Unicode-Token-Is-Utf8, Writer-Is-Injective, Written-Is-One-Line, Bytes-Form-Is-One-Line, Places-Inside, Cut-Off-At-End, Units-Progress, Written-Length, Read-Length}
+use Rattle.string_claims.specs.Claims.{examples, Example-Strings, Written-Reads-Back, Bytes-Form-Reads-Back, Written-Token-Reads-Back, Bytes-Form-Token-Reads-Back, Ends-At-Its-Quote, Unicode-Is-Utf8, Unicode-Token-Is-Utf8, Writer-Is-Injective, Written-Is-One-Line, Bytes-Form-Is-One-Line, Places-Inside, Cut-Off-At-End, Units-Progress, Written-Length, Read-Length, Tokens-Tell-All}
 use Rattle.string_claims.proofs.Ends.{token-cut}
 use Rattle.string_claims.proofs.RoundTrip.{quoted-back, token-back, text-back, write-injective}
 use Rattle.strings.proofs.Places.{string-inside, text-inside}
@@ -71,3 +72,13 @@ written-length = write-length
 
 pub read-length : Read-Length
 read-length s bs e r = omega (arith, rw r at (string-length s), rw r at (string-inside s))
+
+pub tokens-tell-all : Tokens-Tell-All
+tokens-tell-all (Ended e n) (Ended f m) x y p =
+    let a : e ≡ f = ap (λ (r : TokenNumbers). r .end) p in
+    let b : n ≡ m = ap (λ (r : TokenNumbers). r .size) p in λ i. Ended (a i) (b i)
+tokens-tell-all (Ended e n) (Failed number at) x y p = absurd (y (sym (ap (λ (r : TokenNumbers). r .number) p)))
+tokens-tell-all (Failed number at) (Ended e n) x y p = absurd (x (ap (λ (r : TokenNumbers). r .number) p))
+tokens-tell-all (Failed number at) (Failed other q) x y p =
+    let a : number ≡ other = ap (λ (r : TokenNumbers). r .number) p in
+    let b : at ≡ q = ap (λ (r : TokenNumbers). r .place) p in λ i. Failed (a i) (b i)

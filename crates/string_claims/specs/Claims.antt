@@ -14,7 +14,9 @@ use Rattle.units.specs.declared.styles.Style.{Style}
 use Rattle.units.specs.declared.styles.Style.the-variants.{Unicode}
 use Rattle.units.specs.Styles.{took}
 use Rattle.units.specs.Units.{unitAt}
-use Rattle.strings.specs.Read.{StringRead, accepted, refused, opens, opening, readToken, readString, readText}
+use Rattle.strings.specs.declared.answers.Token.{Token}
+use Rattle.strings.specs.declared.answers.Token.the-variants.{Ended, Failed}
+use Rattle.strings.specs.Read.{StringRead, accepted, refused, opens, opening, readToken, readString, readText, tokenNumbers}
 use Rattle.prelude.specs.Limits.{textMax}
 use Rattle.strings_write.specs.Write.{writeBytes, writeString}
 
@@ -104,3 +106,12 @@ Written-Length = (s : List ℕ) → length (writeString s) ≤ 6 * length s + 2
 -- a text denotes no more bytes than it has
 abbrev pub Read-Length : Type 0
 Read-Length = (s bs : List ℕ) (e : ℕ) → readString s ≡ accepted bs e → length bs ≤ length s
+
+-- a refusal has a number other than 0
+abbrev pub TokenNumbered : Token → Type 0
+TokenNumbered (Ended e n) = Unit
+TokenNumbered (Failed number at) = number ≡ 0 → ⊥
+
+-- an enum's numbers lose nothing of it: one set of numbers, one answer
+abbrev pub Tokens-Tell-All : Type 0
+Tokens-Tell-All = (v w : Token) → TokenNumbered v → TokenNumbered w → tokenNumbers v ≡ tokenNumbers w → v ≡ w

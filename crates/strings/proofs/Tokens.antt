@@ -6,12 +6,13 @@ use mathlib.Core.Path.{_≡_, refl, sym, ap, _∙_, subst}
 use native.Mathlib.Omega.{arith}
 use borrow.Author.Tests.{lt-ltb, le-ltb}
 use lib.ListN.{length}
+use Rattle.prelude.specs.Limits.{textMax}
 use Rattle.prelude.specs.Pick.{pick}
 use Rattle.prelude.proofs.Cases.{never}
 use Rattle.prelude.proofs.Stores.{sets-over, empty-front}
 use Rattle.strings.specs.declared.answers.Token.{Token}
 use Rattle.strings.specs.declared.answers.Token.the-variants.{Ended, Failed}
-use Rattle.strings.specs.Read.{StringRead, accepted, refused, fitted, tokenOf, readInto}
+use Rattle.strings.specs.Read.{StringRead, accepted, refused, fitted, tokenOf, readInto, readToken, readTextToken}
 use Rattle.strings.proofs.UnitBytes.{Stored}
 
 abbrev Told : StringRead → List ℕ → Token → List ℕ → Type 0
@@ -50,3 +51,14 @@ module _ (out : List ℕ) (v : StringRead) (r : Token) (i : r ≡ tokenOf v) (l 
 
     pub token-good : (new : List ℕ) → count ≤ length (l ++ out) → Stored v (l ++ out) new → Told v out (Ended end count) new
     token-good new h p = good out v end count new (sym i ∙ e) (rw same at h) (subst (λ (o : List ℕ). Stored v o new) same p)
+
+-- the cap
+pub long : (s out : List ℕ) → textMax < length s
+    → (Failed 2 0 ≡ tokenOf (readTextToken (length out) s)) × (out ≡ readInto (readTextToken (length out) s) out)
+unfolding readTextToken pick
+long s out h = rw (lt-ltb textMax (length s) h) (refl, refl)
+
+pub within : (s out new : List ℕ) (r : Token) → length s ≤ textMax → Told (readToken s) out r new
+    → (r ≡ tokenOf (readTextToken (length out) s)) × (new ≡ readInto (readTextToken (length out) s) out)
+unfolding readTextToken pick
+within s out new r h t = rw (le-ltb textMax (length s) h) t

@@ -81,6 +81,10 @@ fitted room (refused number at) = refused number at
 unfoldable pub readText : ℕ → List ℕ → StringRead
 readText room s = pick (ltb textMax (length s)) (refused tooLong 0) (fitted room (readString s))
 
+-- the string that a text begins with, under the same cap and in the same order
+unfoldable pub readTextToken : ℕ → List ℕ → StringRead
+readTextToken room s = pick (ltb textMax (length s)) (refused tooLong 0) (fitted room (readToken s))
+
 -- the code's answers
 abbrev pub decodedOf : StringRead → Decoded
 decodedOf (accepted bs e) = Done (length bs)
@@ -89,6 +93,18 @@ decodedOf (refused number at) = Refused number at
 abbrev pub tokenOf : StringRead → Token
 tokenOf (accepted bs e) = Ended e (length bs)
 tokenOf (refused number at) = Failed number at
+
+-- a token's answer in document 01's numbers: the refusal's number and place, the place behind the string and its length; 0 for what doesn't
+-- apply
+pub record TokenNumbers : Type 0 where
+  pub number : ℕ
+  pub place : ℕ
+  pub end : ℕ
+  pub size : ℕ
+
+abbrev pub tokenNumbers : Token → TokenNumbers
+tokenNumbers (Ended e n) = record { number = 0; place = 0; end = e; size = n }
+tokenNumbers (Failed number at) = record { number = number; place = at; end = 0; size = 0 }
 
 -- what a buffer holds afterwards: the bytes denoted in front of what was there; "a refused text leaves the lent result as it was"
 abbrev pub readInto : StringRead → List ℕ → List ℕ

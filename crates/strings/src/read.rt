@@ -8,7 +8,7 @@ ghost use Rattle.utf8.specs.Class.{IsTable};
 ghost use Rattle.utf8.specs.Utf8.{fewOf};
 ghost use Rattle.runs.specs.inner.Blocks.{Running};
 ghost use Rattle.units.specs.Units.{unitAt, literalRun};
-ghost use Rattle.strings.specs.Read.{opening, readUnits, readToken, readString, readText, fitted, decodedOf, tokenOf, readInto};
+ghost use Rattle.strings.specs.Read.{opening, readUnits, readToken, readString, readText, readTextToken, fitted, decodedOf, tokenOf, readInto};
 ghost use Rattle.strings.specs.inner.Turns.{openingOf, readBehind, unitTurn, unitBytes, turnOf, turnBytes, unitsBytes, tokenBytes, Closed};
 use crate::answers::Decoded;
 use crate::answers::Token;
@@ -191,8 +191,8 @@ fn token(t: &[u8; 256], s: &[u8], out: &mut [u8]) -> Token
     }
 }
 
-// Reads the J8 string that a text begins with, whatever follows it: its bytes in front of out, or a refusal and out as it was.
-pub fn read_token(s: &[u8], out: &mut [u8]) -> Token
+// The same of a text of any length: its bytes in front of out, or a refusal and out as it was.
+fn read_first(s: &[u8], out: &mut [u8]) -> Token
     ensures answer { λ r. ⌜ r ≡ tokenOf (fitted (length (now (out .entry))) (readToken (now (s .entry)))) ⌝ }
     ensures stored { λ r. ⌜ now (out .exit) ≡ readInto (fitted (length (now (out .entry))) (readToken (now (s .entry)))) (now (out .entry)) ⌝ }
 {
@@ -208,6 +208,17 @@ pub fn read_token(s: &[u8], out: &mut [u8]) -> Token
         }
         Token::Failed(number, place) => Token::Failed(number, place),
     }
+}
+
+// Reads the J8 string that a text begins with, whatever follows it.
+pub fn read_token(text: &[u8], out: &mut [u8]) -> Token
+    ensures answer { λ r. ⌜ r ≡ tokenOf (readTextToken (length (now (out .entry))) (now (text .entry))) ⌝ }
+    ensures stored { λ r. ⌜ now (out .exit) ≡ readInto (readTextToken (length (now (out .entry))) (now (text .entry))) (now (out .entry)) ⌝ }
+{
+    if TEXT_MAX < text.len() {
+        return Token::Failed(refusals::TOO_LONG, 0);
+    }
+    read_first(text, out)
 }
 
 // The general case of a whole text: once to judge it, and once more to store its bytes.

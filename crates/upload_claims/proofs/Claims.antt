@@ -2,14 +2,16 @@
 -- Assumes nothing.
 use Prim.Native.Nat.{_≤_}
 use mathlib.Core.List.{[], _∷_}
-use mathlib.Core.Path.{refl, ap}
+use mathlib.Core.Path.{_≡_, refl, sym, ap}
 use native.Mathlib.Omega.{arith}
 use lib.ListN.{length}
 use Rattle.prelude.specs.Limits.{lineMax}
+use Rattle.lines.specs.declared.read.Line.the-variants.{Ignored, Holds, Refused}
+use Rattle.lines.specs.Answers.{LineNumbers}
 use Rattle.upload.specs.Calls.{Called}
 use Rattle.replay.specs.Lists.{feeds, finishes, run, began, joined, finished, defined}
 use Rattle.replay.proofs.WholeList.{whole-list}
-use Rattle.upload_claims.specs.Claims.{Every-List-Of-Calls, Pieces-Do-Not-Matter, Records-After-Finish, Written-Lines-Read-Back, Every-List-Is-Encoded, Whole-Case, Handing-On-Changes-Nothing, caseText, Unicode-Lines-Are-Utf8}
+use Rattle.upload_claims.specs.Claims.{Every-List-Of-Calls, Pieces-Do-Not-Matter, Records-After-Finish, Written-Lines-Read-Back, Every-List-Is-Encoded, Whole-Case, Handing-On-Changes-Nothing, caseText, Unicode-Lines-Are-Utf8, Lines-Tell-All}
 use Rattle.upload_claims.proofs.UnicodeLines.{unicode-line}
 use Rattle.upload_claims.proofs.Answers.{each-answer, same-pieces}
 use Rattle.upload_claims.proofs.CaseComputed.{case-state, case-out}
@@ -52,3 +54,18 @@ handing-on-changes-nothing = handing-on
 
 pub unicode-lines-are-utf8 : Unicode-Lines-Are-Utf8
 unicode-lines-are-utf8 = unicode-line
+
+pub lines-tell-all : Lines-Tell-All
+lines-tell-all Ignored Ignored x y p = refl
+lines-tell-all Ignored (Holds kind n) x y p = absurd (y (sym (ap (λ (r : LineNumbers). r .kind) p)))
+lines-tell-all Ignored (Refused number at) x y p = absurd (y (sym (ap (λ (r : LineNumbers). r .number) p)))
+lines-tell-all (Holds kind n) Ignored x y p = absurd (x (ap (λ (r : LineNumbers). r .kind) p))
+lines-tell-all (Holds kind n) (Holds other m) x y p =
+    let a : kind ≡ other = ap (λ (r : LineNumbers). r .kind) p in
+    let b : n ≡ m = ap (λ (r : LineNumbers). r .size) p in λ i. Holds (a i) (b i)
+lines-tell-all (Holds kind n) (Refused number at) x y p = absurd (y (sym (ap (λ (r : LineNumbers). r .number) p)))
+lines-tell-all (Refused number at) Ignored x y p = absurd (x (ap (λ (r : LineNumbers). r .number) p))
+lines-tell-all (Refused number at) (Holds kind n) x y p = absurd (x (ap (λ (r : LineNumbers). r .number) p))
+lines-tell-all (Refused number at) (Refused other q) x y p =
+    let a : number ≡ other = ap (λ (r : LineNumbers). r .number) p in
+    let b : at ≡ q = ap (λ (r : LineNumbers). r .place) p in λ i. Refused (a i) (b i)

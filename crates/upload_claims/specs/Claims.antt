@@ -12,6 +12,9 @@ use Rattle.prelude.specs.Refusals.{noRoom}
 use Rattle.utf8.specs.Utf8.{validUtf8}
 use Rattle.units.specs.declared.styles.Style.the-variants.{Unicode}
 use Rattle.strings.specs.Read.{opens, opening}
+use Rattle.lines.specs.declared.read.Line.{Line}
+use Rattle.lines.specs.declared.read.Line.the-variants.{Ignored, Holds, Refused}
+use Rattle.lines.specs.Answers.{lineNumbers}
 use Rattle.lines.specs.Line.{holds, strip, readLine}
 use Rattle.lines.specs.Records.{Fault, none, refuse}
 use Rattle.lines_write.specs.Write.{rightRecords, writeQuoted}
@@ -190,3 +193,13 @@ Handing-On-Changes-Nothing =
 abbrev pub Unicode-Lines-Are-Utf8 : Type 0
 Unicode-Lines-Are-Utf8 =
     (l bs : List ℕ) (n kind : ℕ) → opening (strip l) ≡ opens Unicode n → readLine l ≡ holds kind bs → (kind ≡ 1) × (validUtf8 bs ≡ true)
+
+-- a refusal has a number other than 0, and so has a kind
+abbrev pub LineNumbered : Line → Type 0
+LineNumbered Ignored = Unit
+LineNumbered (Holds kind n) = kind ≡ 0 → ⊥
+LineNumbered (Refused number at) = number ≡ 0 → ⊥
+
+-- an enum's numbers lose nothing of it: one set of numbers, one answer
+abbrev pub Lines-Tell-All : Type 0
+Lines-Tell-All = (v w : Line) → LineNumbered v → LineNumbered w → lineNumbers v ≡ lineNumbers w → v ≡ w

@@ -136,7 +136,7 @@ fn told(answer: Result<usize, Refusal>, out: &[u8]) -> String {
     }
 }
 
-/// The string that a text begins with: if more stands behind it, 11 tells where it ends.
+/// The string that a text begins with: if more stands behind it, 11 tells where it ends. A text that is too long is 2, whatever it begins with.
 fn token(text: &[u8], out: &mut [u8]) -> Result<(usize, usize), Refusal> {
     match j8_reference::read(text, out) {
         Err(Refusal { number: 11, place }) => Ok((j8_reference::read(&text[..place], out)?, place)),
@@ -149,6 +149,21 @@ fn token_read(text: &[u8], room: usize) -> String {
     match token(text, &mut out) {
         Ok((length, end)) => format!("0,0,{length},{end} {}", runs(&out)),
         Err(refusal) => format!("{},{},0,0 {}", refusal.number, refusal.place, runs(&out)),
+    }
+}
+
+/// A line's payload and its kind, from its record; "a line over 1,024" is 2 at 1,024.
+fn line_read(line: &[u8], room: usize) -> String {
+    let mut record = vec![0xaa; room + lines::RECORD_HEAD];
+    let answer = match line.len() > lines::LINE_MAX {
+        true => Err(Refusal { number: 2, place: lines::LINE_MAX }),
+        false => lines::read_line(line, &mut record),
+    };
+    let (head, payload) = record.split_at(lines::RECORD_HEAD);
+    match answer {
+        Ok(0) => format!("0,0,0,0 {}", runs(payload)),
+        Ok(length) => format!("0,0,{},{} {}", length - head.len(), head[2], runs(payload)),
+        Err(refusal) => format!("{},{},0,0 {}", refusal.number, refusal.place, runs(payload)),
     }
 }
 
@@ -216,6 +231,7 @@ fn answer(row: &str) -> String {
         "bytes_write" => into(j8_reference::write_bytes),
         "lines_write" => into(lines::write_lines),
         "token_read" => token_read(&bytes(field(1)), number(2)),
+        "line_read" => line_read(&bytes(field(1)), number(2)),
         "upload" => upload(number(1), number(2), field(3)),
         "json8_read" => json8_read(&bytes(field(1)), number(2), number(3)),
         "json8_show" => json8_show(&numbers(field(1)), &bytes(field(2)), &bytes(field(3)), number(4)),
