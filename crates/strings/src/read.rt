@@ -31,7 +31,7 @@ pub enum Mark {
 }
 
 // Behind a turn: the next place and the bytes stored so far; or the string's end and its length; or a refusal's number and place.
-pub(crate) enum Turned {
+enum Turned {
     On(usize, usize),
     Finish(usize, usize),
     Refuse(u32, usize),
