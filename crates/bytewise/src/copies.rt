@@ -5,7 +5,7 @@ ghost use lib.ListN.{length, take, drop};
 ghost use lib.Seq.{sets};
 
 // Stores eight bytes of s. All are read first, so that they are stored at once.
-pub fn copy_eight(s: &[u8], at: usize, o: usize, out: &mut [u8])
+pub(crate) fn copy_eight(s: &[u8], at: usize, o: usize, out: &mut [u8])
     requires { ⌜ (at + 8 ≤ length (now s)) × (o + 8 ≤ length (now out)) ⌝ }
     ensures { λ r. ⌜ now (out .exit) ≡ sets (now (out .entry)) o (take 8 (drop at (now (s .entry)))) ⌝ }
 {
@@ -28,7 +28,7 @@ pub fn copy_eight(s: &[u8], at: usize, o: usize, out: &mut [u8])
 }
 
 // The same of four bytes.
-pub fn copy_four(s: &[u8], at: usize, o: usize, out: &mut [u8])
+pub(crate) fn copy_four(s: &[u8], at: usize, o: usize, out: &mut [u8])
     requires { ⌜ (at + 4 ≤ length (now s)) × (o + 4 ≤ length (now out)) ⌝ }
     ensures { λ r. ⌜ now (out .exit) ≡ sets (now (out .entry)) o (take 4 (drop at (now (s .entry)))) ⌝ }
 {

@@ -66,7 +66,7 @@ pub fn member_size(table: &[u32], at: usize, sort: Sort) -> usize
 }
 
 // Whether a text is a number of this kind, all of it.
-pub fn is_legal(kind: u32, s: &[u8]) -> bool
+pub(crate) fn is_legal(kind: u32, s: &[u8]) -> bool
     requires { ⌜ 0 < kind ⌝ }
     ensures { λ r. ⌜ r ≡ eqb (numberKind (now (s .entry))) kind ⌝ }
 {

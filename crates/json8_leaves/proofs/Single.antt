@@ -18,7 +18,7 @@ use Rattle.units.specs.Units.{literalRun}
 use Rattle.strings.specs.declared.answers.Token.{Token}
 use Rattle.strings.specs.declared.answers.Token.the-variants.{Ended as TokenEnded, Failed}
 use Rattle.strings.specs.Read.{StringRead, accepted, refused as unread, readUnits, readToken, opens, opening, tokenOf}
-use Rattle.strings.specs.inner.Turns.{Stored}
+use Rattle.strings.proofs.UnitBytes.{Stored}
 use Rattle.strings.proofs.Places.{Inside, token-inside, Marked, opening-fits}
 use Rattle.strings.proofs.Steps.{read-skip}
 use Rattle.strings.proofs.Lengths.{Less, token-length}

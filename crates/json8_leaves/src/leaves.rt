@@ -61,7 +61,7 @@ pub fn comma_step(text: &[u8], at: usize, close: u8) -> Step
 }
 
 // A token of so many bytes that is its own text.
-pub fn plain_node(
+pub(crate) fn plain_node(
     text: &[u8],
     at: usize,
     n: usize,

@@ -103,7 +103,7 @@ fn label(
     }
 }
 
-pub fn value_node(
+pub(crate) fn value_node(
     t: &[u8; 256],
     text: &[u8],
     at: usize,

@@ -12,7 +12,7 @@ use utf8::chars;
 use utf8::classes;
 
 // Nothing wrong, or a refusal's number and place.
-pub enum Checked {
+pub(crate) enum Checked {
     Fine,
     Faulty(u32, usize),
 }
@@ -51,7 +51,7 @@ fn check_from(t: &[u8; 256], s: &[u8], from: usize) -> Checked
 
 // Whether a text is valid UTF-8 with no control but tab. What is literal in a string may stand bare, so blocks take the most of it; the
 // table is made only where they don't reach the end.
-pub fn check_bare(s: &[u8]) -> Checked
+pub(crate) fn check_bare(s: &[u8]) -> Checked
     ensures { λ r. ⌜ r ≡ bare (now (s .entry)) ⌝ }
 {
     let at = blocks::strides(s, 0, Style::Json);

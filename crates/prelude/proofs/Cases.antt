@@ -25,6 +25,10 @@ pub or-right : (a b : Bool) → a || b ≡ false → b ≡ false
 or-right true b e = let z : _≡_ {A = Bool} true false = e in cc
 or-right false b e = e
 
+pub or-none : (a b : Bool) → a ≡ false → b ≡ false → a || b ≡ false
+or-none true b e f = e
+or-none false b e f = f
+
 -- from equations that can't hold, as `cc` finds them, anything follows
 pub never : {P : Type 0} → _≡_ {A = ℕ} 0 1 → P
 never z = absurd (let y : ⊥ = omega arith in y)

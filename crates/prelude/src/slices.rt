@@ -34,7 +34,8 @@ pub fn least(a: usize, b: usize) -> usize
 // An end for a scan: n bytes on, or where a text of that length ends.
 pub fn soon(length: usize, at: usize, n: usize) -> usize
     requires { ⌜ (at ≤ length) × (0 < n) ⌝ }
-    ensures { λ r. ⌜ (r ≤ length) × (at < length → at < r) ⌝ }
+    ensures within { λ r. ⌜ (r ≤ length) × (at < length → at < r) ⌝ }
+    ensures is { λ r. ⌜ (at + n ≤ length → r ≡ at + n) × (length ≤ at + n → r ≡ length) ⌝ }
 {
     if length - at < n {
         return length;

@@ -12,9 +12,9 @@ use upload::uploads::Fed;
 use upload::uploads::Upload;
 
 // What one call of a plan leaves: its result, and where the next piece begins.
-pub struct Played {
-    pub fed: Fed,
-    pub at: usize,
+struct Played {
+    fed: Fed,
+    at: usize,
 }
 
 // One call of a plan, with the text fed up to `at`.

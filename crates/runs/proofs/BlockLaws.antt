@@ -13,7 +13,7 @@ use borrow.Author.Count.{below-more}
 use borrow.Author.Tests.{ltb-true, ltb-false, leb-true, leb-false, eqb-false, le-ltb, lt-ltb, ne-eqb, le-leb, lt-leb}
 use Rattle.prelude.specs.Bytes.{doubleQuote, backslash}
 use Rattle.prelude.specs.Pick.{pick}
-use Rattle.prelude.proofs.Cases.{split, or-left, or-right, never}
+use Rattle.prelude.proofs.Cases.{split, or-left, or-right, or-none, never}
 use Rattle.utf8.specs.Class.{classOf}
 use Rattle.utf8.specs.Utf8.{tail, twoBytes, longLen, lenBy, charLen}
 use Rattle.utf8.proofs.Characters.{ascii-len}
@@ -31,6 +31,10 @@ same-test true false e = e
 same-test false true e = sym e
 same-test false false e = refl
 
+pub same-none : (a b : Bool) → a ≡ b → not (Bool·beq a b) ≡ false
+same-none true b e = rw (sym e) refl
+same-none false b e = rw (sym e) refl
+
 pub alone : (q b : ℕ) → ltb b 32 || (leb 128 b || (eqb b backslash || eqb b q)) ≡ false → Alone q b
 alone q b e =
     let f = or-right (ltb b 32) _ e in
@@ -41,6 +45,10 @@ alone q b e =
       no-slash = eqb-false b backslash (or-left _ _ g);
       no-quote = eqb-false b q (or-right (eqb b backslash) _ g);
     }
+
+pub alone-none : (q b : ℕ) → Alone q b → ltb b 32 || (leb 128 b || (eqb b backslash || eqb b q)) ≡ false
+alone-none q b a =
+    rw (le-ltb b 32 (a .printed), lt-leb 128 b (a .ascii), ne-eqb b backslash (a .no-slash), ne-eqb b q (a .no-quote)) refl
 
 pub paired : (q b c : ℕ) (t : Bool) → t ≡ tail c
     → ltb b 32 || (leb 224 b || (eqb b backslash || (eqb b q || (eqb b 192 || (eqb b 193 || not (Bool·beq t (leb 192 b))))))) ≡ false
@@ -68,6 +76,10 @@ paired q b c t et e =
 pub one-more : (P : ℕ → Type 0) (a b : Bool) (n : ℕ) → (a ≡ false → (k : ℕ) → k < n → P k) → (b ≡ false → P n) → a || b ≡ false
     → (k : ℕ) → k < n + 1 → P k
 one-more P a b n f g e = below-more P n (f (or-left a b e)) (g (or-right a b e))
+
+pub one-less : (P : ℕ → Type 0) (a b : Bool) (n : ℕ) → (((k : ℕ) → k < n → P k) → a ≡ false) → (P n → b ≡ false) → ((k : ℕ) → k < n + 1 → P k)
+    → a || b ≡ false
+one-less P a b n f g h = or-none a b (f (λ k l. h k (omega arith))) (g (h n (omega arith)))
 
 -- one byte more before the first that is found
 pub first-more : (q : ℕ) (s : List ℕ) (at k first place next : ℕ) (found : Bool) → ((j : ℕ) → j < k → j < first → Alone q (getD s (at + j) 0))

@@ -20,7 +20,7 @@ use Rattle.units.specs.Styles.{quote}
 use Rattle.units.specs.Units.{literalLen}
 use Rattle.runs.specs.inner.Blocks.{Running, Tripled, AllTripled, Begun, owed}
 use Rattle.runs.proofs.LiteralRuns.{moved}
-use Rattle.runs.proofs.BlockLaws.{same-test, tail-ascii, tail-is, tail-lead, two-len, char-at, one-char}
+use Rattle.runs.proofs.BlockLaws.{same-test, same-none, tail-ascii, tail-is, tail-lead, two-len, char-at, one-char}
 
 -- the tests
 
@@ -52,17 +52,42 @@ tripled q b c d t et e =
       third = sym et ∙ same-test t (leb 192 c || leb 224 b) (or-right (eqb b 237 && leb 160 c) _ l);
     }
 
+and-none : (a b : Bool) → (a ≡ true → b ≡ false) → a && b ≡ false
+and-none true b f = f refl
+and-none false b f = refl
+
+pub tripled-none : (q b c d : ℕ) (t : Bool) → t ≡ tail d → Tripled q b c d
+    → ltb b 32 || (leb 240 b || (eqb b backslash || (eqb b q || (eqb b 192 || (eqb b 193 || ((eqb b 224 && ltb c 160) || ((eqb b 237 && leb 160 c) || not (Bool·beq t (leb 192 c || leb 224 b))))))))) ≡ false
+tripled-none q b c d t et p =
+    rw (
+      le-ltb b 32 (p .printed),
+      lt-leb 240 b (p .short),
+      ne-eqb b backslash (p .no-slash),
+      ne-eqb b q (p .no-quote),
+      ne-eqb b 192 (λ e. let l : 0xc2 ≤ b = p .lead (omega arith) in omega arith),
+      ne-eqb b 193 (λ e. let l : 0xc2 ≤ b = p .lead (omega arith) in omega arith),
+      and-none (eqb b 224) (ltb c 160) (λ e. le-ltb c 160 (p .after-e0 (eqb-true b 224 e))),
+      and-none (eqb b 237) (leb 160 c) (λ e. lt-leb 160 c (p .after-ed (eqb-true b 237 e))),
+      same-none t (leb 192 c || leb 224 b) (et ∙ p .third),
+    ) refl
+
 beq-same : (a b : Bool) → Bool·beq a b ≡ true → a ≡ b
 beq-same true true e = refl
 beq-same true false e = sym e
 beq-same false true e = e
 beq-same false false e = refl
 
-pub begun : (b c : ℕ) (t u : Bool) → t ≡ tail b → t ≡ false → u ≡ tail c → Bool·beq u (leb 192 b) ≡ true → Begun b c
-begun b c t u f g h e = record { first = sym f ∙ g; second = sym h ∙ beq-same u (leb 192 b) e }
+beq-is : (a b : Bool) → a ≡ b → Bool·beq a b ≡ true
+beq-is true b e = rw (sym e) refl
+beq-is false b e = rw (sym e) refl
 
-pub not-begun : (b c : ℕ) → _≡_ {A = Bool} false true → Begun b c
-not-begun b c e = never cc
+module _ (b c : ℕ) (t : Bool) (f : t ≡ tail b) where
+  pub begun : (u : Bool) → t ≡ false → u ≡ tail c → (Bool·beq u (leb 192 b) ≡ true → Begun b c) × (Begun b c → Bool·beq u (leb 192 b) ≡ true)
+  begun u g h =
+      ((λ e. record { first = sym f ∙ g; second = sym h ∙ beq-same u (leb 192 b) e }), λ k. beq-is u (leb 192 b) (h ∙ k .second))
+
+  pub not-begun : t ≡ true → (_≡_ {A = Bool} false true → Begun b c) × (Begun b c → _≡_ {A = Bool} false true)
+  not-begun g = ((λ e. never cc), λ k. sym (k .first) ∙ sym f ∙ g)
 
 -- the character that begins with a lead of three bytes
 

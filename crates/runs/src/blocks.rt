@@ -13,7 +13,7 @@ use units::styles::Style;
 
 // A control, the backslash, the closing quote, or a byte that is not ASCII.
 pub fn odd(q: u8, b: u8) -> bool
-    ensures { λ r. ⌜ (r ≡ false → Alone q b) ⌝ }
+    ensures { λ r. ⌜ (r ≡ false → Alone q b) × (Alone q b → r ≡ false) ⌝ }
 {
     (b < 32) | ((b >= 128) | ((b == b'\\') | (b == q)))
 }
@@ -38,7 +38,7 @@ fn odd_pair(q: u8, b: u8, c: u8) -> bool
 // Whether one of n bytes is odd.
 pub fn any_odd(q: u8, s: &[u8], at: usize, n: usize) -> bool
     requires { ⌜ at + n ≤ length (now s) ⌝ }
-    ensures { λ r. ⌜ (r ≡ false → AllAlone q (now (s .entry)) at n) ⌝ }
+    ensures { λ r. ⌜ (r ≡ false → AllAlone q (now (s .entry)) at n) × (AllAlone q (now (s .entry)) at n → r ≡ false) ⌝ }
 {
     let mut found = false;
     let mut k: usize = 0;
@@ -76,7 +76,7 @@ fn lesser(a: u8, b: u8) -> u8
 }
 
 // The first odd one of up to sixteen bytes, 16 where none is: the least of their places, so that all are compared at once.
-pub fn first_odd(q: u8, s: &[u8], at: usize, n: usize) -> usize
+pub(crate) fn first_odd(q: u8, s: &[u8], at: usize, n: usize) -> usize
     requires { ⌜ (at + n ≤ length (now s)) × (n ≤ 16) ⌝ }
     ensures { λ r. ⌜ ((k : ℕ) → k < n → k < r → Alone q (getD (now (s .entry)) (at + k) 0)) ⌝ }
 {
@@ -90,7 +90,7 @@ pub fn first_odd(q: u8, s: &[u8], at: usize, n: usize) -> usize
 }
 
 // Whether one of n bytes is odd beside the next.
-pub fn any_odd_pair(q: u8, s: &[u8], at: usize, n: usize) -> bool
+pub(crate) fn any_odd_pair(q: u8, s: &[u8], at: usize, n: usize) -> bool
     requires { ⌜ at + n < length (now s) ⌝ }
     ensures { λ r. ⌜ (r ≡ false → AllPaired q (now (s .entry)) at n) ⌝ }
 {
@@ -104,7 +104,7 @@ pub fn any_odd_pair(q: u8, s: &[u8], at: usize, n: usize) -> bool
 }
 
 // A place, or the next one where the byte there is a continuation.
-pub fn behind(s: &[u8], e: usize) -> usize
+pub(crate) fn behind(s: &[u8], e: usize) -> usize
     requires { ⌜ e < length (now s) ⌝ }
     ensures { λ r. ⌜ r ≡ e + continued (tail (getD (now (s .entry)) e 0)) ⌝ }
 {
@@ -130,7 +130,7 @@ fn alone_blocks(s: &[u8], from: usize, style: Style, n: usize) -> usize
 }
 
 // A place behind blocks of sixteen, for runs inside a longer text, which are likely to end soon.
-pub fn sixteens(s: &[u8], from: usize, style: Style) -> usize
+pub(crate) fn sixteens(s: &[u8], from: usize, style: Style) -> usize
     requires { ⌜ from ≤ length (now s) ⌝ }
     ensures { λ r. ⌜ Running style (now (s .entry)) from r ⌝ }
 {
@@ -147,7 +147,7 @@ pub fn sixteens(s: &[u8], from: usize, style: Style) -> usize
 }
 
 // Whether a byte stands at a place that is no part of a literal character.
-pub fn ends(s: &[u8], at: usize, style: Style) -> bool
+pub(crate) fn ends(s: &[u8], at: usize, style: Style) -> bool
     ensures { λ r. ⌜ (r ≡ true → 0 ≡ literalLen style (drop at (now (s .entry)))) ⌝ }
 {
     if s.len() <= at {

@@ -44,7 +44,7 @@ fn literal_len(s: &[u8], at: usize, k: u8, style: Style) -> usize
 }
 
 // Whether one continuation byte follows.
-pub fn one_follows(s: &[u8], at: usize) -> bool
+pub(crate) fn one_follows(s: &[u8], at: usize) -> bool
     requires { ⌜ at ≤ length (now s) ⌝ }
     ensures { λ r. ⌜ (r ≡ true → tail (getD (now (s .entry)) (at + 1) 0) ≡ true) ⌝ }
 {

@@ -111,7 +111,7 @@ fn json(s: &[u8], from: usize) -> usize
 }
 
 // A place behind literal characters only, where up to 33 bytes are left.
-pub fn short(s: &[u8], from: usize, style: Style) -> usize
+pub(crate) fn short(s: &[u8], from: usize, style: Style) -> usize
     requires { ⌜ (from ≤ length (now s)) × (length (now s) ≤ from + 33) ⌝ }
     ensures { λ r. ⌜ Running style (now (s .entry)) from r ⌝ }
 {

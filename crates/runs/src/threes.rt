@@ -9,7 +9,7 @@ use crate::blocks;
 
 // A byte that stands in no literal character of up to three bytes, or that the next two can't follow.
 fn odd_three(q: u8, b: u8, c: u8, d: u8) -> bool
-    ensures { λ r. ⌜ (r ≡ false → Tripled q b c d) ⌝ }
+    ensures { λ r. ⌜ (r ≡ false → Tripled q b c d) × (Tripled q b c d → r ≡ false) ⌝ }
 {
     (b < 32)
         | ((b >= 0xf0)
@@ -25,7 +25,7 @@ fn odd_three(q: u8, b: u8, c: u8, d: u8) -> bool
 // Whether one of sixteen bytes is odd beside the next two.
 pub fn any_odd_three(q: u8, s: &[u8], at: usize) -> bool
     requires { ⌜ at + 18 ≤ length (now s) ⌝ }
-    ensures { λ r. ⌜ (r ≡ false → AllTripled q (now (s .entry)) at 16) ⌝ }
+    ensures { λ r. ⌜ (r ≡ false → AllTripled q (now (s .entry)) at 16) × (AllTripled q (now (s .entry)) at 16 → r ≡ false) ⌝ }
 {
     let mut found = false;
     let mut k: usize = 0;
@@ -38,7 +38,7 @@ pub fn any_odd_three(q: u8, s: &[u8], at: usize) -> bool
 
 // Whether a character may begin with two bytes: no continuation, and one behind it just where it is a lead.
 pub fn begins(b: u8, c: u8) -> bool
-    ensures { λ r. ⌜ (r ≡ true → Begun b c) ⌝ }
+    ensures { λ r. ⌜ (r ≡ true → Begun b c) × (Begun b c → r ≡ true) ⌝ }
 {
     if blocks::continues(b) {
         return false;

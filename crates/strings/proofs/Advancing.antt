@@ -12,8 +12,9 @@ use Rattle.units.specs.Styles.{took}
 use Rattle.units.specs.Units.{unitAt}
 use Rattle.units.proofs.Sizes.{took-size}
 use Rattle.strings.specs.Read.{more, readUnits}
-use Rattle.strings.specs.inner.Turns.{Advanced}
+use Rattle.strings.specs.inner.Turns.{unitsBytes, Advanced}
 use Rattle.strings.proofs.Steps.{read-on, more-none, more-more}
+use Rattle.strings.proofs.UnitBytes.{bytes-on, bytes-then}
 
 pub nothing-yet : (st : Style) (s : List ℕ) (from o : ℕ) (out : List ℕ) → from ≤ length s → Advanced st s from o out from o out
 nothing-yet st s from o out h =
@@ -25,6 +26,7 @@ nothing-yet st s from o out h =
       count = omega arith;
       stored = refl;
       same = sym (more-none (readUnits st from 0 (drop from s)));
+      denoted = refl;
     }
 
 pub one-inside : (st : Style) (s : List ℕ) (at n : ℕ) (bs : List ℕ) → at ≤ length s → unitAt st (drop at s) ≡ took n bs → at + n ≤ length s
@@ -42,6 +44,7 @@ module _ {st : Style} {s : List ℕ} {from o : ℕ} {out : List ℕ} {at p : ℕ
         count = omega (arith, a .count, length-append (a .bytes) (b ∷ []));
         stored = w ∙ ap (λ (l : List ℕ). set l p b) (a .stored) ∙ sets-append (a .bytes) (b ∷ []) out o p (sym (a .count));
         same = read-on st (readUnits st from 0 (drop from s)) s (a .bytes) at n (b ∷ []) (a .same) e;
+        denoted = bytes-on st (unitsBytes st 0 (drop from s)) s (a .bytes) at n (b ∷ []) (a .denoted) e;
       }
 
   pub and-part : (to q : ℕ) (next : List ℕ) → Advanced st s at p new to q next → Advanced st s from o out to q next
@@ -54,4 +57,5 @@ module _ {st : Style} {s : List ℕ} {from o : ℕ} {out : List ℕ} {at p : ℕ
         count = omega (arith, a .count, d .count, length-append (a .bytes) (d .bytes));
         stored = d .stored ∙ ap (λ (l : List ℕ). sets l p (d .bytes)) (a .stored) ∙ sets-append (a .bytes) (d .bytes) out o p (sym (a .count));
         same = a .same ∙ ap (more (a .bytes)) (d .same) ∙ more-more (a .bytes) (d .bytes) (readUnits st to 0 (drop to s));
+        denoted = bytes-then _ (a .bytes) _ (d .bytes) _ (a .denoted) (d .denoted);
       }

@@ -6,5 +6,6 @@ pub mod Reading
 pub mod Runs
 pub mod Steps
 pub mod Tokens
+pub mod UnitBytes
 pub mod Utf8Denoted
 pub mod WholeTexts

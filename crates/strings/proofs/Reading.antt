@@ -23,9 +23,10 @@ use Rattle.strings.specs.declared.answers.Token.the-variants.{Ended, Fai
 use Rattle.strings.specs.declared.read.Turned.{Turned}
 use Rattle.strings.specs.declared.read.Turned.the-variants.{On, Finish, Refuse}
 use Rattle.strings.specs.Read.{StringRead, accepted, refused, more, readUnits, tokenOf}
-use Rattle.strings.specs.inner.Turns.{unitTurn, unitBytes, turnOf, turnBytes, Advanced, Stored}
+use Rattle.strings.specs.inner.Turns.{unitTurn, unitBytes, turnOf, turnBytes, unitsBytes, Advanced}
 use Rattle.strings.proofs.Steps.{read-closes, read-fault, read-took, more-none, more-more}
 use Rattle.strings.proofs.Runs.{run-law}
+use Rattle.strings.proofs.UnitBytes.{bytes-close, bytes-fault, bytes-took, bytes-then, bytes-run}
 
 pub took-few : (u : Found) (n : ℕ) (few : Few) → u ≡ Took n few → FewOf u → few .count ≤ 4
 took-few u n few e h = rw e at h
@@ -88,10 +89,11 @@ pub record Kept (st : Style) (s out₀ : List ℕ) (from : ℕ) (out : List ℕ)
   pub count : o ≡ length done
   pub stored : out ≡ sets out₀ 0 done
   pub same : readUnits st from 0 (drop from s) ≡ more done (readUnits st at 0 (drop at s))
+  pub denoted : unitsBytes st 0 (drop from s) ≡ done ++ unitsBytes st 0 (drop at s)
 
 pub begun : (st : Style) (s out : List ℕ) (from : ℕ) → from ≤ length s → Kept st s out from out from 0
 begun st s out from h =
-    record { done = []; inside = h; less = zero-le; count = refl; stored = refl; same = sym (more-none (readUnits st from 0 (drop from s))) }
+    record { done = []; inside = h; less = zero-le; count = refl; stored = refl; same = sym (more-none (readUnits st from 0 (drop from s))); denoted = refl }
 
 -- some more units
 pub and-more : {st : Style} {s out₀ : List ℕ} {from : ℕ} {out : List ℕ} {at o : ℕ} → Kept st s out₀ from out at o
@@ -104,6 +106,7 @@ and-more {st} {s} {out₀} {from} {out} {at} {o} k {to} {p} {new} d =
       count = omega (arith, k .count, d .count, length-append (k .done) (d .bytes));
       stored = d .stored ∙ ap (λ (l : List ℕ). sets l o (d .bytes)) (k .stored) ∙ sets-append (k .done) (d .bytes) out₀ 0 o (omega (arith, k .count));
       same = k .same ∙ ap (more (k .done)) (d .same) ∙ more-more (k .done) (d .bytes) (readUnits st to 0 (drop to s));
+      denoted = bytes-then _ (k .done) _ (d .bytes) _ (k .denoted) (d .denoted);
     }
 
 module _ {st : Style} {s out₀ : List ℕ} {from : ℕ} {out : List ℕ} {at o : ℕ} (k : Kept st s out₀ from out at o)
@@ -137,6 +140,9 @@ module _ {st : Style} {s out₀ : List ℕ} {from : ℕ} {out : List ℕ} {at o 
   behind : all ≡ more (k .done ++ lit) (readUnits st (at + run) 0 rest)
   behind = k .same ∙ ap (more (k .done)) (run-law st (drop at s) at) ∙ more-more (k .done) lit (readUnits st (at + run) 0 rest)
 
+  bytes-behind : unitsBytes st 0 (drop from s) ≡ k .done ++ (lit ++ unitsBytes st 0 rest)
+  bytes-behind = k .denoted ∙ ap (λ (l : List ℕ). k .done ++ l) (bytes-run st (drop at s))
+
   abbrev Moved : ℕ → ℕ → Type 0
   Moved next count = Kept st s out₀ from new next count × (at < next)
 
@@ -154,6 +160,9 @@ module _ {st : Style} {s out₀ : List ℕ} {from : ℕ} {out : List ℕ} {at o 
           same = behind ∙ ap (more (k .done ++ lit)) (read-took st (at + run) rest n bs e)
               ∙ more-more (k .done ++ lit) bs (readUnits st (at + run + n) 0 (drop n rest))
               ∙ (λ i. more (append-assoc (k .done) lit bs i) (readUnits st (at + run + n) 0 (d i)));
+          denoted = bytes-then _ (k .done) _ (lit ++ bs) _ bytes-behind
+              (ap (λ (l : List ℕ). lit ++ l) (bytes-took st rest n bs e ∙ ap (λ (r : List ℕ). bs ++ unitsBytes st 0 r) d)
+              ∙ sym (append-assoc lit bs (unitsBytes st 0 (drop (at + run + n) s))));
         },
         omega (arith, size .0),
       )
@@ -171,10 +180,10 @@ module _ {st : Style} {s out₀ : List ℕ} {from : ℕ} {out : List ℕ} {at o 
       go (fault number) e = let z : On next count ≡ Refuse number (at + run) = sym h ∙ step-is (fault number) e in never (cc)
 
   abbrev Last : Token → Type 0
-  Last r = (r ≡ tokenOf all) × Stored all out₀ new
+  Last r = (r ≡ tokenOf all) × (new ≡ sets out₀ 0 (unitsBytes st 0 (drop from s)))
 
-  last-of : (r : Token) (v : StringRead) → all ≡ v → r ≡ tokenOf v → Stored v out₀ new → Last r
-  last-of r v e w t = (w ∙ ap tokenOf (sym e), subst (λ (y : StringRead). Stored y out₀ new) (sym e) t)
+  last-of : (r : Token) (v : StringRead) (u : StringUnit) → all ≡ v → r ≡ tokenOf v → unitAt st rest ≡ u → unitsBytes st 0 rest ≡ unitBytes u → Last r
+  last-of r v u e w i b = (w ∙ ap tokenOf (sym e), new-is u i ∙ ap (sets out₀ 0) (sym (bytes-behind ∙ ap (λ (l : List ℕ). k .done ++ (lit ++ l)) b)))
 
   pub ended : (end count : ℕ) → x ≡ Finish end count → Last (Ended end count)
   ended end count h = go (unitAt st rest) refl
@@ -185,10 +194,10 @@ module _ {st : Style} {s out₀ : List ℕ} {from : ℕ} {out : List ℕ} {at o 
           let a : end ≡ at + run + 1 = cc in
           let b : count ≡ o + run = cc in
           let l : count ≡ length ((k .done ++ lit) ++ []) = omega (arith, b, k .count, length-append (k .done ++ lit) [], length-append (k .done) lit, lit-length) in
-          last-of (Ended end count) (accepted ((k .done ++ lit) ++ []) (at + run + 1))
+          last-of (Ended end count) (accepted ((k .done ++ lit) ++ []) (at + run + 1)) close
           (behind ∙ ap (more (k .done ++ lit)) (read-closes st (at + run) rest e))
           (λ i. Ended (a i) (l i))
-          (new-is close e ∙ ap (sets out₀ 0) (sym (append-assoc (k .done) lit [])))
+          e (bytes-close st rest e)
       go (took n bs) e = let z : Finish end count ≡ On (at + run + n) (o + run + length bs) = sym h ∙ step-is (took n bs) e in never (cc)
       go (fault number) e = let z : Finish end count ≡ Refuse number (at + run) = sym h ∙ step-is (fault number) e in never (cc)
 
@@ -202,5 +211,5 @@ module _ {st : Style} {s out₀ : List ℕ} {from : ℕ} {out : List ℕ} {at o 
           let z : Refuse number place ≡ Refuse m (at + run) = sym h ∙ step-is (fault m) e in
           let a : number ≡ m = cc in
           let b : place ≡ at + run = cc in
-          last-of (Failed number place) (refused m (at + run)) (behind ∙ ap (more (k .done ++ lit)) (read-fault st (at + run) rest m e))
-          (λ i. Failed (a i) (b i)) tt
+          last-of (Failed number place) (refused m (at + run)) (fault m) (behind ∙ ap (more (k .done ++ lit)) (read-fault st (at + run) rest m e))
+          (λ i. Failed (a i) (b i)) e (bytes-fault st rest m e)

@@ -13,7 +13,7 @@ use Rattle.prelude.proofs.Stores.{sets-over, empty-front}
 use Rattle.strings.specs.declared.answers.Token.{Token}
 use Rattle.strings.specs.declared.answers.Token.the-variants.{Ended, Failed}
 use Rattle.strings.specs.Read.{StringRead, accepted, refused, fitted, tokenOf, readInto, readToken, readTextToken}
-use Rattle.strings.specs.inner.Turns.{Stored}
+use Rattle.strings.proofs.UnitBytes.{Stored}
 
 abbrev Told : StringRead → List ℕ → Token → List ℕ → Type 0
 Told v out r new = (r ≡ tokenOf (fitted (length out) v)) × (new ≡ readInto (fitted (length out) v) out)

@@ -30,10 +30,11 @@ use Rattle.strings.specs.declared.read.Mark.{Mark}
 use Rattle.strings.specs.declared.read.Mark.the-variants.{Opens, Unopened}
 use Rattle.strings.specs.Read.{StringRead, accepted, refused, more, readUnits, Opening, opens, unopened, opening, readFrom, readToken, readString, readText, nothingBehind, fitted, decodedOf, tokenOf, readInto}
 use Rattle.prelude.specs.Limits.{textMax}
-use Rattle.strings.specs.inner.Turns.{openingOf, Closed, Stored}
+use Rattle.strings.specs.inner.Turns.{openingOf, unitsBytes, bytesFrom, tokenBytes, Closed}
 use Rattle.strings.proofs.Places.{Marked, opening-fits}
 use Rattle.strings.proofs.Steps.{read-skip, read-closes}
 use Rattle.strings.proofs.Runs.{run-law}
+use Rattle.strings.proofs.UnitBytes.{bytes-skip, Stored}
 use Rattle.strings.proofs.Utf8Denoted.{Valid, valid-whole}
 
 -- the answer for a whole text s whose units read as v, and what the buffer holds
@@ -137,10 +138,10 @@ module _ (st : Style) (s out : List ℕ) (from e : ℕ) (h : from ≤ length s) 
 
 -- the opening mark
 module _ (s : List ℕ) (m : Mark) (i : openingOf m ≡ opening s) where
-  pub unmarked-token : (out new : List ℕ) → m ≡ Unopened → (Failed 3 0 ≡ tokenOf (readToken s)) × Stored (readToken s) out new
-  unfolding readToken
-  unmarked-token out new e =
-      subst (λ (o : Opening). (Failed 3 0 ≡ tokenOf (readFrom o s)) × Stored (readFrom o s) out new) (sym (ap openingOf e) ∙ i) (refl, tt)
+  pub unmarked-token : (out : List ℕ) → m ≡ Unopened → (Failed 3 0 ≡ tokenOf (readToken s)) × (out ≡ sets out 0 (tokenBytes s))
+  unfolding readToken tokenBytes
+  unmarked-token out e =
+      subst (λ (o : Opening). (Failed 3 0 ≡ tokenOf (readFrom o s)) × (out ≡ sets out 0 (bytesFrom o s))) (sym (ap openingOf e) ∙ i) (refl, refl)
 
   pub unmarked : (out : List ℕ) → m ≡ Unopened → (Refused 3 0 ≡ decodedOf (fitted (length out) (readString s))) × (out ≡ readInto (fitted (length out) (readString s)) out)
   unfolding readString readToken
@@ -162,9 +163,13 @@ module _ (s : List ℕ) (m : Mark) (i : openingOf m ≡ opening s) where
     unfolding readString
     literal-valid e k d = valid-whole (length s) (readToken s) (subst Valid token-is (run-denotes st s [] n e mark-inside k d))
 
-    pub marked-token : {r : Token} (out new : List ℕ) → (r ≡ tokenOf (readUnits st n 0 (drop n s))) × Stored (readUnits st n 0 (drop n s)) out new
-        → (r ≡ tokenOf (readToken s)) × Stored (readToken s) out new
-    marked-token {r} out new t = subst (λ (v : StringRead). (r ≡ tokenOf v) × Stored v out new) token-is t
+    bytes-are : unitsBytes st 0 (drop n s) ≡ tokenBytes s
+    unfolding tokenBytes
+    bytes-are = sym (bytes-skip st n s) ∙ ap (λ (o : Opening). bytesFrom o s) mark-is
+
+    pub marked-token : {r : Token} (out new : List ℕ) → (r ≡ tokenOf (readUnits st n 0 (drop n s))) × (new ≡ sets out 0 (unitsBytes st 0 (drop n s)))
+        → (r ≡ tokenOf (readToken s)) × (new ≡ sets out 0 (tokenBytes s))
+    marked-token {r} out new (t, w) = (t ∙ ap tokenOf token-is, w ∙ ap (sets out 0) bytes-are)
 
     pub marked : {r : Decoded} {new : List ℕ} (out : List ℕ) → Told (readUnits st n 0 (drop n s)) s out r new
         → (r ≡ decodedOf (fitted (length out) (readString s))) × (new ≡ readInto (fitted (length out) (readString s)) out)

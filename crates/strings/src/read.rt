@@ -9,7 +9,7 @@ ghost use Rattle.utf8.specs.Utf8.{fewOf};
 ghost use Rattle.runs.specs.inner.Blocks.{Running};
 ghost use Rattle.units.specs.Units.{unitAt, literalRun};
 ghost use Rattle.strings.specs.Read.{opening, readUnits, readToken, readString, readText, readTextToken, fitted, decodedOf, tokenOf, readInto};
-ghost use Rattle.strings.specs.inner.Turns.{openingOf, readBehind, unitTurn, unitBytes, turnOf, turnBytes, Closed, Stored};
+ghost use Rattle.strings.specs.inner.Turns.{openingOf, readBehind, unitTurn, unitBytes, turnOf, turnBytes, unitsBytes, tokenBytes, Closed};
 use crate::answers::Decoded;
 use crate::answers::Token;
 use crate::singles;
@@ -31,7 +31,7 @@ pub enum Mark {
 }
 
 // Behind a turn: the next place and the bytes stored so far; or the string's end and its length; or a refusal's number and place.
-pub enum Turned {
+enum Turned {
     On(usize, usize),
     Finish(usize, usize),
     Refuse(u32, usize),
@@ -131,8 +131,8 @@ fn turn(
     unit_turn(t, s, e, style, o + n, out)
 }
 
-// The units from a place on, up to the closing quote, where it is known that the first run of literal characters ends at `first`; their
-// bytes are stored as far as there is room.
+// The units from a place on, up to the closing quote or the first fault, where it is known that the first run of literal characters ends at
+// `first`; their bytes are stored as far as there is room.
 pub fn units_from(
     t: &[u8; 256],
     s: &[u8],
@@ -143,7 +143,7 @@ pub fn units_from(
 ) -> Token
     requires { ⌜ IsTable (now t) × (from ≤ length (now s)) × (first ≡ from + literalRun style 0 (drop from (now s))) ⌝ }
     ensures is { λ r. ⌜ r ≡ tokenOf (readUnits style from 0 (drop from (now (s .entry)))) ⌝ }
-    ensures stored { λ r. ⌜ Stored (readUnits style from 0 (drop from (now (s .entry)))) (now (out .entry)) (now (out .exit)) ⌝ }
+    ensures stored { λ r. ⌜ now (out .exit) ≡ sets (now (out .entry)) 0 (unitsBytes style 0 (drop from (now (s .entry)))) ⌝ }
 {
     let mut at = from;
     let mut e = first;
@@ -171,18 +171,18 @@ pub fn units_from(
 fn read_units(t: &[u8; 256], s: &[u8], from: usize, style: Style, out: &mut [u8]) -> Token
     requires { ⌜ IsTable (now t) × (from ≤ length (now s)) ⌝ }
     ensures is { λ r. ⌜ r ≡ tokenOf (readUnits style from 0 (drop from (now (s .entry)))) ⌝ }
-    ensures stored { λ r. ⌜ Stored (readUnits style from 0 (drop from (now (s .entry)))) (now (out .entry)) (now (out .exit)) ⌝ }
+    ensures stored { λ r. ⌜ now (out .exit) ≡ sets (now (out .entry)) 0 (unitsBytes style 0 (drop from (now (s .entry)))) ⌝ }
 {
     let first = literals::short_run(t, s, from, style);
     units_from(t, s, from, first, style, out)
 }
 
-// The string that a text begins with, whatever follows its closing quote. It stores as far as there is room: lend it a part without
-// room until the text is known to be right.
-pub fn token(t: &[u8; 256], s: &[u8], out: &mut [u8]) -> Token
+// The string that a text begins with, whatever follows its closing quote. It stores as far as there is room, a refused text's bytes before
+// the fault too: lend it a part without room until the text is known to be right.
+fn token(t: &[u8; 256], s: &[u8], out: &mut [u8]) -> Token
     requires { ⌜ IsTable (now t) ⌝ }
     ensures is { λ r. ⌜ r ≡ tokenOf (readToken (now (s .entry))) ⌝ }
-    ensures stored { λ r. ⌜ Stored (readToken (now (s .entry))) (now (out .entry)) (now (out .exit)) ⌝ }
+    ensures stored { λ r. ⌜ now (out .exit) ≡ sets (now (out .entry)) 0 (tokenBytes (now (s .entry))) ⌝ }
 {
     let mark = mark_at(s);
     match mark {
@@ -246,7 +246,7 @@ pub fn two_passes(t: &[u8; 256], s: &[u8], from: usize, style: Style, out: &mut 
 // Whether the closing quote stands at a place and is the text's last byte.
 pub fn closes(s: &[u8], e: usize, style: Style) -> bool
     requires { ⌜ e ≤ length (now s) ⌝ }
-    ensures { λ r. ⌜ (r ≡ true → Closed style (now (s .entry)) e) ⌝ }
+    ensures { λ r. ⌜ (r ≡ true → Closed style (now (s .entry)) e) × (Closed style (now (s .entry)) e → r ≡ true) ⌝ }
 {
     if s.len() - e != 1 {
         return false;
@@ -303,7 +303,7 @@ fn read_open(s: &[u8], from: usize, style: Style, out: &mut [u8]) -> Decoded
 }
 
 // Reads the J8 string that a text of any length is.
-pub fn read_string(s: &[u8], out: &mut [u8]) -> Decoded
+fn read_string(s: &[u8], out: &mut [u8]) -> Decoded
     ensures answer { λ r. ⌜ r ≡ decodedOf (fitted (length (now (out .entry))) (readString (now (s .entry)))) ⌝ }
     ensures stored { λ r. ⌜ now (out .exit) ≡ readInto (fitted (length (now (out .entry))) (readString (now (s .entry)))) (now (out .entry)) ⌝ }
 {

@@ -12,7 +12,7 @@ use utf8::classes;
 const STRETCH: usize = 32;
 
 // A place behind units, and the bytes stored so far.
-pub struct Moved {
+pub(crate) struct Moved {
     pub at: usize,
     pub count: usize,
 }
@@ -99,7 +99,7 @@ fn singles_from(
 }
 
 // The same behind a run of literal characters and a unit: where the run was long, the next one is likely to be long too.
-pub fn singles_behind(
+pub(crate) fn singles_behind(
     t: &[u8; 256],
     s: &[u8],
     from: usize,

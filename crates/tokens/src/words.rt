@@ -11,7 +11,7 @@ pub enum Word {
     Other,
 }
 
-pub fn is_letter(x: u8) -> bool
+pub(crate) fn is_letter(x: u8) -> bool
     ensures { λ r. ⌜ r ≡ isLetter x ⌝ }
 {
     if chars::in_range(b'a', b'z', x) {
@@ -23,7 +23,7 @@ pub fn is_letter(x: u8) -> bool
     x == b'_'
 }
 
-pub fn is_digit(x: u8) -> bool
+pub(crate) fn is_digit(x: u8) -> bool
     ensures { λ r. ⌜ r ≡ isDigit x ⌝ }
 {
     chars::in_range(b'0', b'9', x)

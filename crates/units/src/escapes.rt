@@ -16,7 +16,7 @@ use utf8::encoding;
 use utf8::encoding::Few;
 
 // The byte that a letter denotes in every style, 0 where it denotes none.
-pub fn common(c: u8) -> u8
+pub(crate) fn common(c: u8) -> u8
     ensures { λ r. ⌜ r ≡ lookup c letters ⌝ }
 {
     if c == b'"' {
@@ -246,7 +246,7 @@ fn letter_escape(b: u8) -> Unit
 }
 
 // The escape whose backslash stands before a place.
-pub fn escape_at(s: &[u8], at: usize, style: Style) -> Unit
+pub(crate) fn escape_at(s: &[u8], at: usize, style: Style) -> Unit
     requires { ⌜ at ≤ length (now s) ⌝ }
     ensures is { λ r. ⌜ unitOf r ≡ escape style (drop at (now (s .entry))) ⌝ }
     ensures few { λ r. ⌜ FewOf r ⌝ }

@@ -6,7 +6,7 @@ ghost use Rattle.units.specs.Hex.{hexVal, hexRun, hexNumber};
 use prelude::slices;
 
 // How many digits stand somewhere, and their number.
-pub struct Digits {
+pub(crate) struct Digits {
     pub count: usize,
     pub value: u32,
 }
@@ -44,7 +44,7 @@ fn wide(d: u8) -> u32
 }
 
 // The digits from a place on, `most` of them at most; seven fit the number's type.
-pub fn digits_at(s: &[u8], at: usize, most: usize) -> Digits
+pub(crate) fn digits_at(s: &[u8], at: usize, most: usize) -> Digits
     requires { ⌜ most ≤ 7 ⌝ }
     ensures run { λ r. ⌜ r .count ≡ hexRun most (drop at (now (s .entry))) ⌝ }
     ensures number { λ r. ⌜ r .value ≡ hexNumber most (drop at (now (s .entry))) ⌝ }

@@ -101,7 +101,7 @@ fn take_run(s: Upload, piece: &[u8], i: usize, a: usize, line: &mut [u8]) -> Upl
 }
 
 // The bytes of a piece: runs up to the next LF or limit, and the byte behind each.
-pub fn take_bytes(state: Upload, piece: &[u8], line: &mut [u8], out: &mut [u8]) -> Upload
+pub(crate) fn take_bytes(state: Upload, piece: &[u8], line: &mut [u8], out: &mut [u8]) -> Upload
     requires { ⌜ Fit (lent state (now line) (now out)) ⌝ }
     ensures { λ r. ⌜ lent r (now (line .exit)) (now (out .exit)) ≡ feedBytes (lent state (now (line .entry)) (now (out .entry))) (now (piece .entry)) ⌝ }
 {
@@ -140,7 +140,7 @@ fn at_end(s: Upload, used: usize) -> Upload
 }
 
 // The end of an upload that is neither refused nor ended.
-pub fn take_end(s: Upload, line: &mut [u8], out: &mut [u8]) -> Upload
+pub(crate) fn take_end(s: Upload, line: &mut [u8], out: &mut [u8]) -> Upload
     requires { ⌜ Fit (lent s (now line) (now out)) ⌝ }
     ensures { λ r. ⌜ lent r (now (line .exit)) (now (out .exit)) ≡ finishAll (lent s (now (line .entry)) (now (out .entry))) ⌝ }
 {

@@ -6,22 +6,37 @@ use mathlib.Core.List.{List}
 use Prim.Native.Nat.{ℕ, zero, suc, _+_, _-_, _≤_, _<_}
 use native.Mathlib.Omega.{arith}
 use borrow.Author.Count.{below-more}
-use borrow.Author.Tests.{leb-false}
-use lib.Dec.{leb}
+use borrow.Author.Tests.{ltb-true, ltb-false, leb-false, lt-leb}
+use lib.Dec.{ltb, leb}
 use lib.ListN.{length, getD, drop, length-drop, drop-of-length-le}
 use lib.Seq.{drop-drop, drop-cons}
-use Rattle.prelude.proofs.Cases.{or-left, or-right}
+use Rattle.prelude.proofs.Cases.{split, or-left, or-right, or-none}
 use Rattle.prelude.proofs.Rest.{advances}
 use Rattle.utf8.specs.Class.{classOf}
 use Rattle.utf8.specs.Utf8.{longLen, charLen, validFrom}
-use Rattle.utf8.specs.inner.Checks.{AllAscii, ValidAs, ValidUntil}
+use Rattle.utf8.specs.inner.Checks.{AllLow, LowFrom, LowBlocks, ValidAs, ValidUntil}
 use Rattle.utf8.proofs.CharSteps.{one-byte, lone-tail, long-char}
 use Rattle.utf8.proofs.Characters.{char-le, valid-step, valid-stuck, ascii-len}
 
--- one byte more of a block of ASCII
-pub ascii-more : (s : List ℕ) (at n : ℕ) (a : Bool) → (a ≡ false → AllAscii s at n) → a || leb 0x7f (getD s (at + n) 0) ≡ false → AllAscii s at (n + 1)
-ascii-more s at n a f e =
-    below-more (λ k. getD s (at + k) 0 < 0x80) n (f (or-left a _ e)) (omega (arith, leb-false 0x7f (getD s (at + n) 0) (or-right a _ e)))
+-- one byte more of a block
+module _ (s : List ℕ) (at n : ℕ) (a : Bool) where
+  pub low-more : (a ≡ false → AllLow s at n) → a || leb 0x7f (getD s (at + n) 0) ≡ false → AllLow s at (n + 1)
+  low-more f e = below-more (λ k. getD s (at + k) 0 < 0x7f) n (f (or-left a _ e)) (leb-false 0x7f (getD s (at + n) 0) (or-right a _ e))
+
+  pub low-less : (AllLow s at n → a ≡ false) → AllLow s at (n + 1) → a || leb 0x7f (getD s (at + n) 0) ≡ false
+  low-less f l = or-none a _ (f (λ k h. l k (omega arith))) (lt-leb 0x7f (getD s (at + n) 0) (l n (omega arith)))
+
+-- a part of such bytes, and bytes up to a part that reaches the end
+module _ (s : List ℕ) where
+  low-part : (from n at m : ℕ) → from ≤ at → at + m ≤ from + n → AllLow s from n → AllLow s at m
+  low-part from n at m h l a k i =
+      subst (λ (j : ℕ). getD s j 0 < 0x7f) (let z : from + (at - from + k) ≡ at + k = omega arith in z) (a (at - from + k) (omega arith))
+
+  low-join : (from mid at n m : ℕ) → from ≤ mid → at ≤ mid → from + n ≤ at + m → AllLow s from (mid - from) → AllLow s at m → AllLow s from n
+  low-join from mid at n m h l e a b k i =
+      split (ltb (from + k) mid) (λ t. a k (let z : from + k < mid = ltb-true (from + k) mid t in omega arith))
+      (λ t. let z : mid ≤ from + k = ltb-false (from + k) mid t in
+      subst (λ (j : ℕ). getD s j 0 < 0x7f) (let y : at + (from + k - at) ≡ from + k = omega arith in y) (b (from + k - at) (omega arith)))
 
 module _ (s : List ℕ) where
   pub here : (at : ℕ) → at ≤ length s → ValidAs s at at
@@ -44,18 +59,32 @@ module _ (s : List ℕ) (from at : ℕ) where
   ascii-on : ValidAs s from at → at < length s → getD s at 0 < 0x80 → ValidAs s from (at + 1)
   ascii-on k h a = moved 1 k h (ap charLen (drop-cons s at 0 h) ∙ ascii-len _ _ a) (λ z. omega arith)
 
-pub block-on : (s : List ℕ) (from n at : ℕ) → ValidAs s from at → at + n ≤ length s → AllAscii s at n → ValidAs s from (at + n)
+block-on : (s : List ℕ) (from n at : ℕ) → ValidAs s from at → at + n ≤ length s → AllLow s at n → ValidAs s from (at + n)
 block-on s from zero at k h a = subst (ValidAs s from) (let z : at ≡ at + 0 = omega arith in z) k
 block-on s from (suc n) at k h a =
     subst (ValidAs s from) (let z : at + n + 1 ≡ at + suc n = omega arith in z)
-    (ascii-on s from (at + n) (block-on s from n at k (omega arith) (λ j l. a j (omega arith))) (omega arith) (a n (omega arith)))
+    (ascii-on s from (at + n) (block-on s from n at k (omega arith) (λ j l. a j (omega arith))) (omega arith) (omega (arith, a n (omega arith))))
 
--- the rest of a text, by its last block
-pub last-on : (s : List ℕ) (from n at : ℕ) → ValidAs s from at → n ≤ length s → length s - at < n → AllAscii s (length s - n) n → ValidAs s from (length s)
-last-on s from n at k h l a =
-    subst (ValidAs s from) (let z : at + (length s - at) ≡ length s = omega (arith, k .inside) in z)
-    (block-on s from (length s - at) at k (omega (arith, k .inside))
-    (λ j i. subst (λ (m : ℕ). getD s m 0 < 0x80) (let z : length s - n + (n - (length s - at) + j) ≡ at + j = omega (arith, k .inside) in z) (a (n - (length s - at) + j) (omega arith))))
+pub low-valid : (s : List ℕ) (from : ℕ) → from ≤ length s → LowFrom s from → ValidAs s from (length s)
+low-valid s from h l =
+    subst (ValidAs s from) (let z : from + (length s - from) ≡ length s = omega arith in z)
+    (block-on s from (length s - from) from (here s from h) (omega arith) (l .rest))
+
+-- blocks below DEL, one more; and the whole rest, by where they end
+module _ (s : List ℕ) (from n at : ℕ) where
+  pub low-on : ValidAs s from at → AllLow s from (at - from) → at + n ≤ length s → AllLow s at n → ValidAs s from (at + n) × AllLow s from (at + n - from)
+  low-on k l h a = (block-on s from n at k h a, low-join s from at at (at + n - from) n (k .onward) (omega arith) (omega (arith, k .onward)) l a)
+
+module _ (s : List ℕ) (from at : ℕ) (b : LowBlocks s from 16 at) where
+  pub low-stuck : at + 16 ≤ length s → LowFrom s from → ⊥
+  low-stuck h l = b .stop h (low-part s from (length s - from) at 16 (b .alike .onward) (omega (arith, b .alike .onward)) (l .rest))
+
+  pub low-last : 16 ≤ length s → length s < at + 16 → AllLow s (length s - 16) 16 → LowFrom s from
+  low-last h l a = record {
+    enough = h;
+    rest = low-join s from at (length s - 16) (length s - from) 16 (b .alike .onward) (omega arith) (omega (arith, b .alike .onward, b .alike .inside)) (b .low) a;
+    last = a;
+  }
 
 -- the turns of the loop by characters, way by way
 module _ (s : List ℕ) (from at k : ℕ) (i : ValidAs s from at) (h : at < length s) (ek : k ≡ classOf (getD s at 0)) where

@@ -5,7 +5,7 @@ ghost use Prim.Native.Nat.{_+_, _<_, _≤_};
 ghost use lib.ListN.{length, getD, drop};
 ghost use Rattle.utf8.specs.Class.{IsTable};
 ghost use Rattle.utf8.specs.Utf8.{between, lowOf, highOf, twoBytes, threeBytes, fourBytes, longLen, charAt, validUtf8};
-ghost use Rattle.utf8.specs.inner.Checks.{AllAscii, ValidAs, ValidUntil};
+ghost use Rattle.utf8.specs.inner.Checks.{AllLow, LowFrom, LowBlocks, ValidUntil};
 use crate::classes;
 use prelude::refusals;
 use prelude::slices;
@@ -133,7 +133,7 @@ pub fn char_at(t: &[u8; 256], s: &[u8], at: usize) -> Char
 // become a longer test of their signs.
 pub fn any_high(s: &[u8], at: usize, n: usize) -> bool
     requires { ⌜ at + n ≤ length (now s) ⌝ }
-    ensures { λ r. ⌜ (r ≡ false → AllAscii (now (s .entry)) at n) ⌝ }
+    ensures { λ r. ⌜ (r ≡ false → AllLow (now (s .entry)) at n) × (AllLow (now (s .entry)) at n → r ≡ false) ⌝ }
 {
     let mut found = false;
     let mut k: usize = 0;
@@ -147,7 +147,7 @@ pub fn any_high(s: &[u8], at: usize, n: usize) -> bool
 // A place behind blocks of n bytes of ASCII. A caller's n is a constant, so that a block is still compared at once.
 fn ascii_blocks(s: &[u8], from: usize, n: usize) -> usize
     requires { ⌜ (from ≤ length (now s)) × (0 < n) ⌝ }
-    ensures { λ r. ⌜ ValidAs (now (s .entry)) from r ⌝ }
+    ensures { λ r. ⌜ LowBlocks (now (s .entry)) from n r ⌝ }
 {
     let mut at = from;
     while n <= s.len() - at {
@@ -159,10 +159,11 @@ fn ascii_blocks(s: &[u8], from: usize, n: usize) -> usize
     at
 }
 
-// Whether the bytes from a place on are known to be ASCII: by blocks, and where less than one is left by the last one of the text.
+// Whether the bytes from a place on, and the text's last sixteen, are ASCII and none is DEL: by blocks, and where less than one is left by
+// the last one of the text.
 pub fn ascii_from(s: &[u8], from: usize) -> bool
     requires { ⌜ from ≤ length (now s) ⌝ }
-    ensures { λ r. ⌜ (r ≡ true → ValidAs (now (s .entry)) from (length (now (s .entry)))) ⌝ }
+    ensures { λ r. ⌜ (r ≡ true → LowFrom (now (s .entry)) from) × (LowFrom (now (s .entry)) from → r ≡ true) ⌝ }
 {
     let n = s.len();
     if n < 16 {

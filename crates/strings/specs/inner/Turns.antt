@@ -1,7 +1,7 @@
 -- The reader's own steps, which no caller sees: a run of literal characters and one unit, at a place of the text.
 -- Assumes nothing.
-use Prim.Native.Nat.{ℕ, _+_, _≤_}
-use mathlib.Core.List.{List, [], _++_}
+use Prim.Native.Nat.{ℕ, zero, suc, pred, _+_, _≤_}
+use mathlib.Core.List.{List, [], _∷_, _++_}
 use mathlib.Core.Path.{_≡_}
 use lib.ListN.{length, getD, take, drop}
 use lib.Seq.{sets}
@@ -12,7 +12,7 @@ use Rattle.strings.specs.declared.read.Mark.{Mark}
 use Rattle.strings.specs.declared.read.Mark.the-variants.{Opens, Unopened}
 use Rattle.strings.specs.declared.read.Turned.{Turned}
 use Rattle.strings.specs.declared.read.Turned.the-variants.{On, Finish, Refuse}
-use Rattle.strings.specs.Read.{StringRead, accepted, refused, more, readUnits, nothingBehind, fitted, Opening, opens, unopened}
+use Rattle.strings.specs.Read.{StringRead, more, readUnits, nothingBehind, fitted, Opening, opens, unopened, opening}
 
 -- the code's opening mark as the definition's
 abbrev pub openingOf : Mark → Opening
@@ -41,6 +41,26 @@ turnOf st r at o = unitTurn (unitAt st (drop (literalRun st 0 r) r)) (at + liter
 unfoldable pub turnBytes : Style → List ℕ → List ℕ
 turnBytes st r = take (literalRun st 0 r) r ++ unitBytes (unitAt st (drop (literalRun st 0 r) r))
 
+-- the bytes of a unit, and of those behind it
+abbrev pub unitThen : StringUnit → (ℕ → List ℕ) → List ℕ
+unitThen close go = []
+unitThen (took n bs) go = bs ++ go (pred n)
+unitThen (fault number) go = []
+
+-- the bytes of the units before the closing quote or the first fault: what a reader of units stores; k bytes come before the next unit
+unfoldable pub unitsBytes : Style → ℕ → List ℕ → List ℕ
+unitsBytes st k [] = []
+unitsBytes st zero (x ∷ r) = unitThen (unitAt st (x ∷ r)) (λ m. unitsBytes st m r)
+unitsBytes st (suc k) (x ∷ r) = unitsBytes st k r
+
+-- the same behind an opening mark
+abbrev pub bytesFrom : Opening → List ℕ → List ℕ
+bytesFrom (opens st n) s = unitsBytes st n s
+bytesFrom unopened s = []
+
+unfoldable pub tokenBytes : List ℕ → List ℕ
+tokenBytes s = bytesFrom (opening s) s
+
 -- the closing quote stands at a place and is the text's last byte
 pub record Closed (st : Style) (s : List ℕ) (e : ℕ) : Type 0 where
   pub last : e + 1 ≡ length s
@@ -55,9 +75,4 @@ pub record Advanced (st : Style) (s : List ℕ) (from o : ℕ) (out : List ℕ) 
   pub count : p ≡ o + length bytes
   pub stored : new ≡ sets out o bytes
   pub same : readUnits st from 0 (drop from s) ≡ more bytes (readUnits st at 0 (drop at s))
-
--- what a token reader stores: the bytes denoted, each if there is room for it. It is lent a part without room until the text is
--- known to be right, so nothing is promised of a refused text
-abbrev pub Stored : StringRead → List ℕ → List ℕ → Type 0
-Stored (accepted bs e) out new = new ≡ sets out 0 bs
-Stored (refused number at) out new = Unit
+  pub denoted : unitsBytes st 0 (drop from s) ≡ bytes ++ unitsBytes st 0 (drop at s)

@@ -51,7 +51,7 @@ loop-less c =
 
 loop-again : tie.Need-loop-again Inv-loop μ-loop
 loop-again c =
-    (omega arith, c .before .before .put-sixteen .kept .1 .1 .0 ∙ c .before .before .before .before .before .before .before .loop .inv .1, onward-then _ _ _ _ _ _ _ (c .before .before .before .before .before .before .before .loop .inv .2) (front-block _ _ 16 _ _ (omega arith) (c .before .before .before .before .before .any-odd .ensures (c .before .before .before .before .if1 .left)) (c .before .before .put-sixteen .ensures)))
+    (omega arith, c .before .before .put-sixteen .kept .1 .1 .0 ∙ c .before .before .before .before .before .before .before .loop .inv .1, onward-then _ _ _ _ _ _ _ (c .before .before .before .before .before .before .before .loop .inv .2) (front-block _ _ 16 _ _ (omega arith) (c .before .before .before .before .before .any-odd .ensures .0 (c .before .before .before .before .if1 .left)) (c .before .before .put-sixteen .ensures)))
 
 same-length-2 : tie.Need-same-length-2 Inv-loop μ-loop
 same-length-2 c =

@@ -30,7 +30,7 @@ same-length c = search needs
 
 returns-4 : tie.Need-returns-4
 returns-4 c =
-    (omega arith, front-last (now (c .before .before .before .before .before .before .before .before .before .before .args .s)) _ _ 16 _ _ (omega arith) (omega arith) (omega arith) (c .before .before .before .before .before .any-odd .ensures (c .before .before .before .before .if3 .left)) (c .before .before .put-sixteen .ensures))
+    (omega arith, front-last (now (c .before .before .before .before .before .before .before .before .before .before .args .s)) _ _ 16 _ _ (omega arith) (omega arith) (omega arith) (c .before .before .before .before .before .any-odd .ensures .0 (c .before .before .before .before .if3 .left)) (c .before .before .put-sixteen .ensures))
 
 pub put-last-spec : {M : Type 1} → statement M
 put-last-spec =

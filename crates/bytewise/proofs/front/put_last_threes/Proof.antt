@@ -52,7 +52,7 @@ same-length c = search needs
 
 returns-6 : tie.Need-returns-6
 returns-6 c =
-    (threes-inside (now (c .before .before .before .before .before .before .before .before .before .before .before .before .before .before .before .args .s)) _ _ (omega arith) (c .before .before .put-through .ensures .0), front-threes (now (c .before .before .before .before .before .before .before .before .before .before .before .before .before .before .before .args .s)) _ _ _ _ _ (omega arith) (omega arith) (omega arith) (c .before .before .before .before .before .before .before .begins .ensures (not-false _ (c .before .before .before .before .before .before .if4 .left))) (c .before .before .before .before .before .any-odd-three .ensures (c .before .before .before .before .if5 .left)) (c .before .before .put-through .ensures))
+    (threes-inside (now (c .before .before .before .before .before .before .before .before .before .before .before .before .before .before .before .args .s)) _ _ (omega arith) (c .before .before .put-through .ensures .0), front-threes (now (c .before .before .before .before .before .before .before .before .before .before .before .before .before .before .before .args .s)) _ _ _ _ _ (omega arith) (omega arith) (omega arith) (c .before .before .before .before .before .before .before .begins .ensures .0 (not-false _ (c .before .before .before .before .before .before .if4 .left))) (c .before .before .before .before .before .any-odd-three .ensures .0 (c .before .before .before .before .if5 .left)) (c .before .before .put-through .ensures))
 
 pub put-last-threes-spec : {M : Type 1} → statement M
 put-last-threes-spec =

@@ -55,7 +55,7 @@ loop-less c =
 
 loop-again : tie.Need-loop-again Inv-loop μ-loop
 loop-again c =
-    (omega arith, simp length-set (c .before .before .before .before .loop .inv .1), onward-then _ _ _ _ _ _ _ (c .before .before .before .before .loop .inv .2) (front-one _ _ _ (omega arith) (c .before .odd .ensures (c .if1 .left))))
+    (omega arith, simp length-set (c .before .before .before .before .loop .inv .1), onward-then _ _ _ _ _ _ _ (c .before .before .before .before .loop .inv .2) (front-one _ _ _ (omega arith) (c .before .odd .ensures .0 (c .if1 .left))))
 
 same-length-2 : tie.Need-same-length-2 Inv-loop μ-loop
 same-length-2 c =

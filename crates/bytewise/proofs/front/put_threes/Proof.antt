@@ -45,7 +45,7 @@ loop-less c =
 
 loop-again : tie.Need-loop-again Inv-loop μ-loop
 loop-again c =
-    (omega arith, c .before .before .put-sixteen .kept .1 .1 .0 ∙ c .before .before .before .before .before .before .before .loop .inv .1, onward-then _ _ _ _ _ _ _ (c .before .before .before .before .before .before .before .loop .inv .2) (front-block _ _ 16 _ _ (omega arith) (c .before .before .before .before .before .any-odd .ensures (not-true _ (c .before .before .before .before .if1 .taken))) (c .before .before .put-sixteen .ensures)))
+    (omega arith, c .before .before .put-sixteen .kept .1 .1 .0 ∙ c .before .before .before .before .before .before .before .loop .inv .1, onward-then _ _ _ _ _ _ _ (c .before .before .before .before .before .before .before .loop .inv .2) (front-block _ _ 16 _ _ (omega arith) (c .before .before .before .before .before .any-odd .ensures .0 (not-true _ (c .before .before .before .before .if1 .taken))) (c .before .before .put-sixteen .ensures)))
 
 any-high-requires : tie.Need-any-high-requires Inv-loop μ-loop
 any-high-requires c κs =
@@ -105,7 +105,7 @@ loop-less-2 c =
 
 loop-again-2 : tie.Need-loop-again-2 Inv-loop μ-loop
 loop-again-2 c =
-    (threes-inside (now (c .before .before .before .before .before .before .before .before .before .before .before .before .before .before .before .before .before .before .args .s)) _ _ (omega arith) (c .before .before .put-through .ensures .0), c .before .before .put-through .kept .1 .1 .0 ∙ c .before .before .before .before .before .before .before .before .before .before .before .before .before .before .before .loop .inv .1, onward-then _ _ _ _ _ _ _ (c .before .before .before .before .before .before .before .before .before .before .before .before .before .before .before .loop .inv .2) (front-threes _ _ _ _ _ _ (omega arith) (omega arith) (omega arith) (c .before .before .before .before .before .before .before .begins .ensures (not-false _ (c .before .before .before .before .before .before .if3 .left))) (c .before .before .before .before .before .any-odd-three .ensures (c .before .before .before .before .if4 .left)) (c .before .before .put-through .ensures)))
+    (threes-inside (now (c .before .before .before .before .before .before .before .before .before .before .before .before .before .before .before .before .before .before .args .s)) _ _ (omega arith) (c .before .before .put-through .ensures .0), c .before .before .put-through .kept .1 .1 .0 ∙ c .before .before .before .before .before .before .before .before .before .before .before .before .before .before .before .loop .inv .1, onward-then _ _ _ _ _ _ _ (c .before .before .before .before .before .before .before .before .before .before .before .before .before .before .before .loop .inv .2) (front-threes _ _ _ _ _ _ (omega arith) (omega arith) (omega arith) (c .before .before .before .before .before .before .before .begins .ensures .0 (not-false _ (c .before .before .before .before .before .before .if3 .left))) (c .before .before .before .before .before .any-odd-three .ensures .0 (c .before .before .before .before .if4 .left)) (c .before .before .put-through .ensures)))
 
 same-length-4 : tie.Need-same-length-4 Inv-loop μ-loop
 same-length-4 c =

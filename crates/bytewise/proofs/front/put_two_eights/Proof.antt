@@ -34,7 +34,7 @@ same-length c = search needs
 
 returns-2 : tie.Need-returns-2
 returns-2 c =
-    (omega arith, onward-then (now (c .before .before .before .before .before .before .before .before .before .before .before .before .before .args .s)) _ _ _ _ _ _ (front-block (now (c .before .before .before .before .before .before .before .before .before .before .before .before .before .args .s)) 0 8 _ _ (omega (arith, c .before .before .before .before .before .before .before .before .before .before .before .before .before .pre)) (c .before .before .before .before .before .before .before .before .before .before .any-odd .ensures (or-left (c .before .before .before .before .before .before .before .before .before .before .any-odd .result) (c .before .before .before .before .before .before .before .before .before .any-odd2 .result) (c .before .before .before .before .before .before .before .before .if1 .left))) (c .before .before .before .before .before .before .copy-eight .ensures)) (front-last (now (c .before .before .before .before .before .before .before .before .before .before .before .before .before .args .s)) _ _ 8 _ _ (omega (arith, c .before .before .before .before .before .before .before .before .before .before .before .before .before .pre)) (omega (arith, c .before .before .before .before .before .before .before .before .before .before .before .before .before .pre)) (omega (arith, c .before .before .before .before .before .before .before .before .before .before .before .before .before .pre)) (c .before .before .before .before .before .before .before .before .before .any-odd2 .ensures (or-right (c .before .before .before .before .before .before .before .before .before .before .any-odd .result) (c .before .before .before .before .before .before .before .before .before .any-odd2 .result) (c .before .before .before .before .before .before .before .before .if1 .left))) (c .before .before .copy-eight2 .ensures)))
+    (omega arith, onward-then (now (c .before .before .before .before .before .before .before .before .before .before .before .before .before .args .s)) _ _ _ _ _ _ (front-block (now (c .before .before .before .before .before .before .before .before .before .before .before .before .before .args .s)) 0 8 _ _ (omega (arith, c .before .before .before .before .before .before .before .before .before .before .before .before .before .pre)) (c .before .before .before .before .before .before .before .before .before .before .any-odd .ensures .0 (or-left (c .before .before .before .before .before .before .before .before .before .before .any-odd .result) (c .before .before .before .before .before .before .before .before .before .any-odd2 .result) (c .before .before .before .before .before .before .before .before .if1 .left))) (c .before .before .before .before .before .before .copy-eight .ensures)) (front-last (now (c .before .before .before .before .before .before .before .before .before .before .before .before .before .args .s)) _ _ 8 _ _ (omega (arith, c .before .before .before .before .before .before .before .before .before .before .before .before .before .pre)) (omega (arith, c .before .before .before .before .before .before .before .before .before .before .before .before .before .pre)) (omega (arith, c .before .before .before .before .before .before .before .before .before .before .before .before .before .pre)) (c .before .before .before .before .before .before .before .before .before .any-odd2 .ensures .0 (or-right (c .before .before .before .before .before .before .before .before .before .before .any-odd .result) (c .before .before .before .before .before .before .before .before .before .any-odd2 .result) (c .before .before .before .before .before .before .before .before .if1 .left))) (c .before .before .copy-eight2 .ensures)))
 
 pub put-two-eights-spec : {M : Type 1} → statement M
 put-two-eights-spec =

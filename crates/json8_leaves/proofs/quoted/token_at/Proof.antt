@@ -4,6 +4,7 @@ use borrow.Author.Needs.{needs}
 use Rattle.json8_leaves.proofs.quoted.token_at.Statement.{statement}
 use Rattle.json8_leaves.proofs.quoted.token_at.Tie as tie
 use denote.Ref.{now}
+use Rattle.strings.proofs.UnitBytes.{units-stored}
 use Rattle.json8_leaves.proofs.Single.{mark-fits, token-of, token-part}
 
 least-requires : tie.Need-least-requires
@@ -27,7 +28,7 @@ same-length c = search needs
 
 returns : tie.Need-returns
 returns c =
-    (token-of (now (c .before .before .before .before .before .before .before .args .s)) (c .before .before .before .before .before .before .before .args .style) (c .before .before .before .before .before .before .before .args .k) (c .before .before .before .before .before .before .before .pre .1) _ (c .before .before .units-from .ensures .0), token-part (now (c .before .before .before .before .before .before .before .args .s)) (c .before .before .before .before .before .before .before .args .style) (c .before .before .before .before .before .before .before .args .k) (c .before .before .before .before .before .before .before .pre .1) _ _ (now (c .before .before .before .before .before .before .before .args .store)) (c .before .before .units-from .last .1 .1 .1 .1 .1 .0) (c .before .before .before .before .least .ensures .2) (c .before .before .before .before .least .ensures .3) (c .before .before .units-from .ensures .1))
+    (token-of (now (c .before .before .before .before .before .before .before .args .s)) (c .before .before .before .before .before .before .before .args .style) (c .before .before .before .before .before .before .before .args .k) (c .before .before .before .before .before .before .before .pre .1) _ (c .before .before .units-from .ensures .0), token-part (now (c .before .before .before .before .before .before .before .args .s)) (c .before .before .before .before .before .before .before .args .style) (c .before .before .before .before .before .before .before .args .k) (c .before .before .before .before .before .before .before .pre .1) _ _ (now (c .before .before .before .before .before .before .before .args .store)) (c .before .before .units-from .last .1 .1 .1 .1 .1 .0) (c .before .before .before .before .least .ensures .2) (c .before .before .before .before .least .ensures .3) (units-stored _ _ _ _ _ (c .before .before .units-from .ensures .1)))
 
 pub token-at-spec : {M : Type 1} → statement M
 token-at-spec =

@@ -15,7 +15,7 @@ closes-requires c κs =
 
 read-literal-requires : tie.Need-read-literal-requires
 read-literal-requires c κs =
-    (c .before .before .before .before .before .before .pre, c .before .before .before .strides .ensures, c .before .before .closes .ensures (c .before .if1 .taken))
+    (c .before .before .before .before .before .before .pre, c .before .before .before .strides .ensures, c .before .before .closes .ensures .0 (c .before .if1 .taken))
 
 same-length : tie.Need-same-length
 same-length c = search needs

@@ -47,7 +47,7 @@ loop-less c =
 
 loop-again : tie.Need-loop-again Inv-loop μ-loop
 loop-again c =
-    over-block _ _ _ _ (c .before .before .quote-of .ensures) _ _ (c .before .before .before .before .loop .inv) (omega arith) (c .before .any-odd .ensures (c .if1 .left))
+    over-block _ _ _ _ (c .before .before .quote-of .ensures) _ _ (c .before .before .before .before .loop .inv) (omega arith) (c .before .any-odd .ensures .0 (c .if1 .left))
 
 returns-2 : tie.Need-returns-2 Inv-loop μ-loop
 returns-2 c =

@@ -1,19 +1,19 @@
--- The invariant: if nothing was found, the first k bytes stand for themselves.
+-- The invariant: nothing was found exactly if the first k bytes stand for themselves.
 -- Assumes nothing.
 use Rattle.runs.proofs.blocks.any_odd.Statement.{statement}
 use Rattle.runs.proofs.blocks.any_odd.Tie as tie
 use Prim.Native.Nat.{_+_, _-_, _≤_}
 use mathlib.Core.Bool.{false}
-use mathlib.Core.Path.{_≡_}
+use mathlib.Core.Path.{_≡_, refl}
 use native.Mathlib.Omega.{arith}
 use lib.ListN.{getD}
 use denote.Ref.{now}
 use Rattle.runs.specs.inner.Blocks.{AllAlone, Alone}
-use Rattle.runs.proofs.BlockLaws.{one-more}
+use Rattle.runs.proofs.BlockLaws.{one-more, one-less}
 
 abbrev Inv-loop : tie.InvT-loop
 Inv-loop q s at n found₀ k₀ found k =
-    (k ≤ n) × (found ≡ false → AllAlone q s at k)
+    (k ≤ n) × (found ≡ false → AllAlone q s at k) × (AllAlone q s at k → found ≡ false)
 
 abbrev μ-loop : tie.MeasureT-loop
 μ-loop q s at n found₀ k₀ found k =
@@ -21,7 +21,7 @@ abbrev μ-loop : tie.MeasureT-loop
 
 loop-holds : tie.Need-loop-holds Inv-loop μ-loop
 loop-holds c =
-    (omega arith, λ e k h. absurd (omega arith))
+    (omega arith, (λ e k h. absurd (omega arith)), λ l. refl)
 
 add-odd : tie.Need-add-odd Inv-loop μ-loop
 add-odd c =
@@ -45,11 +45,11 @@ loop-less c =
 
 loop-again : tie.Need-loop-again Inv-loop μ-loop
 loop-again c =
-    (omega arith, one-more (λ k. Alone (c .before .before .before .before .before .args .q) (getD (now (c .before .before .before .before .before .args .s)) (c .before .before .before .before .before .args .at + k) 0)) _ _ _ (c .before .before .before .loop .inv .1) (c .odd .ensures))
+    (omega arith, one-more (λ k. Alone (c .before .before .before .before .before .args .q) (getD (now (c .before .before .before .before .before .args .s)) (c .before .before .before .before .before .args .at + k) 0)) _ _ _ (c .before .before .before .loop .inv .1) (c .odd .ensures .0), one-less (λ k. Alone (c .before .before .before .before .before .args .q) (getD (now (c .before .before .before .before .before .args .s)) (c .before .before .before .before .before .args .at + k) 0)) _ _ _ (c .before .before .before .loop .inv .2) (c .odd .ensures .1))
 
 returns : tie.Need-returns Inv-loop μ-loop
 returns c =
-    λ e k h. c .before .loop .inv .1 e k (omega arith)
+    ((λ e k h. c .before .loop .inv .1 e k (omega arith)), λ l. c .before .loop .inv .2 (λ k h. l k (omega (arith, c .before .loop .inv .0))))
 
 pub any-odd-spec : {M : Type 1} → statement M
 any-odd-spec =

@@ -56,7 +56,7 @@ loop-less c =
 
 loop-again : tie.Need-loop-again Inv-loop μ-loop
 loop-again c =
-    (omega arith, first-more (c .before .before .before .before .before .before .before .before .args .q) (now (c .before .before .before .before .before .before .before .before .args .s)) (c .before .before .before .before .before .before .before .before .args .at) (c .before .before .before .before .before .before .loop .k) (c .before .before .before .before .before .before .loop .first) (c .before .place-of .result) (c .lesser .result) (c .before .before .before .odd .result) (c .before .before .before .before .before .before .loop .inv .1) (c .before .before .before .odd .ensures) (λ e. c .before .place-of .ensures e ∙ c .before .before .narrow .ensures) (c .lesser .ensures .0) (c .lesser .ensures .1))
+    (omega arith, first-more (c .before .before .before .before .before .before .before .before .args .q) (now (c .before .before .before .before .before .before .before .before .args .s)) (c .before .before .before .before .before .before .before .before .args .at) (c .before .before .before .before .before .before .loop .k) (c .before .before .before .before .before .before .loop .first) (c .before .place-of .result) (c .lesser .result) (c .before .before .before .odd .result) (c .before .before .before .before .before .before .loop .inv .1) (c .before .before .before .odd .ensures .0) (λ e. c .before .place-of .ensures e ∙ c .before .before .narrow .ensures) (c .lesser .ensures .0) (c .lesser .ensures .1))
 
 wide-requires : tie.Need-wide-requires Inv-loop μ-loop
 wide-requires c κs =

@@ -42,7 +42,7 @@ sub-result c = search needs
 
 returns-5 : tie.Need-returns-5
 returns-5 c =
-    over-two _ _ _ _ (c .before .before .before .before .quote-of .ensures) _ _ 32 _ (omega arith) (least-near _ _ _ 32 (c .before .before .before .least .ensures .2) (c .before .before .before .least .ensures .3) (omega arith)) (c .before .before .before .least .ensures .0) (omega arith) (omega arith) (c .before .before .any-odd .ensures (or-left (c .before .before .any-odd .result) (c .before .any-odd2 .result) (c .if4 .left))) (c .before .any-odd2 .ensures (or-right (c .before .before .any-odd .result) (c .before .any-odd2 .result) (c .if4 .left)))
+    over-two _ _ _ _ (c .before .before .before .before .quote-of .ensures) _ _ 32 _ (omega arith) (least-near _ _ _ 32 (c .before .before .before .least .ensures .2) (c .before .before .before .least .ensures .3) (omega arith)) (c .before .before .before .least .ensures .0) (omega arith) (omega arith) (c .before .before .any-odd .ensures .0 (or-left (c .before .before .any-odd .result) (c .before .any-odd2 .result) (c .if4 .left))) (c .before .any-odd2 .ensures .0 (or-right (c .before .before .any-odd .result) (c .before .any-odd2 .result) (c .if4 .left)))
 
 pub last-alone-spec : {M : Type 1} → statement M
 last-alone-spec =

@@ -32,7 +32,7 @@ add-result c = search needs
 
 returns-3 : tie.Need-returns-3
 returns-3 c =
-    over-byte _ _ _ _ (c .before .before .before .quote-of .ensures) (omega arith) (c .before .odd .ensures (c .if2 .left))
+    over-byte _ _ _ _ (c .before .before .before .quote-of .ensures) (omega arith) (c .before .odd .ensures .0 (c .if2 .left))
 
 pub last-byte-spec : {M : Type 1} → statement M
 last-byte-spec =

@@ -30,11 +30,11 @@ soon-requires c κs =
 
 common-before-requires : tie.Need-common-before-requires Inv-loop μ-loop
 common-before-requires c κs =
-    (c .before .before .before .before .before .pre .0, c .before .several .ensures .inside, c .soon .ensures .0)
+    (c .before .before .before .before .before .pre .0, c .before .several .ensures .inside, c .soon .ensures .0 .0)
 
 chars-before-requires : tie.Need-chars-before-requires Inv-loop μ-loop
 chars-before-requires c κs =
-    (c .before .before .before .before .before .before .pre .0, c .common-before .ensures (c .before .before .before .before .before .before .args .style) .inside, c .before .soon .ensures .0)
+    (c .before .before .before .before .before .before .pre .0, c .common-before .ensures (c .before .before .before .before .before .before .args .style) .inside, c .before .soon .ensures .0 .0)
 
 returns : tie.Need-returns Inv-loop μ-loop
 returns c =

@@ -38,11 +38,11 @@ soon-requires c κs =
 
 common-before-requires : tie.Need-common-before-requires Inv-loop μ-loop
 common-before-requires c κs =
-    (c .before .before .before .before .before .before .before .pre .0, c .before .before .before .sixteens .ensures .inside, c .soon .ensures .0)
+    (c .before .before .before .before .before .before .before .pre .0, c .before .before .before .sixteens .ensures .inside, c .soon .ensures .0 .0)
 
 chars-before-requires : tie.Need-chars-before-requires Inv-loop μ-loop
 chars-before-requires c κs =
-    (c .before .before .before .before .before .before .before .before .pre .0, c .common-before .ensures (c .before .before .before .before .before .before .before .before .args .style) .inside, c .before .soon .ensures .0)
+    (c .before .before .before .before .before .before .before .before .pre .0, c .common-before .ensures (c .before .before .before .before .before .before .before .before .args .style) .inside, c .before .soon .ensures .0 .0)
 
 returns-2 : tie.Need-returns-2 Inv-loop μ-loop
 returns-2 c =

@@ -12,7 +12,7 @@ soon-requires c κs =
 
 chars-before-requires : tie.Need-chars-before-requires
 chars-before-requires c κs =
-    (c .before .before .pre .0, c .before .before .pre .1, c .soon .ensures .0)
+    (c .before .before .pre .0, c .before .before .pre .1, c .soon .ensures .0 .0)
 
 returns : tie.Need-returns
 returns c =

@@ -76,7 +76,7 @@ loop-less-2 c =
 
 loop-again-2 : tie.Need-loop-again-2 Inv-loop μ-loop
 loop-again-2 c =
-    (omega arith, λ st e. over-one st _ _ _ e _ (c .before .before .before .before .loop .inv .1 st e) (omega arith) (c .before .odd .ensures (c .if1 .left)))
+    (omega arith, λ st e. over-one st _ _ _ e _ (c .before .before .before .before .loop .inv .1 st e) (omega arith) (c .before .odd .ensures .0 (c .if1 .left)))
 
 returns-3 : tie.Need-returns-3 Inv-loop μ-loop
 returns-3 c =

@@ -6,6 +6,7 @@ use Rattle.strings.proofs.read.read_first.Tie as tie
 use denote.Ref.{now}
 use Rattle.strings.specs.Read.{readToken}
 use Rattle.strings.proofs.Tokens.{token-wrong, token-tight, token-good}
+use Rattle.strings.proofs.UnitBytes.{token-stored}
 
 table-requires : tie.Need-table-requires
 table-requires c κs = search needs
@@ -40,7 +41,7 @@ same-length-2 c = search needs
 
 returns-2 : tie.Need-returns-2
 returns-2 c =
-    token-good (now (c .before .before .before .before .before .before .before .before .before .before .before .before .before .before .before .before .before .args .out)) (readToken (now (c .before .before .before .before .before .before .before .before .before .before .before .before .before .before .before .before .before .args .s))) (c .before .before .before .before .before .before .before .before .before .before .before .token .result) (c .before .before .before .before .before .before .before .before .before .before .before .token .ensures .0) (c .before .before .before .before .before .before .before .before .before .before .before .token .last .1 .1 .0) (c .before .before .before .before .before .before .before .before .before .before .before .token .kept .1 .1 .0) _ _ (c .before .before .before .before .before .before .before .judged .given .1) _ (c .before .before .before .before .before .if1 .left) (c .before .before .token2 .ensures .1)
+    token-good (now (c .before .before .before .before .before .before .before .before .before .before .before .before .before .before .before .before .before .args .out)) (readToken (now (c .before .before .before .before .before .before .before .before .before .before .before .before .before .before .before .before .before .args .s))) (c .before .before .before .before .before .before .before .before .before .before .before .token .result) (c .before .before .before .before .before .before .before .before .before .before .before .token .ensures .0) (c .before .before .before .before .before .before .before .before .before .before .before .token .last .1 .1 .0) (c .before .before .before .before .before .before .before .before .before .before .before .token .kept .1 .1 .0) _ _ (c .before .before .before .before .before .before .before .judged .given .1) _ (c .before .before .before .before .before .if1 .left) (token-stored _ _ _ (c .before .before .token2 .ensures .1))
 
 same-length-3 : tie.Need-same-length-3
 same-length-3 c = search needs

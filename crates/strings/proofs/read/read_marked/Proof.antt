@@ -15,7 +15,7 @@ closes-requires c κs =
 
 read-run-requires : tie.Need-read-run-requires
 read-run-requires c κs =
-    (c .before .before .before .before .before .before .pre .1, through _ _ _ _ _ (c .before .before .before .before .before .before .pre .2) (c .before .before .before .literal-run .ensures), c .before .before .closes .ensures (c .before .if1 .taken))
+    (c .before .before .before .before .before .before .pre .1, through _ _ _ _ _ (c .before .before .before .before .before .before .pre .2) (c .before .before .before .literal-run .ensures), c .before .before .closes .ensures .0 (c .before .if1 .taken))
 
 same-length : tie.Need-same-length
 same-length c = search needs

@@ -13,7 +13,7 @@ closes-requires c κs =
 
 read-run-requires : tie.Need-read-run-requires
 read-run-requires c κs =
-    (c .before .before .before .before .before .before .pre, c .before .before .before .strides .ensures, c .before .before .closes .ensures (c .before .if1 .taken))
+    (c .before .before .before .before .before .before .pre, c .before .before .before .strides .ensures, c .before .before .closes .ensures .0 (c .before .if1 .taken))
 
 same-length : tie.Need-same-length
 same-length c = search needs

@@ -28,7 +28,7 @@ returns c =
 
 returns-2 : tie.Need-returns-2
 returns-2 c =
-    unmarked-token _ _ (c .before .before .mark-at .ensures) _ _ (c .enum-told .given .1)
+    unmarked-token _ _ (c .before .before .mark-at .ensures) _ (c .enum-told .given .1)
 
 pub token-spec : {M : Type 1} → statement M
 token-spec =

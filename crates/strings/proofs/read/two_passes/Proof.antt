@@ -7,6 +7,7 @@ use denote.Ref.{now}
 use lib.ListN.{drop}
 use Rattle.strings.specs.Read.{readUnits}
 use Rattle.strings.proofs.WholeTexts.{first-wrong, first-over, first-tight, second-good}
+use Rattle.strings.proofs.UnitBytes.{units-stored}
 
 slice-relend-prefix-read-units : tie.Need-slice-relend-prefix-read-units
 slice-relend-prefix-read-units c = search needs
@@ -45,7 +46,7 @@ same-length-3 c = search needs
 
 returns-3 : tie.Need-returns-3
 returns-3 c =
-    second-good (now (c .before .before .before .before .before .before .before .before .before .before .before .before .before .before .before .args .s)) (now (c .before .before .before .before .before .before .before .before .before .before .before .before .before .before .before .args .out)) (readUnits (c .before .before .before .before .before .before .before .before .before .before .before .before .before .before .before .args .style) (c .before .before .before .before .before .before .before .before .before .before .before .before .before .before .before .args .from) 0 (drop (c .before .before .before .before .before .before .before .before .before .before .before .before .before .before .before .args .from) (now (c .before .before .before .before .before .before .before .before .before .before .before .before .before .before .before .args .s)))) (c .before .before .before .before .before .before .before .before .before .before .before .read-units .result) (c .before .before .before .before .before .before .before .before .before .before .before .read-units .ensures .0) (c .before .before .before .before .before .before .before .before .before .before .before .read-units .last .1 .1 .1 .1 .0) (c .before .before .before .before .before .before .before .before .before .before .before .read-units .kept .1 .1 .1 .1 .0) _ _ (c .before .before .before .before .before .before .before .judged .given .1) _ (c .before .before .before .before .before .if1 .left) (c .before .before .before .before .if2 .left) (c .before .before .read-units2 .ensures .1)
+    second-good (now (c .before .before .before .before .before .before .before .before .before .before .before .before .before .before .before .args .s)) (now (c .before .before .before .before .before .before .before .before .before .before .before .before .before .before .before .args .out)) (readUnits (c .before .before .before .before .before .before .before .before .before .before .before .before .before .before .before .args .style) (c .before .before .before .before .before .before .before .before .before .before .before .before .before .before .before .args .from) 0 (drop (c .before .before .before .before .before .before .before .before .before .before .before .before .before .before .before .args .from) (now (c .before .before .before .before .before .before .before .before .before .before .before .before .before .before .before .args .s)))) (c .before .before .before .before .before .before .before .before .before .before .before .read-units .result) (c .before .before .before .before .before .before .before .before .before .before .before .read-units .ensures .0) (c .before .before .before .before .before .before .before .before .before .before .before .read-units .last .1 .1 .1 .1 .0) (c .before .before .before .before .before .before .before .before .before .before .before .read-units .kept .1 .1 .1 .1 .0) _ _ (c .before .before .before .before .before .before .before .judged .given .1) _ (c .before .before .before .before .before .if1 .left) (c .before .before .before .before .if2 .left) (units-stored _ _ _ _ _ (c .before .before .read-units2 .ensures .1))
 
 same-length-4 : tie.Need-same-length-4
 same-length-4 c = search needs

@@ -5,6 +5,7 @@ use Rattle.strings_write.proofs.write.judge.Statement.{statement}
 use Rattle.strings_write.proofs.write.judge.Tie as tie
 use native.Mathlib.Omega.{arith}
 use denote.Ref.{now}
+use Rattle.utf8.proofs.Validity.{low-valid}
 use Rattle.strings_write.proofs.AmpleRoom.{ascii-left, nothing-left, part-judged}
 
 ascii-from-requires : tie.Need-ascii-from-requires
@@ -13,7 +14,7 @@ ascii-from-requires c κs =
 
 returns : tie.Need-returns
 returns c =
-    (c .before .before .before .before .pre .1, λ o f. f, ascii-left _ _ (c .before .ascii-from .ensures (c .if1 .taken)))
+    (c .before .before .before .before .pre .1, λ o f. f, ascii-left _ _ (low-valid _ _ (c .before .before .before .before .pre .1) (c .before .ascii-from .ensures .0 (c .if1 .taken))))
 
 put-onward-requires : tie.Need-put-onward-requires
 put-onward-requires c κs =

@@ -21,11 +21,11 @@ ascii-blocks-requires : tie.Need-ascii-blocks-requires Inv-loop μ-loop
 ascii-blocks-requires c κs = (c .before .loop .inv .inside, omega arith)
 
 soon-requires : tie.Need-soon-requires Inv-loop μ-loop
-soon-requires c κs = (c .ascii-blocks .ensures .inside, omega arith)
+soon-requires c κs = (c .ascii-blocks .ensures .alike .inside, omega arith)
 
 chars-until-requires : tie.Need-chars-until-requires Inv-loop μ-loop
 chars-until-requires c κs =
-    (c .before .before .before .before .before .pre, c .before .ascii-blocks .ensures .inside, c .soon .ensures .0)
+    (c .before .before .before .before .before .pre, c .before .ascii-blocks .ensures .alike .inside, c .soon .ensures .0 .0)
 
 returns : tie.Need-returns Inv-loop μ-loop
 returns c = search turn-stuck
