@@ -6,7 +6,6 @@ use mathlib.Core.List.{List, [], _∷_, _++_, append-assoc, append-nil}
 use Prim.Native.Nat.{ℕ, zero, suc, _+_, _-_, _*_, _/_, _^_, _≤_, _<_}
 use native.Mathlib.Omega.{arith}
 use native.Mathlib.Nat.{add-zero}
-use borrow.Author.Count.{below-more}
 use borrow.Author.Tests.{lt-ltb, le-ltb, ne-eqb, ltb-true, ltb-false, eqb-true}
 use lib.Bits.{bitAnd}
 use lib.Dec.{ltb, eqb, lit≤}
@@ -15,7 +14,7 @@ use Rattle.prelude.specs.Bytes.{doubleQuote, backslash}
 use Rattle.prelude.proofs.Tables.{allBelow, at-below}
 use lib.Seq.{sets, length-sets, set-set, drop-cons, drop-drop, take-add, take-suc, length-take-le, getD-drop}
 use Rattle.prelude.specs.Pick.{pick}
-use Rattle.prelude.proofs.Cases.{split, never, or-left, or-right}
+use Rattle.prelude.proofs.Cases.{split, never, or-none}
 use Rattle.prelude.proofs.Picks.{pick-case}
 use Rattle.prelude.proofs.Stores.{sets-append, copied}
 use Rattle.utf8.specs.Class.{classOf}
@@ -24,9 +23,6 @@ use Rattle.units.specs.declared.styles.Form.the-variants.{AsJson}
 use Rattle.units.specs.Escapes.{lookup}
 use Rattle.units.specs.Written.{escapeByte, byNumber, escaped}
 use Rattle.bytewise.specs.inner.Bytewise.{byteText, bytesText, textOf, Unmarked, Texted}
-
-pub or-none : (a b : Bool) → a ≡ false → b ≡ false → a || b ≡ false
-or-none a b e f = rw (e, f)
 
 -- one byte
 
@@ -46,11 +42,6 @@ AsItIs b = 32 ≤ b → byteText b ≡ b ∷ []
 pub unslashed : (b : ℕ) → eqb b doubleQuote || eqb b backslash ≡ false → AsItIs b
 unfolding byteText pick
 unslashed b e h = rw (le-ltb b 32 h, e)
-
--- one byte more of a block
-pub one-more : (P : ℕ → Type 0) (a b : Bool) (n : ℕ) → (a ≡ false → (k : ℕ) → k < n → P k) → (b ≡ false → P n) → a || b ≡ false
-    → (k : ℕ) → k < n + 1 → P k
-one-more P a b n f g e = below-more P n (f (or-left a b e)) (g (or-right a b e))
 
 -- a byte that is no control, stored over a backslash or behind it
 pub text-stored : (b n o : ℕ) (out : List ℕ) → 32 ≤ b → n ≡ pick (eqb b doubleQuote || eqb b backslash) 1 0

@@ -4,3 +4,4 @@ pub mod Tables
 pub mod Suffix
 pub mod Stores
 pub mod Rest
+pub mod Blocks

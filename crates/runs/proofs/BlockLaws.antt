@@ -72,15 +72,6 @@ paired q b c t et e =
       behind-other = λ l. sym et ∙ m ∙ lt-leb 192 b l;
     }
 
--- one byte more of a block
-pub one-more : (P : ℕ → Type 0) (a b : Bool) (n : ℕ) → (a ≡ false → (k : ℕ) → k < n → P k) → (b ≡ false → P n) → a || b ≡ false
-    → (k : ℕ) → k < n + 1 → P k
-one-more P a b n f g e = below-more P n (f (or-left a b e)) (g (or-right a b e))
-
-pub one-less : (P : ℕ → Type 0) (a b : Bool) (n : ℕ) → (((k : ℕ) → k < n → P k) → a ≡ false) → (P n → b ≡ false) → ((k : ℕ) → k < n + 1 → P k)
-    → a || b ≡ false
-one-less P a b n f g h = or-none a b (f (λ k l. h k (omega arith))) (g (h n (omega arith)))
-
 -- one byte more before the first that is found
 pub first-more : (q : ℕ) (s : List ℕ) (at k first place next : ℕ) (found : Bool) → ((j : ℕ) → j < k → j < first → Alone q (getD s (at + j) 0))
     → (found ≡ false → Alone q (getD s (at + k) 0)) → (found ≡ true → place ≡ k) → next ≤ first → next ≤ place

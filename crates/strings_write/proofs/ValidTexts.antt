@@ -10,7 +10,7 @@ use lib.Dec.{ltb, leb, eqb, lit≤}
 use lib.ListN.{take, drop}
 use Rattle.prelude.specs.Bytes.{doubleQuote, backslash}
 use Rattle.prelude.specs.Pick.{pick}
-use Rattle.prelude.proofs.Cases.{split, and-left, and-right, never}
+use Rattle.prelude.proofs.Cases.{split, and-left, and-right, or-none, never}
 use Rattle.prelude.proofs.Suffix.{by-suffix}
 use Rattle.utf8.specs.Utf8.{between, charLen, validFrom, positive}
 use Rattle.utf8.proofs.Characters.{tails, low-bound, char-tails, valid-skip}
@@ -23,7 +23,7 @@ use Rattle.units.proofs.LiteralLaws.{literal-char, literal-written}
 use Rattle.units.proofs.EscapeStores.{escape-written}
 use Rattle.strings_write.specs.Write.{writeUnits}
 use Rattle.bytewise.specs.inner.Bytewise.{byteText, bytesText}
-use Rattle.bytewise.proofs.ByteTexts.{or-none, unslashed}
+use Rattle.bytewise.proofs.ByteTexts.{unslashed}
 use Rattle.strings_write.proofs.WriteSteps.{write-skip}
 
 -- a byte from 0x80 up

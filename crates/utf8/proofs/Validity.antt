@@ -5,12 +5,12 @@ use mathlib.Core.Bool.{Bool, true, false, _||_}
 use mathlib.Core.List.{List}
 use Prim.Native.Nat.{ℕ, zero, suc, _+_, _-_, _≤_, _<_}
 use native.Mathlib.Omega.{arith}
-use borrow.Author.Count.{below-more}
 use borrow.Author.Tests.{ltb-true, ltb-false, leb-false, lt-leb}
 use lib.Dec.{ltb, leb}
 use lib.ListN.{length, getD, drop, length-drop, drop-of-length-le}
 use lib.Seq.{drop-drop, drop-cons}
-use Rattle.prelude.proofs.Cases.{split, or-left, or-right, or-none}
+use Rattle.prelude.proofs.Blocks.{one-more, one-less}
+use Rattle.prelude.proofs.Cases.{split}
 use Rattle.prelude.proofs.Rest.{advances}
 use Rattle.utf8.specs.Class.{classOf}
 use Rattle.utf8.specs.Utf8.{longLen, charLen, validFrom}
@@ -21,10 +21,10 @@ use Rattle.utf8.proofs.Characters.{char-le, valid-step, valid-stuck, as
 -- one byte more of a block
 module _ (s : List ℕ) (at n : ℕ) (a : Bool) where
   pub low-more : (a ≡ false → AllLow s at n) → a || leb 0x7f (getD s (at + n) 0) ≡ false → AllLow s at (n + 1)
-  low-more f e = below-more (λ k. getD s (at + k) 0 < 0x7f) n (f (or-left a _ e)) (leb-false 0x7f (getD s (at + n) 0) (or-right a _ e))
+  low-more f = one-more (λ k. getD s (at + k) 0 < 0x7f) a _ n f (leb-false 0x7f (getD s (at + n) 0))
 
   pub low-less : (AllLow s at n → a ≡ false) → AllLow s at (n + 1) → a || leb 0x7f (getD s (at + n) 0) ≡ false
-  low-less f l = or-none a _ (f (λ k h. l k (omega arith))) (lt-leb 0x7f (getD s (at + n) 0) (l n (omega arith)))
+  low-less f = one-less (λ k. getD s (at + k) 0 < 0x7f) a _ n f (lt-leb 0x7f (getD s (at + n) 0))
 
 -- a part of such bytes, and bytes up to a part that reaches the end
 module _ (s : List ℕ) where

@@ -9,7 +9,7 @@ use native.Mathlib.Omega.{arith}
 use lib.ListN.{getD}
 use denote.Ref.{now}
 use borrow.Author.Tests.{eqb-false}
-use Rattle.runs.proofs.BlockLaws.{one-more}
+use Rattle.prelude.proofs.Blocks.{one-more}
 use Rattle.line_ends.specs.inner.Ends.{NoLF}
 
 abbrev Inv-loop : tie.InvT-loop

@@ -10,7 +10,7 @@ use lib.ListN.{getD}
 use denote.Ref.{now}
 use borrow.Author.Tests.{ltb-false}
 use Rattle.bytewise.specs.inner.Bytewise.{NoControl}
-use Rattle.bytewise.proofs.ByteTexts.{one-more}
+use Rattle.prelude.proofs.Blocks.{one-more}
 
 abbrev Inv-loop : tie.InvT-loop
 Inv-loop s at found₀ k₀ found k =

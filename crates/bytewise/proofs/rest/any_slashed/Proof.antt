@@ -8,7 +8,8 @@ use mathlib.Core.Path.{_≡_}
 use native.Mathlib.Omega.{arith}
 use lib.ListN.{getD}
 use denote.Ref.{now}
-use Rattle.bytewise.proofs.ByteTexts.{AsItIs, one-more}
+use Rattle.prelude.proofs.Blocks.{one-more}
+use Rattle.bytewise.proofs.ByteTexts.{AsItIs}
 
 abbrev Inv-loop : tie.InvT-loop
 Inv-loop s at found₀ k₀ found k =
