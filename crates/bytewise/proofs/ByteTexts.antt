@@ -19,8 +19,8 @@ use Rattle.prelude.proofs.Picks.{pick-case}
 use Rattle.prelude.proofs.Stores.{sets-append, copied}
 use Rattle.utf8.specs.Class.{classOf}
 use Rattle.utf8.proofs.ByteClasses.{by-byte}
-use Rattle.units.specs.declared.styles.Form.the-variants.{AsJson}
-use Rattle.units.specs.Escapes.{lookup}
+use Rattle.notation.specs.declared.styles.Form.the-variants.{AsJson}
+use Rattle.notation.specs.Escapes.{lookup}
 use Rattle.units.specs.Written.{escapeByte, byNumber, escaped}
 use Rattle.bytewise.specs.inner.Bytewise.{byteText, bytesText, textOf, Unmarked, Texted}
 

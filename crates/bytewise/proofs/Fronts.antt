@@ -12,7 +12,7 @@ use lib.ListN.{length, getD, take, drop, set, length-drop}
 use lib.Seq.{sets, set-set, set-comm, drop-cons, drop-drop, take-add, length-take-le}
 use Rattle.prelude.specs.Bytes.{doubleQuote}
 use Rattle.prelude.proofs.Stores.{sets-append, copied}
-use Rattle.units.specs.declared.styles.Style.the-variants.{Json}
+use Rattle.notation.specs.declared.styles.Style.the-variants.{Json}
 use Rattle.utf8.specs.Utf8.{tail}
 use Rattle.runs.specs.inner.Blocks.{Running, Alone, AllAlone, AllTripled, Begun, owed}
 use Rattle.runs.proofs.LiteralRuns.{here}

@@ -10,7 +10,7 @@ ghost use Rattle.prelude.specs.Pick.{pick};
 ghost use Rattle.utf8.specs.Class.{IsTable};
 ghost use Rattle.bytewise.specs.inner.Bytewise.{byteText, NoControl, Unmarked, Texted};
 use crate::copies;
-use units::styles::Form;
+use notation::styles::Form;
 use units::written;
 use utf8::classes;
 

@@ -17,12 +17,14 @@ use Rattle.prelude.proofs.Rest.{getD-inside}
 use Rattle.utf8.specs.Class.{classOf}
 use Rattle.utf8.specs.Utf8.{between, lowOf, highOf, charLen}
 use Rattle.utf8.proofs.Characters.{tails, low-bound, char-tails}
-use Rattle.units.specs.declared.styles.Style.{Style}
-use Rattle.units.specs.declared.styles.Style.the-variants.{Json, Unicode, Bytes}
-use Rattle.units.specs.Styles.{quote, fault}
-use Rattle.units.specs.Units.{unitAt, literalLen, literalRun}
-use Rattle.units.proofs.LiteralLaws.{literal-char, by-run, run-ends, quote-ascii}
-use Rattle.strings.specs.Read.{StringRead, accepted, refused, more, readUnits, Opening, opens, unopened, opening, readFrom, readToken}
+use Rattle.notation.specs.declared.styles.Style.{Style}
+use Rattle.notation.specs.declared.styles.Style.the-variants.{Json, Unicode, Bytes}
+use Rattle.notation.specs.Styles.{quote, fault}
+use Rattle.notation.specs.Literals.{literalLen, literalRun}
+use Rattle.units.specs.Units.{unitAt}
+use Rattle.notation.proofs.LiteralLaws.{literal-char, by-run, run-ends, quote-ascii}
+use Rattle.notation.specs.Marks.{Opening, opens, unopened, opening}
+use Rattle.strings.specs.Read.{StringRead, accepted, refused, more, readUnits, readFrom, readToken}
 use Rattle.strings.proofs.Runs.{run-law}
 use Rattle.strings.proofs.Steps.{read-skip, read-close, read-fault}
 use Rattle.strings.proofs.Places.{Inside, units-inside}

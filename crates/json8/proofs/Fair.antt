@@ -11,7 +11,8 @@ use lib.Dec.{ltb, eqb, lit≤}
 use lib.ListN.{length, take, drop, length-append, length-drop}
 use Rattle.prelude.proofs.Picks.{pick-case}
 use Rattle.prelude.proofs.Suffix.{by-suffix}
-use Rattle.strings.specs.Read.{opening, StringRead, accepted, refused as unread, readToken}
+use Rattle.notation.specs.Marks.{opening}
+use Rattle.strings.specs.Read.{StringRead, accepted, refused as unread, readToken}
 use Rattle.strings.proofs.Places.{Inside, token-inside}
 use Rattle.strings.proofs.Lengths.{Less, token-length}
 use Rattle.tokens.specs.declared.blanks.Blank.{Blank}

@@ -9,7 +9,8 @@ use lib.Dec.{eqb}
 use lib.ListN.{length, take}
 use Rattle.prelude.specs.Pick.{pick}
 use Rattle.prelude.specs.Refusals.{cutOff, misplaced, badNumber}
-use Rattle.strings.specs.Read.{Opening, opens, unopened, opening, StringRead, accepted, refused as unread, readToken}
+use Rattle.notation.specs.Marks.{Opening, opens, unopened, opening}
+use Rattle.strings.specs.Read.{StringRead, accepted, refused as unread, readToken}
 use Rattle.tokens.specs.declared.blanks.Blank.{Blank}
 use Rattle.tokens.specs.declared.blanks.Blank.the-variants.{Clear, Ill}
 use Rattle.tokens.specs.declared.words.Word.{Word}

@@ -5,11 +5,11 @@ use mathlib.Core.List.{List}
 use Prim.Native.Nat.{ℕ, _+_, _-_, _≤_, _<_}
 use native.Mathlib.Omega.{arith}
 use lib.ListN.{length, take, drop, length-drop}
-use Rattle.units.specs.declared.styles.Style.{Style}
-use Rattle.strings.specs.declared.read.Mark.{Mark as Opener}
-use Rattle.strings.specs.declared.read.Mark.the-variants.{Opens, Unopened}
-use Rattle.strings.specs.inner.Turns.{openingOf}
-use Rattle.strings.specs.Read.{Opening, opens, unopened, opening, readFrom, readToken}
+use Rattle.notation.specs.declared.styles.Style.{Style}
+use Rattle.notation.specs.declared.marks.Mark.{Mark as Opener}
+use Rattle.notation.specs.declared.marks.Mark.the-variants.{Opens, Unopened}
+use Rattle.notation.specs.Marks.{openingOf, Opening, opens, unopened, opening}
+use Rattle.strings.specs.Read.{readFrom, readToken}
 use Rattle.tokens.specs.declared.starts.Start.{Start}
 use Rattle.tokens.specs.declared.starts.Start.the-variants.{Ended, String as StringStart, Word as WordStart, Number as NumberStart, List as ListStart, Dict, Nothing}
 use Rattle.tokens.specs.Words.{wordOf}

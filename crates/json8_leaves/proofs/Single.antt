@@ -12,12 +12,13 @@ use Rattle.prelude.specs.Pick.{pick}
 use Rattle.prelude.proofs.Cases.{never}
 use Rattle.prelude.proofs.Stores.{sets-part}
 use borrow.Rule.Slice.PartMut.{putMid}
-use Rattle.units.specs.declared.styles.Style.{Style}
-use Rattle.units.specs.Styles.{quote}
-use Rattle.units.specs.Units.{literalRun}
+use Rattle.notation.specs.declared.styles.Style.{Style}
+use Rattle.notation.specs.Styles.{quote}
+use Rattle.notation.specs.Literals.{literalRun}
 use Rattle.strings.specs.declared.answers.Token.{Token}
 use Rattle.strings.specs.declared.answers.Token.the-variants.{Ended as TokenEnded, Failed}
-use Rattle.strings.specs.Read.{StringRead, accepted, refused as unread, readUnits, readToken, opens, opening, tokenOf}
+use Rattle.notation.specs.Marks.{opens, opening}
+use Rattle.strings.specs.Read.{StringRead, accepted, refused as unread, readUnits, readToken, tokenOf}
 use Rattle.strings.proofs.UnitBytes.{Stored}
 use Rattle.strings.proofs.Places.{Inside, token-inside, Marked, opening-fits}
 use Rattle.strings.proofs.Steps.{read-skip}

@@ -5,9 +5,10 @@ ghost use mathlib.Core.Path.{_≡_};
 ghost use Prim.Native.Nat.{ℕ, _+_, _≤_, _<_};
 ghost use lib.ListN.{length, getD, drop};
 ghost use Rattle.utf8.specs.Class.{IsTable};
-ghost use Rattle.units.specs.Styles.{quote};
-ghost use Rattle.units.specs.Units.{literalRun};
-ghost use Rattle.strings.specs.Read.{opens, opening, readToken, tokenOf};
+ghost use Rattle.notation.specs.Styles.{quote};
+ghost use Rattle.notation.specs.Literals.{literalRun};
+ghost use Rattle.notation.specs.Marks.{opens, opening};
+ghost use Rattle.strings.specs.Read.{readToken, tokenOf};
 ghost use Rattle.json8.specs.Nodes.{limited};
 ghost use Rattle.prelude.specs.Limits.{nodeMax};
 ghost use Rattle.json8.specs.Leaves.{string, key};
@@ -16,18 +17,19 @@ ghost use Rattle.json8.specs.inner.Slashes.{Slashed};
 use crate::leaves;
 use crate::nodes;
 use crate::nodes::Out;
+use notation::marks;
+use notation::marks::Mark;
+use notation::styles;
+use notation::styles::Style;
 use prelude::limits::NODE_MAX;
 use prelude::refusals;
 use prelude::slices;
 use runs::literals;
 use strings::answers::Token;
 use strings::read;
-use strings::read::Mark;
 use tokens::starts;
 use tokens::starts::Start;
 use tokens::words;
-use units::styles;
-use units::styles::Style;
 
 // The string that a text begins with, behind its mark of k bytes and a first run of literal characters; its bytes behind the store's
 // first m, as far as there is room.
@@ -113,7 +115,7 @@ pub fn string_node(
     if NODE_MAX <= n {
         return Out::Refused(refusals::TOO_MANY, at);
     }
-    let mark = read::mark_at(&text[at..]);
+    let mark = marks::mark_at(&text[at..]);
     match mark {
         Mark::Opens(style, k) => marked_node(t, text, at, k, style, n, m, table, store),
         Mark::Unopened => Out::Refused(refusals::NO_OPENING, at),

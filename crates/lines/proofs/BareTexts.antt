@@ -15,10 +15,10 @@ use Rattle.utf8.specs.Utf8.{charLen, charBy, longLen}
 use Rattle.utf8.proofs.ByteClasses.{by-byte}
 use Rattle.utf8.proofs.CharSteps.{one-byte, lone-tail, long-char}
 use Rattle.utf8.proofs.Characters.{char-le}
-use Rattle.units.specs.declared.styles.Style.{Style}
-use Rattle.units.specs.Units.{literalRun}
+use Rattle.notation.specs.declared.styles.Style.{Style}
+use Rattle.notation.specs.Literals.{literalRun}
 use Rattle.runs.specs.inner.Blocks.{Running}
-use Rattle.units.proofs.LiteralLaws.{literal-char, literal-printed, by-run, run-fits}
+use Rattle.notation.proofs.LiteralLaws.{literal-char, literal-printed, by-run, run-fits}
 use Rattle.lines.specs.declared.bare.Checked.{Checked}
 use Rattle.lines.specs.declared.bare.Checked.the-variants.{Fine, Faulty}
 use Rattle.lines.specs.Line.{bareFault, bareFrom, bare}

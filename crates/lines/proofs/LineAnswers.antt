@@ -14,14 +14,15 @@ use Rattle.prelude.specs.Pick.{pick}
 use Rattle.prelude.proofs.Cases.{split, never}
 use Rattle.prelude.proofs.Stores.{sets-over}
 use Rattle.utf8.specs.Utf8.{validUtf8}
-use Rattle.units.specs.declared.styles.Style.{Style}
+use Rattle.notation.specs.declared.styles.Style.{Style}
 use Rattle.runs.specs.inner.Blocks.{Running}
 use Rattle.strings.specs.declared.answers.Decoded.{Decoded}
 use Rattle.strings.specs.declared.answers.Decoded.the-variants.{Done, Refused as Undone}
-use Rattle.strings.specs.declared.read.Mark.{Mark}
-use Rattle.strings.specs.declared.read.Mark.the-variants.{Opens, Unopened}
-use Rattle.strings.specs.Read.{StringRead, accepted, refused, fitted, decodedOf, readInto, opens, unopened, opening, readString}
-use Rattle.strings.specs.inner.Turns.{openingOf, readBehind, Closed}
+use Rattle.notation.specs.declared.marks.Mark.{Mark}
+use Rattle.notation.specs.declared.marks.Mark.the-variants.{Opens, Unopened}
+use Rattle.notation.specs.Marks.{opens, unopened, opening, openingOf}
+use Rattle.strings.specs.Read.{StringRead, accepted, refused, fitted, decodedOf, readInto, readString}
+use Rattle.strings.specs.inner.Turns.{readBehind, Closed}
 use Rattle.strings.proofs.Utf8Denoted.{Valid}
 use Rattle.strings.proofs.WholeTexts.{mark-inside, literal-valid, marked as read-marked}
 use Rattle.lines.specs.declared.bare.Checked.{Checked}

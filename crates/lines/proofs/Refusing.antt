@@ -12,13 +12,14 @@ use Rattle.prelude.proofs.Picks.{pick-case}
 use Rattle.prelude.proofs.Suffix.{by-suffix}
 use Rattle.utf8.specs.Utf8.{between, charLen, charBy, charAt}
 use Rattle.utf8.proofs.Characters.{char-le}
-use Rattle.units.specs.declared.styles.Style.{Style}
-use Rattle.units.specs.declared.styles.Style.the-variants.{Json, Unicode, Bytes}
-use Rattle.units.specs.Styles.{quote, StringUnit, close, took, fault}
-use Rattle.units.specs.Hex.{hexRun}
-use Rattle.units.specs.Escapes.{lookup, lettersOf, codeUnit, fourDigits, scalar, isBraced, braced, codePoint, rawByte, letterEscape, escape}
+use Rattle.notation.specs.declared.styles.Style.{Style}
+use Rattle.notation.specs.declared.styles.Style.the-variants.{Json, Unicode, Bytes}
+use Rattle.notation.specs.Styles.{quote, StringUnit, close, took, fault}
+use Rattle.notation.specs.Hex.{hexRun}
+use Rattle.notation.specs.Escapes.{lookup, lettersOf, codeUnit, fourDigits, scalar, isBraced, braced, codePoint, rawByte, letterEscape, escape}
 use Rattle.units.specs.Units.{literal, unitAt}
-use Rattle.strings.specs.Read.{StringRead, accepted, refused, more, after, nothingBehind, readUnits, Opening, opens, unopened, opening, readFrom, readToken, readString}
+use Rattle.notation.specs.Marks.{Opening, opens, unopened, opening}
+use Rattle.strings.specs.Read.{StringRead, accepted, refused, more, after, nothingBehind, readUnits, readFrom, readToken, readString}
 use Rattle.strings.proofs.Steps.{read-skip}
 use Rattle.strings.proofs.Places.{Inside, string-inside}
 use Rattle.lines.specs.declared.bare.Checked.{Checked}

@@ -11,7 +11,8 @@ use Rattle.prelude.specs.Refusals.{control}
 use Rattle.utf8.specs.declared.chars.Char.{Char}
 use Rattle.utf8.specs.declared.chars.Char.the-variants.{Good, Bad}
 use Rattle.utf8.specs.Utf8.{charLen, charAt, validUtf8}
-use Rattle.strings.specs.Read.{StringRead, accepted, refused, Opening, opens, unopened, opening, readString}
+use Rattle.notation.specs.Marks.{Opening, opens, unopened, opening}
+use Rattle.strings.specs.Read.{StringRead, accepted, refused, readString}
 use Rattle.lines.specs.declared.bare.Checked.{Checked}
 use Rattle.lines.specs.declared.bare.Checked.the-variants.{Fine, Faulty}
 

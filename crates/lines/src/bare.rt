@@ -4,10 +4,10 @@ ghost use Prim.Native.Nat.{_≤_};
 ghost use lib.ListN.{length, drop};
 ghost use Rattle.utf8.specs.Class.{IsTable};
 ghost use Rattle.lines.specs.Line.{bareFrom, bare};
+use notation::styles::Style;
 use prelude::refusals;
 use runs::blocks;
 use runs::literals;
-use units::styles::Style;
 use utf8::chars;
 use utf8::classes;
 

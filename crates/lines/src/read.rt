@@ -4,7 +4,8 @@ ghost use Prim.Native.Nat.{_+_, _<_};
 ghost use lib.ListN.{length};
 ghost use Rattle.utf8.specs.Class.{IsTable};
 ghost use Rattle.runs.specs.inner.Blocks.{Running};
-ghost use Rattle.strings.specs.Read.{opens, opening, readString};
+ghost use Rattle.notation.specs.Marks.{opens, opening};
+ghost use Rattle.strings.specs.Read.{readString};
 ghost use Rattle.strings.specs.inner.Turns.{Closed};
 ghost use Rattle.lines.specs.Line.{bare, kindOf, fromString, fromBare, readStripped, readLine};
 ghost use Rattle.lines.specs.Answers.{fittedLine, readLineText, lineOf, lineInto};
@@ -12,14 +13,14 @@ ghost use Rattle.lines.specs.inner.Told.{Told};
 use crate::bare;
 use crate::bare::Checked;
 use crate::strip;
+use notation::marks::Mark;
+use notation::styles::Style;
 use prelude::limits::LINE_MAX;
 use prelude::refusals;
 use prelude::slices;
 use runs::blocks;
 use runs::literals;
 use strings::answers::Decoded;
-use strings::read::Mark;
-use units::styles::Style;
 use utf8::chars;
 use utf8::classes;
 
@@ -105,7 +106,7 @@ fn read_stripped(s: &[u8], out: &mut [u8]) -> Line
     requires { ⌜ 0 < length (now s) ⌝ }
     ensures { λ r. ⌜ Told (readStripped (now (s .entry))) r (now (out .entry)) (now (out .exit)) ⌝ }
 {
-    let mark = strings::read::mark_at(s);
+    let mark = notation::marks::mark_at(s);
     match mark {
         Mark::Opens(style, from) => read_quoted(s, from, style, out),
         Mark::Unopened => read_bare(s, out),

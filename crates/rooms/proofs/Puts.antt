@@ -15,7 +15,7 @@ use Rattle.prelude.proofs.Picks.{pick-case, pick-true, pick-false}
 use Rattle.prelude.proofs.Stores.{sets-append, sets-part}
 use Rattle.prelude.specs.Pick.{pick}
 use Rattle.utf8.specs.Utf8.{validUtf8}
-use Rattle.units.specs.declared.styles.Form.the-variants.{AsJson, AsBytes}
+use Rattle.notation.specs.declared.styles.Form.the-variants.{AsJson, AsBytes}
 use Rattle.strings_write.specs.Write.{quoted, writeString}
 use Rattle.strings_write.specs.inner.Passes.{Passed}
 use Rattle.strings_write.proofs.Writing.{quoted-positive}

@@ -17,12 +17,12 @@ use Rattle.prelude.proofs.Cases.{split, or-left, or-right, or-none, never}
 use Rattle.utf8.specs.Class.{classOf}
 use Rattle.utf8.specs.Utf8.{tail, twoBytes, longLen, lenBy, charLen}
 use Rattle.utf8.proofs.Characters.{ascii-len}
-use Rattle.units.specs.declared.styles.Style.{Style}
-use Rattle.units.specs.declared.styles.Style.the-variants.{Json}
-use Rattle.units.specs.Styles.{quote}
-use Rattle.units.specs.Units.{literalLen}
+use Rattle.notation.specs.declared.styles.Style.{Style}
+use Rattle.notation.specs.declared.styles.Style.the-variants.{Json}
+use Rattle.notation.specs.Styles.{quote}
+use Rattle.notation.specs.Literals.{literalLen}
 use Rattle.runs.specs.inner.Blocks.{Running, Alone, Paired, AllAlone, AllPaired, continued}
-use Rattle.units.proofs.LiteralClasses.{two-bytes}
+use Rattle.notation.proofs.LiteralClasses.{two-bytes}
 use Rattle.runs.proofs.LiteralRuns.{here, moved}
 
 pub same-test : (a b : Bool) → not (Bool·beq a b) ≡ false → a ≡ b

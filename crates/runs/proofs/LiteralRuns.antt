@@ -17,11 +17,11 @@ use Rattle.prelude.proofs.Rest.{advances}
 use Rattle.utf8.specs.Class.{classOf, plainRun}
 use Rattle.utf8.proofs.PlainRuns.{run-plain, run-stop, after-eights}
 use Rattle.utf8.proofs.Characters.{char-le}
-use Rattle.units.specs.declared.styles.Style.{Style}
-use Rattle.units.specs.Units.{literalLen, orStop, literalRun}
+use Rattle.notation.specs.declared.styles.Style.{Style}
+use Rattle.notation.specs.Literals.{literalLen, orStop, literalRun}
 use Rattle.runs.specs.inner.Blocks.{Running, Ran}
-use Rattle.units.proofs.LiteralClasses.{literal-class}
-use Rattle.units.proofs.LiteralLaws.{literal-char, run-skip, run-fits, run-ends}
+use Rattle.notation.proofs.LiteralClasses.{literal-class}
+use Rattle.notation.proofs.LiteralLaws.{literal-char, run-skip, run-fits, run-ends}
 
 module _ (st : Style) where
   pub literal-fits : (s : List ℕ) → literalLen st s ≤ length s

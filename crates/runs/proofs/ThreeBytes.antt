@@ -15,9 +15,9 @@ use Rattle.prelude.specs.Pick.{pick}
 use Rattle.prelude.proofs.Cases.{split, never, and-left, and-right, or-left, or-right}
 use Rattle.utf8.specs.Class.{classOf}
 use Rattle.utf8.specs.Utf8.{tail, lowOf, highOf, threeBytes, longLen, lenBy, charLen}
-use Rattle.units.specs.declared.styles.Style.{Style}
-use Rattle.units.specs.Styles.{quote}
-use Rattle.units.specs.Units.{literalLen}
+use Rattle.notation.specs.declared.styles.Style.{Style}
+use Rattle.notation.specs.Styles.{quote}
+use Rattle.notation.specs.Literals.{literalLen}
 use Rattle.runs.specs.inner.Blocks.{Running, Tripled, AllTripled, Begun, owed}
 use Rattle.runs.proofs.LiteralRuns.{moved}
 use Rattle.runs.proofs.BlockLaws.{same-test, same-none, tail-ascii, tail-is, tail-lead, two-len, char-at, one-char}

@@ -4,12 +4,12 @@ ghost use mathlib.Core.Bool.{true, false};
 ghost use Prim.Native.Nat.{ℕ, _+_, _<_, _≤_};
 ghost use lib.ListN.{length, getD, drop};
 ghost use Rattle.utf8.specs.Utf8.{tail};
-ghost use Rattle.units.specs.Units.{literalLen};
+ghost use Rattle.notation.specs.Literals.{literalLen};
 ghost use Rattle.runs.specs.inner.Blocks.{Alone, Paired, AllAlone, AllPaired, Running, continued};
 use crate::shorts;
+use notation::styles;
+use notation::styles::Style;
 use prelude::slices;
-use units::styles;
-use units::styles::Style;
 
 // A control, the backslash, the closing quote, or a byte that is not ASCII.
 pub fn odd(q: u8, b: u8) -> bool

@@ -4,12 +4,12 @@ ghost use mathlib.Core.Bool.{true};
 ghost use mathlib.Core.Path.{_≡_};
 ghost use Prim.Native.Nat.{_+_, _<_, _≤_};
 ghost use lib.ListN.{length};
-ghost use Rattle.units.specs.declared.styles.Style.the-variants.{Json};
+ghost use Rattle.notation.specs.declared.styles.Style.the-variants.{Json};
 ghost use Rattle.runs.specs.inner.Blocks.{Running};
 use crate::blocks;
 use crate::literals;
-use units::styles;
-use units::styles::Style;
+use notation::styles;
+use notation::styles::Style;
 
 // The first byte of a character of two.
 fn leads(b: u8) -> bool

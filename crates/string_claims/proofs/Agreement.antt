@@ -15,13 +15,13 @@ use Rattle.prelude.proofs.Cases.{split, and-right}
 use Rattle.utf8.specs.Class.{classOf}
 use Rattle.utf8.specs.Utf8.{between, lowOf, highOf, charLen, charBy}
 use Rattle.utf8.proofs.Characters.{tails, sizeOf, low-bound, char-is, char-tails}
-use Rattle.units.specs.declared.styles.Style.{Style}
-use Rattle.units.specs.declared.styles.Style.the-variants.{Json, Unicode, Bytes}
-use Rattle.units.specs.Styles.{quote}
-use Rattle.units.specs.Hex.{hexVal, hexDigits, hexRun}
-use Rattle.units.specs.Escapes.{lowHalf, fourDigits, braced, codePoint, rawByte, escape}
+use Rattle.notation.specs.declared.styles.Style.{Style}
+use Rattle.notation.specs.declared.styles.Style.the-variants.{Json, Unicode, Bytes}
+use Rattle.notation.specs.Styles.{quote}
+use Rattle.notation.specs.Hex.{hexVal, hexDigits, hexRun}
+use Rattle.notation.specs.Escapes.{lowHalf, fourDigits, braced, codePoint, rawByte, escape}
 use Rattle.units.specs.Units.{literal, unitAt}
-use Rattle.units.proofs.LiteralLaws.{quote-ascii}
+use Rattle.notation.proofs.LiteralLaws.{quote-ascii}
 
 -- two texts that are one up to a closing quote
 pub data Agree (st : Style) : List ℕ → List ℕ → Type 0 where

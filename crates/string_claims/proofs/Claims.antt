@@ -7,13 +7,14 @@ use lib.Dec.{lit≤}
 use Rattle.prelude.specs.Pick.{pick}
 use Rattle.utf8.specs.Class.{classOf}
 use Rattle.utf8.specs.Utf8.{lowOf, highOf, twoBytes, threeBytes, fourBytes, longLen, lenBy, charLen, encode}
-use Rattle.units.specs.declared.styles.Form.the-variants.{AsBytes}
-use Rattle.units.specs.Hex.{hexVal, hexDigits, hexFrom}
-use Rattle.units.specs.Escapes.{lookup, lowHalf, codeUnit, fourDigits, scalar, braced, rawByte, escape}
+use Rattle.notation.specs.declared.styles.Form.the-variants.{AsBytes}
+use Rattle.notation.specs.Hex.{hexVal, hexDigits, hexFrom}
+use Rattle.notation.specs.Escapes.{lookup, lowHalf, codeUnit, fourDigits, scalar, braced, rawByte, escape}
 use Rattle.units.specs.Units.{unitAt}
 use Rattle.units.proofs.Sizes.{took-size}
 use Rattle.strings.specs.declared.answers.Token.the-variants.{Ended, Failed}
-use Rattle.strings.specs.Read.{readUnits, opening, readToken, readString, TokenNumbers}
+use Rattle.notation.specs.Marks.{opening}
+use Rattle.strings.specs.Read.{readUnits, readToken, readString, TokenNumbers}
 use Rattle.strings_write.specs.Write.{writeBytes, writeString}
 use Rattle.string_claims.specs.Claims.{examples, Example-Strings, Written-Reads-Back, Bytes-Form-Reads-Back, Written-Token-Reads-Back, Bytes-Form-Token-Reads-Back, Ends-At-Its-Quote, Unicode-Is-Utf8, Unicode-Token-Is-Utf8, Writer-Is-Injective, Written-Is-One-Line, Bytes-Form-Is-One-Line, Places-Inside, Cut-Off-At-End, Units-Progress, Written-Length, Read-Length, Tokens-Tell-All}
 use Rattle.string_claims.proofs.Ends.{token-cut}

@@ -8,12 +8,13 @@ use lib.ListN.{length, take, drop, length-append, take-append-drop, getD, List·
 use lib.Seq.{drop-at, take-at, length-take-le}
 use Rattle.prelude.specs.Refusals.{noOpening}
 use Rattle.prelude.proofs.Suffix.{by-suffix}
-use Rattle.units.specs.declared.styles.Style.{Style}
-use Rattle.units.specs.Styles.{quote, StringUnit, close, took, fault}
+use Rattle.notation.specs.declared.styles.Style.{Style}
+use Rattle.notation.specs.Styles.{quote, StringUnit, close, took, fault}
 use Rattle.units.specs.Units.{unitAt}
 use Rattle.units.proofs.Sizes.{took-size, close-quote}
 use Rattle.string_claims.proofs.Agreement.{unit-agree, append-agree}
-use Rattle.strings.specs.Read.{StringRead, accepted, refused, more, after, readUnits, Opening, opens, unopened, opening, readFrom, readToken}
+use Rattle.notation.specs.Marks.{Opening, opens, unopened, opening}
+use Rattle.strings.specs.Read.{StringRead, accepted, refused, more, after, readUnits, readFrom, readToken}
 use Rattle.strings.proofs.Places.{Marked, opening-fits}
 use Rattle.strings.proofs.Steps.{read-skip, read-close, read-took}
 

@@ -9,11 +9,11 @@ use lib.ListN.{length, getD}
 use Rattle.prelude.proofs.Picks.{pick-case}
 use Rattle.prelude.proofs.Suffix.{by-suffix}
 use Rattle.utf8.specs.Utf8.{charLen, validUtf8}
-use Rattle.units.specs.declared.styles.Form.{Form}
-use Rattle.units.specs.declared.styles.Form.the-variants.{AsJson, AsBytes}
-use Rattle.units.specs.Styles.{quote, styleOf}
+use Rattle.notation.specs.declared.styles.Form.{Form}
+use Rattle.notation.specs.declared.styles.Form.the-variants.{AsJson, AsBytes}
+use Rattle.notation.specs.Styles.{quote, styleOf}
 use Rattle.units.specs.Written.{written}
-use Rattle.units.proofs.LiteralLaws.{quote-ascii}
+use Rattle.notation.proofs.LiteralLaws.{quote-ascii}
 use Rattle.units.proofs.WrittenUnits.{Printed, printed-append, written-printed}
 use Rattle.strings_write.specs.Write.{writeUnits, mark, quoted, writeString}
 use Rattle.strings_write.proofs.WriteSteps.{write-skip}

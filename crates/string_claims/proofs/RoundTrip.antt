@@ -15,14 +15,15 @@ use Rattle.prelude.proofs.Picks.{pick-case}
 use Rattle.prelude.proofs.Suffix.{by-suffix}
 use Rattle.utf8.specs.Utf8.{charLen, positive, validFrom, validUtf8}
 use Rattle.utf8.proofs.Characters.{valid-skip}
-use Rattle.units.specs.declared.styles.Style.{Style}
-use Rattle.units.specs.declared.styles.Form.{Form}
-use Rattle.units.specs.declared.styles.Form.the-variants.{AsJson, AsBytes}
-use Rattle.units.specs.Styles.{quote, took, styleOf}
+use Rattle.notation.specs.declared.styles.Style.{Style}
+use Rattle.notation.specs.declared.styles.Form.{Form}
+use Rattle.notation.specs.declared.styles.Form.the-variants.{AsJson, AsBytes}
+use Rattle.notation.specs.Styles.{quote, took, styleOf}
 use Rattle.units.specs.Units.{unitAt}
 use Rattle.units.specs.Written.{written}
 use Rattle.units.proofs.WrittenBack.{Writes, unit-back}
-use Rattle.strings.specs.Read.{accepted, readUnits, opens, opening, readToken, readString, readText}
+use Rattle.notation.specs.Marks.{opens, opening}
+use Rattle.strings.specs.Read.{accepted, readUnits, readToken, readString, readText}
 use Rattle.prelude.specs.Limits.{textMax}
 use Rattle.strings_write.specs.Write.{writeUnits, mark, quoted, writeString}
 use Rattle.prelude.specs.Bytes.{IsBytes}

@@ -11,8 +11,9 @@ use Rattle.prelude.specs.Bytes.{ascii}
 use Rattle.prelude.specs.Limits.{textMax}
 use Rattle.prelude.specs.Pick.{pick}
 use Rattle.prelude.proofs.Picks.{pick-case}
-use Rattle.units.specs.declared.styles.Style.the-variants.{Unicode}
-use Rattle.strings.specs.Read.{StringRead, accepted, refused, fitted, opens, opening, readFrom, readToken, readString, readText}
+use Rattle.notation.specs.declared.styles.Style.the-variants.{Unicode}
+use Rattle.notation.specs.Marks.{opens, opening}
+use Rattle.strings.specs.Read.{StringRead, accepted, refused, fitted, readFrom, readToken, readString, readText}
 use Rattle.strings.proofs.Steps.{read-skip}
 use Rattle.strings.proofs.Utf8Denoted.{Valid, units-valid, unicode-valid}
 use Rattle.string_claims.specs.Claims.{Example}

@@ -10,13 +10,14 @@ use lib.ListN.{length, getD, take}
 use Rattle.prelude.specs.Bytes.{IsBytes, ascii}
 use Rattle.prelude.specs.Refusals.{cutOff, badEscape, surrogate, tooLarge, byteEscape, trailing}
 use Rattle.utf8.specs.Utf8.{validUtf8}
-use Rattle.units.specs.declared.styles.Style.{Style}
-use Rattle.units.specs.declared.styles.Style.the-variants.{Unicode}
-use Rattle.units.specs.Styles.{took}
+use Rattle.notation.specs.declared.styles.Style.{Style}
+use Rattle.notation.specs.declared.styles.Style.the-variants.{Unicode}
+use Rattle.notation.specs.Styles.{took}
 use Rattle.units.specs.Units.{unitAt}
 use Rattle.strings.specs.declared.answers.Token.{Token}
 use Rattle.strings.specs.declared.answers.Token.the-variants.{Ended, Failed}
-use Rattle.strings.specs.Read.{StringRead, accepted, refused, opens, opening, readToken, readString, readText, tokenNumbers}
+use Rattle.notation.specs.Marks.{opens, opening}
+use Rattle.strings.specs.Read.{StringRead, accepted, refused, readToken, readString, readText, tokenNumbers}
 use Rattle.prelude.specs.Limits.{textMax}
 use Rattle.strings_write.specs.Write.{writeBytes, writeString}
 

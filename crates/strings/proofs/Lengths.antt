@@ -9,11 +9,12 @@ use lib.ListN.{length, take, drop, length-append}
 use lib.Seq.{take-add}
 use Rattle.prelude.proofs.Picks.{pick-case}
 use Rattle.prelude.proofs.Suffix.{by-suffix}
-use Rattle.units.specs.declared.styles.Style.{Style}
-use Rattle.units.specs.Styles.{StringUnit, close, took, fault}
+use Rattle.notation.specs.declared.styles.Style.{Style}
+use Rattle.notation.specs.Styles.{StringUnit, close, took, fault}
 use Rattle.units.specs.Units.{unitAt}
 use Rattle.units.proofs.Sizes.{took-size, took-raw}
-use Rattle.strings.specs.Read.{StringRead, accepted, refused, more, nothingBehind, readUnits, Opening, opens, unopened, opening, readFrom, readToken, readString}
+use Rattle.notation.specs.Marks.{Opening, opens, unopened, opening}
+use Rattle.strings.specs.Read.{StringRead, accepted, refused, more, nothingBehind, readUnits, readFrom, readToken, readString}
 use Rattle.strings.proofs.Steps.{read-skip, read-closes, read-took, read-fault}
 
 -- what stands between p and the closing quote denotes no more bytes than it has, and itself where it denotes as many

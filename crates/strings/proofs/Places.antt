@@ -15,11 +15,12 @@ use Rattle.prelude.proofs.Cases.{and-right}
 use Rattle.prelude.proofs.Picks.{pick-case}
 use Rattle.prelude.proofs.Rest.{getD-inside}
 use Rattle.prelude.proofs.Suffix.{by-suffix}
-use Rattle.units.specs.declared.styles.Style.{Style}
-use Rattle.units.specs.Styles.{StringUnit, close, took, fault}
+use Rattle.notation.specs.declared.styles.Style.{Style}
+use Rattle.notation.specs.Styles.{StringUnit, close, took, fault}
 use Rattle.units.specs.Units.{unitAt}
 use Rattle.units.proofs.Sizes.{took-size, fault-inside}
-use Rattle.strings.specs.Read.{StringRead, accepted, refused, more, after, nothingBehind, fitted, readUnits, Opening, opens, unopened, opening, readFrom, readToken, readString, readText}
+use Rattle.notation.specs.Marks.{Opening, opens, unopened, opening}
+use Rattle.strings.specs.Read.{StringRead, accepted, refused, more, after, nothingBehind, fitted, readUnits, readFrom, readToken, readString, readText}
 use Rattle.prelude.specs.Limits.{textMax}
 use Rattle.strings.proofs.Steps.{read-skip}
 

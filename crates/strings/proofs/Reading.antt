@@ -9,14 +9,15 @@ use lib.Seq.{sets, drop-drop, length-take-le}
 use Rattle.prelude.proofs.Cases.{never}
 use Rattle.prelude.proofs.Stores.{sets-append}
 use Rattle.utf8.specs.declared.chars.Char.{Char}
-use Rattle.units.specs.declared.styles.Style.{Style}
-use Rattle.units.specs.declared.styles.Unit.{Unit as Found}
-use Rattle.units.specs.declared.styles.Unit.the-variants.{Close, Took, Fault}
+use Rattle.notation.specs.declared.styles.Style.{Style}
+use Rattle.notation.specs.declared.styles.Unit.{Unit as Found}
+use Rattle.notation.specs.declared.styles.Unit.the-variants.{Close, Took, Fault}
 use Rattle.utf8.specs.declared.encoding.Few.{Few}
 use Rattle.utf8.specs.Utf8.{fewOf}
-use Rattle.units.specs.Styles.{StringUnit, close, took, fault, unitOf, FewOf}
-use Rattle.units.specs.Units.{unitAt, literalRun}
-use Rattle.units.proofs.LiteralLaws.{run-fits}
+use Rattle.notation.specs.Styles.{StringUnit, close, took, fault, unitOf, FewOf}
+use Rattle.notation.specs.Literals.{literalRun}
+use Rattle.units.specs.Units.{unitAt}
+use Rattle.notation.proofs.LiteralLaws.{run-fits}
 use Rattle.units.proofs.Sizes.{took-size, took-raw}
 use Rattle.strings.specs.declared.answers.Token.{Token}
 use Rattle.strings.specs.declared.answers.Token.the-variants.{Ended, Failed}

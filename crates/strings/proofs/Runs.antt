@@ -7,9 +7,10 @@ use native.Mathlib.Nat.{add-zero}
 use native.Mathlib.Omega.{arith}
 use lib.ListN.{take, drop}
 use lib.Seq.{drop-drop, take-add}
-use Rattle.units.specs.declared.styles.Style.{Style}
-use Rattle.units.specs.Units.{literalLen, literalRun}
-use Rattle.units.proofs.LiteralLaws.{by-run, literal-unit}
+use Rattle.notation.specs.declared.styles.Style.{Style}
+use Rattle.notation.specs.Literals.{literalLen, literalRun}
+use Rattle.notation.proofs.LiteralLaws.{by-run}
+use Rattle.units.proofs.LiteralUnits.{literal-unit}
 use Rattle.strings.specs.Read.{more, readUnits}
 use Rattle.strings.proofs.Steps.{read-took, more-none, more-more}
 

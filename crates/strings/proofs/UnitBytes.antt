@@ -7,12 +7,15 @@ use mathlib.Core.Path.{_≡_, refl, sym, ap, _∙_}
 use native.Mathlib.Omega.{arith}
 use lib.ListN.{take, drop}
 use lib.Seq.{sets, drop-drop, take-add}
-use Rattle.units.specs.declared.styles.Style.{Style}
-use Rattle.units.specs.Styles.{StringUnit, close, took, fault}
-use Rattle.units.specs.Units.{unitAt, literalLen, literalRun}
-use Rattle.units.proofs.LiteralLaws.{by-run, literal-unit}
+use Rattle.notation.specs.declared.styles.Style.{Style}
+use Rattle.notation.specs.Styles.{StringUnit, close, took, fault}
+use Rattle.notation.specs.Literals.{literalLen, literalRun}
+use Rattle.units.specs.Units.{unitAt}
+use Rattle.notation.proofs.LiteralLaws.{by-run}
+use Rattle.units.proofs.LiteralUnits.{literal-unit}
 use Rattle.units.proofs.Sizes.{took-size}
-use Rattle.strings.specs.Read.{StringRead, accepted, refused, more, after, readUnits, Opening, opens, unopened, opening, readFrom, readToken}
+use Rattle.notation.specs.Marks.{Opening, opens, unopened, opening}
+use Rattle.strings.specs.Read.{StringRead, accepted, refused, more, after, readUnits, readFrom, readToken}
 use Rattle.strings.specs.inner.Turns.{unitThen, unitsBytes, bytesFrom, tokenBytes}
 
 pub bytes-skip : (st : Style) (k : ℕ) (s : List ℕ) → unitsBytes st k s ≡ unitsBytes st 0 (drop k s)

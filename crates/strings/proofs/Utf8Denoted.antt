@@ -11,11 +11,12 @@ use Rattle.prelude.proofs.Suffix.{by-suffix}
 use Rattle.utf8.specs.Utf8.{validFrom, validUtf8}
 use Rattle.utf8.proofs.Characters.{valid-char}
 use Rattle.utf8.proofs.Encoded.{OneChar}
-use Rattle.units.specs.declared.styles.Style.the-variants.{Unicode}
-use Rattle.units.specs.Styles.{StringUnit, close, took, fault}
+use Rattle.notation.specs.declared.styles.Style.the-variants.{Unicode}
+use Rattle.notation.specs.Styles.{StringUnit, close, took, fault}
 use Rattle.units.specs.Units.{unitAt}
 use Rattle.units.proofs.OneCharacter.{Whole, unit-whole}
-use Rattle.strings.specs.Read.{StringRead, accepted, refused, more, after, nothingBehind, readUnits, opens, opening, readFrom, readToken, readString}
+use Rattle.notation.specs.Marks.{opens, opening}
+use Rattle.strings.specs.Read.{StringRead, accepted, refused, more, after, nothingBehind, readUnits, readFrom, readToken, readString}
 use Rattle.strings.proofs.Steps.{read-skip}
 
 abbrev pub Valid : StringRead → Type 0

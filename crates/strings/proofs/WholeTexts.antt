@@ -15,22 +15,24 @@ use Rattle.prelude.specs.Pick.{pick}
 use Rattle.prelude.proofs.Cases.{split, never}
 use Rattle.prelude.proofs.Stores.{sets-over, empty-front}
 use Rattle.utf8.specs.Utf8.{validUtf8}
-use Rattle.units.specs.declared.styles.Style.{Style}
-use Rattle.units.specs.declared.styles.Style.the-variants.{Json, Unicode, Bytes}
-use Rattle.units.specs.Styles.{quote, StringUnit, close}
-use Rattle.units.specs.Units.{unitAt, literalLen, literalRun}
+use Rattle.notation.specs.declared.styles.Style.{Style}
+use Rattle.notation.specs.declared.styles.Style.the-variants.{Json, Unicode, Bytes}
+use Rattle.notation.specs.Styles.{quote, StringUnit, close}
+use Rattle.notation.specs.Literals.{literalLen, literalRun}
+use Rattle.units.specs.Units.{unitAt}
 use Rattle.runs.specs.inner.Blocks.{Running}
-use Rattle.units.proofs.LiteralLaws.{run-fits, run-utf8}
+use Rattle.notation.proofs.LiteralLaws.{run-fits, run-utf8}
 use Rattle.runs.proofs.LiteralRuns.{stopped}
 use Rattle.strings.specs.declared.answers.Decoded.{Decoded}
 use Rattle.strings.specs.declared.answers.Decoded.the-variants.{Done, Refused}
 use Rattle.strings.specs.declared.answers.Token.{Token}
 use Rattle.strings.specs.declared.answers.Token.the-variants.{Ended, Failed}
-use Rattle.strings.specs.declared.read.Mark.{Mark}
-use Rattle.strings.specs.declared.read.Mark.the-variants.{Opens, Unopened}
-use Rattle.strings.specs.Read.{StringRead, accepted, refused, more, readUnits, Opening, opens, unopened, opening, readFrom, readToken, readString, readText, nothingBehind, fitted, decodedOf, tokenOf, readInto}
+use Rattle.notation.specs.declared.marks.Mark.{Mark}
+use Rattle.notation.specs.declared.marks.Mark.the-variants.{Opens, Unopened}
+use Rattle.notation.specs.Marks.{Opening, opens, unopened, opening, openingOf}
+use Rattle.strings.specs.Read.{StringRead, accepted, refused, more, readUnits, readFrom, readToken, readString, readText, nothingBehind, fitted, decodedOf, tokenOf, readInto}
 use Rattle.prelude.specs.Limits.{textMax}
-use Rattle.strings.specs.inner.Turns.{openingOf, unitsBytes, bytesFrom, tokenBytes, Closed}
+use Rattle.strings.specs.inner.Turns.{unitsBytes, bytesFrom, tokenBytes, Closed}
 use Rattle.strings.proofs.Places.{Marked, opening-fits}
 use Rattle.strings.proofs.Steps.{read-skip, read-closes}
 use Rattle.strings.proofs.Runs.{run-law}
@@ -175,38 +177,6 @@ module _ (s : List ℕ) (m : Mark) (i : openingOf m ≡ opening s) where
         → (r ≡ decodedOf (fitted (length out) (readString s))) × (new ≡ readInto (fitted (length out) (readString s)) out)
     unfolding readString
     marked {r} {new} out t = subst (λ (v : StringRead). Told v s out r new) token-is t
-
--- the mark, byte by byte
-module _ (s : List ℕ) (a : ℕ) (ea : a ≡ getD s 0 0) where
-  pub json-mark : a ≡ doubleQuote → opens Json 1 ≡ opening s
-  unfolding opening pick
-  json-mark h = rw (← ea, eq-eqb a doubleQuote h)
-
-  module _ (n1 : a ≡ doubleQuote → ⊥) where
-    pub bare-mark : a ≡ singleQuote → opens Unicode 1 ≡ opening s
-    unfolding opening pick
-    bare-mark h = simp (← ea, ne-eqb a doubleQuote n1, eq-eqb a singleQuote h)
-
-    module _ (n2 : a ≡ singleQuote → ⊥) (b : ℕ) (eb : b ≡ getD s 1 0) where
-      pub no-quote : (b ≡ singleQuote → ⊥) → unopened ≡ opening s
-      unfolding opening pick
-      no-quote h =
-          split (eqb a (code "u"))
-          (λ p. split (eqb a (code "b")) (λ q. simp (← ea, ← eb, ne-eqb a doubleQuote n1, ne-eqb a singleQuote n2, ne-eqb b singleQuote h, p, q)) (λ q. simp (← ea, ← eb, ne-eqb a doubleQuote n1, ne-eqb a singleQuote n2, ne-eqb b singleQuote h, p, q)))
-          (λ p. split (eqb a (code "b")) (λ q. simp (← ea, ← eb, ne-eqb a doubleQuote n1, ne-eqb a singleQuote n2, ne-eqb b singleQuote h, p, q)) (λ q. simp (← ea, ← eb, ne-eqb a doubleQuote n1, ne-eqb a singleQuote n2, ne-eqb b singleQuote h, p, q)))
-
-      module _ (q : b ≡ singleQuote) where
-        pub unicode-mark : a ≡ code "u" → opens Unicode 2 ≡ opening s
-        unfolding opening pick
-        unicode-mark h = simp (← ea, ← eb, ne-eqb a doubleQuote n1, ne-eqb a singleQuote n2, eq-eqb a (code "u") h, eq-eqb b singleQuote q)
-
-        pub bytes-mark : (a ≡ code "u" → ⊥) → a ≡ code "b" → opens Bytes 2 ≡ opening s
-        unfolding opening pick
-        bytes-mark n3 h = simp (← ea, ← eb, ne-eqb a doubleQuote n1, ne-eqb a singleQuote n2, ne-eqb a (code "u") n3, eq-eqb a (code "b") h, eq-eqb b singleQuote q)
-
-        pub other-mark : (a ≡ code "u" → ⊥) → (a ≡ code "b" → ⊥) → unopened ≡ opening s
-        unfolding opening pick
-        other-mark n3 n4 = simp (← ea, ← eb, ne-eqb a doubleQuote n1, ne-eqb a singleQuote n2, ne-eqb a (code "u") n3, ne-eqb a (code "b") n4)
 
 -- the cap
 pub long : (s out : List ℕ) → textMax < length s → (Refused 2 0 ≡ decodedOf (readText (length out) s)) × (out ≡ readInto (readText (length out) s) out)

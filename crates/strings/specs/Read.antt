@@ -2,18 +2,15 @@
 -- decides."
 -- Assumes nothing.
 use Prim.Native.Nat.{ℕ, zero, suc, pred, _+_}
-use Prim.Native.Char.{code}
-use mathlib.Core.Bool.{_&&_}
 use mathlib.Core.List.{List, [], _∷_, _++_}
 use lib.Dec.{ltb, eqb}
-use lib.ListN.{length, getD, drop}
-use Rattle.prelude.specs.Bytes.{doubleQuote, singleQuote}
+use lib.ListN.{length, drop}
 use Rattle.prelude.specs.Limits.{textMax}
 use Rattle.prelude.specs.Pick.{pick}
 use Rattle.prelude.specs.Refusals.{tooLong, noOpening, cutOff, trailing, noRoom}
-use Rattle.units.specs.declared.styles.Style.{Style}
-use Rattle.units.specs.declared.styles.Style.the-variants.{Json, Unicode, Bytes}
-use Rattle.units.specs.Styles.{StringUnit, close, took, fault}
+use Rattle.notation.specs.declared.styles.Style.{Style}
+use Rattle.notation.specs.Marks.{Opening, opens, unopened, opening}
+use Rattle.notation.specs.Styles.{StringUnit, close, took, fault}
 use Rattle.units.specs.Units.{unitAt}
 use Rattle.strings.specs.declared.answers.Decoded.{Decoded}
 use Rattle.strings.specs.declared.answers.Decoded.the-variants.{Done, Refused}
@@ -41,19 +38,6 @@ unfoldable pub readUnits : Style → ℕ → ℕ → List ℕ → StringRead
 readUnits st p k [] = refused cutOff p
 readUnits st p zero (x ∷ r) = after p (unitAt st (x ∷ r)) (λ q m. readUnits st q m r)
 readUnits st p (suc k) (x ∷ r) = readUnits st p k r
-
--- the style and the length of the opening mark
-pub data Opening : Type 0 where
-  opens : Style → ℕ → Opening
-  unopened : Opening
-
--- `"` `'` `u'` `b'`
-unfoldable pub opening : List ℕ → Opening
-opening s =
-    pick (eqb (getD s 0 0) doubleQuote) (opens Json 1)
-    (pick (eqb (getD s 0 0) singleQuote) (opens Unicode 1)
-    (pick (eqb (getD s 0 0) (code "u") && eqb (getD s 1 0) singleQuote) (opens Unicode 2)
-    (pick (eqb (getD s 0 0) (code "b") && eqb (getD s 1 0) singleQuote) (opens Bytes 2) unopened)))
 
 abbrev pub readFrom : Opening → List ℕ → StringRead
 readFrom (opens st n) s = readUnits st n n s

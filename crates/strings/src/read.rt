@@ -7,57 +7,32 @@ ghost use lib.Seq.{sets};
 ghost use Rattle.utf8.specs.Class.{IsTable};
 ghost use Rattle.utf8.specs.Utf8.{fewOf};
 ghost use Rattle.runs.specs.inner.Blocks.{Running};
-ghost use Rattle.units.specs.Units.{unitAt, literalRun};
-ghost use Rattle.strings.specs.Read.{opening, readUnits, readToken, readString, readText, readTextToken, fitted, decodedOf, tokenOf, readInto};
-ghost use Rattle.strings.specs.inner.Turns.{openingOf, readBehind, unitTurn, unitBytes, turnOf, turnBytes, unitsBytes, tokenBytes, Closed};
+ghost use Rattle.notation.specs.Literals.{literalRun};
+ghost use Rattle.units.specs.Units.{unitAt};
+ghost use Rattle.notation.specs.Marks.{opening, openingOf};
+ghost use Rattle.strings.specs.Read.{readUnits, readToken, readString, readText, readTextToken, fitted, decodedOf, tokenOf, readInto};
+ghost use Rattle.strings.specs.inner.Turns.{readBehind, unitTurn, unitBytes, turnOf, turnBytes, unitsBytes, tokenBytes, Closed};
 use crate::answers::Decoded;
 use crate::answers::Token;
 use crate::singles;
+use notation::marks;
+use notation::marks::Mark;
+use notation::styles;
+use notation::styles::Style;
+use notation::styles::Unit;
 use prelude::limits::TEXT_MAX;
 use prelude::refusals;
 use prelude::slices;
 use runs::blocks;
 use runs::literals;
-use units::styles;
-use units::styles::Style;
-use units::styles::Unit;
 use utf8::classes;
 use utf8::encoding::Few;
-
-// An opening mark: its style and its length.
-pub enum Mark {
-    Opens(Style, usize),
-    Unopened,
-}
 
 // Behind a turn: the next place and the bytes stored so far; or the string's end and its length; or a refusal's number and place.
 enum Turned {
     On(usize, usize),
     Finish(usize, usize),
     Refuse(u32, usize),
-}
-
-// The mark that a text begins with.
-pub fn mark_at(s: &[u8]) -> Mark
-    ensures { λ r. ⌜ openingOf r ≡ opening (now (s .entry)) ⌝ }
-{
-    let a = slices::byte_at(s, 0, 0);
-    if a == b'"' {
-        return Mark::Opens(Style::Json, 1);
-    }
-    if a == b'\'' {
-        return Mark::Opens(Style::Unicode, 1);
-    }
-    if slices::byte_at(s, 0, 1) != b'\'' {
-        return Mark::Unopened;
-    }
-    if a == b'u' {
-        return Mark::Opens(Style::Unicode, 2);
-    }
-    if a == b'b' {
-        return Mark::Opens(Style::Bytes, 2);
-    }
-    Mark::Unopened
 }
 
 // How many of n bytes find room behind a place.
@@ -184,7 +159,7 @@ fn token(t: &[u8; 256], s: &[u8], out: &mut [u8]) -> Token
     ensures is { λ r. ⌜ r ≡ tokenOf (readToken (now (s .entry))) ⌝ }
     ensures stored { λ r. ⌜ now (out .exit) ≡ sets (now (out .entry)) 0 (tokenBytes (now (s .entry))) ⌝ }
 {
-    let mark = mark_at(s);
+    let mark = marks::mark_at(s);
     match mark {
         Mark::Opens(style, from) => read_units(t, s, from, style, out),
         Mark::Unopened => Token::Failed(refusals::NO_OPENING, 0),
@@ -307,7 +282,7 @@ fn read_string(s: &[u8], out: &mut [u8]) -> Decoded
     ensures answer { λ r. ⌜ r ≡ decodedOf (fitted (length (now (out .entry))) (readString (now (s .entry)))) ⌝ }
     ensures stored { λ r. ⌜ now (out .exit) ≡ readInto (fitted (length (now (out .entry))) (readString (now (s .entry)))) (now (out .entry)) ⌝ }
 {
-    let mark = mark_at(s);
+    let mark = marks::mark_at(s);
     match mark {
         Mark::Opens(style, from) => read_open(s, from, style, out),
         Mark::Unopened => Decoded::Refused(refusals::NO_OPENING, 0),

@@ -3,9 +3,9 @@ ghost use Prim.Native.Nat.{_<_, _≤_};
 ghost use lib.ListN.{length};
 ghost use Rattle.utf8.specs.Class.{IsTable};
 ghost use Rattle.strings.specs.inner.Turns.{Advanced};
+use notation::styles::Style;
 use prelude::slices;
 use units::single_escapes;
-use units::styles::Style;
 use utf8::classes;
 
 // How many bytes are read one by one before an escape must have come; longer runs are read by blocks.

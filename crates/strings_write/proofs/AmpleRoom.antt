@@ -11,11 +11,11 @@ use Rattle.prelude.specs.Bytes.{doubleQuote}
 use Rattle.prelude.proofs.Stores.{sets-append}
 use Rattle.utf8.specs.Utf8.{validFrom, validUtf8}
 use Rattle.utf8.specs.inner.Checks.{ValidAs}
-use Rattle.units.specs.declared.styles.Style.the-variants.{Json}
-use Rattle.units.specs.declared.styles.Form.the-variants.{AsJson, AsBytes}
-use Rattle.units.specs.Units.{literalRun}
+use Rattle.notation.specs.declared.styles.Style.the-variants.{Json}
+use Rattle.notation.specs.declared.styles.Form.the-variants.{AsJson, AsBytes}
+use Rattle.notation.specs.Literals.{literalRun}
 use Rattle.runs.specs.inner.Blocks.{Running}
-use Rattle.units.proofs.LiteralLaws.{run-fits, run-valid}
+use Rattle.notation.proofs.LiteralLaws.{run-fits, run-valid}
 use Rattle.strings_write.specs.Write.{writeUnits, quoted, writeString}
 use Rattle.strings_write.specs.inner.Passes.{Passed}
 use Rattle.bytewise.specs.inner.Bytewise.{bytesText, textOf, Texted, Fronted}

@@ -14,12 +14,13 @@ use Rattle.prelude.proofs.Cases.{split, and-left, and-right, or-none, never}
 use Rattle.prelude.proofs.Suffix.{by-suffix}
 use Rattle.utf8.specs.Utf8.{between, charLen, validFrom, positive}
 use Rattle.utf8.proofs.Characters.{tails, low-bound, char-tails, valid-skip}
-use Rattle.units.specs.declared.styles.Style.the-variants.{Json}
-use Rattle.units.specs.declared.styles.Form.the-variants.{AsJson}
-use Rattle.units.specs.Escapes.{lookup}
-use Rattle.units.specs.Units.{literalLen}
+use Rattle.notation.specs.declared.styles.Style.the-variants.{Json}
+use Rattle.notation.specs.declared.styles.Form.the-variants.{AsJson}
+use Rattle.notation.specs.Escapes.{lookup}
+use Rattle.notation.specs.Literals.{literalLen}
 use Rattle.units.specs.Written.{escapeByte}
-use Rattle.units.proofs.LiteralLaws.{literal-char, literal-written}
+use Rattle.notation.proofs.LiteralLaws.{literal-char}
+use Rattle.units.proofs.LiteralUnits.{literal-written}
 use Rattle.units.proofs.EscapeStores.{escape-written}
 use Rattle.strings_write.specs.Write.{writeUnits}
 use Rattle.bytewise.specs.inner.Bytewise.{byteText, bytesText}

@@ -15,10 +15,10 @@ use Rattle.prelude.proofs.Picks.{pick-case}
 use Rattle.prelude.proofs.Suffix.{by-suffix}
 use Rattle.utf8.specs.Utf8.{charLen, validFrom, validUtf8}
 use Rattle.utf8.proofs.Characters.{char-le, char-length, ascii-len}
-use Rattle.units.specs.declared.styles.Form.{Form}
-use Rattle.units.specs.declared.styles.Form.the-variants.{AsJson, AsBytes}
-use Rattle.units.specs.Styles.{quote, styleOf}
-use Rattle.units.specs.Escapes.{lookup}
+use Rattle.notation.specs.declared.styles.Form.{Form}
+use Rattle.notation.specs.declared.styles.Form.the-variants.{AsJson, AsBytes}
+use Rattle.notation.specs.Styles.{quote, styleOf}
+use Rattle.notation.specs.Escapes.{lookup}
 use Rattle.units.specs.Written.{byNumber, escaped, written}
 use Rattle.units.proofs.WrittenBack.{escaped-ascii}
 use Rattle.units.proofs.WrittenUnits.{written-length, limit, limit-more}

@@ -6,10 +6,11 @@ use mathlib.Core.Path.{_≡_, refl, sym, ap, _∙_}
 use native.Mathlib.Omega.{arith}
 use lib.ListN.{take, drop}
 use lib.Seq.{drop-drop, take-add}
-use Rattle.units.specs.declared.styles.Form.{Form}
-use Rattle.units.specs.Styles.{styleOf}
-use Rattle.units.specs.Units.{literalLen, literalRun}
-use Rattle.units.proofs.LiteralLaws.{by-run, literal-char, literal-written}
+use Rattle.notation.specs.declared.styles.Form.{Form}
+use Rattle.notation.specs.Styles.{styleOf}
+use Rattle.notation.specs.Literals.{literalLen, literalRun}
+use Rattle.notation.proofs.LiteralLaws.{by-run, literal-char}
+use Rattle.units.proofs.LiteralUnits.{literal-written}
 use Rattle.strings_write.specs.Write.{writeUnits}
 
 pub write-skip : (form : Form) (k : ℕ) (s : List ℕ) → writeUnits form k s ≡ writeUnits form 0 (drop k s)

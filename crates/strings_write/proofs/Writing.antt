@@ -15,15 +15,15 @@ use Rattle.prelude.specs.Pick.{pick}
 use Rattle.prelude.proofs.Cases.{split}
 use Rattle.prelude.proofs.Stores.{sets-append, sets-over, sets-out, clipped, empty-front}
 use Rattle.utf8.specs.Utf8.{validUtf8}
-use Rattle.units.specs.declared.styles.Style.{Style}
-use Rattle.units.specs.declared.styles.Style.the-variants.{Json}
-use Rattle.units.specs.declared.styles.Form.{Form}
-use Rattle.units.specs.declared.styles.Form.the-variants.{AsJson, AsBytes}
-use Rattle.units.specs.Styles.{quote, styleOf}
-use Rattle.units.specs.Units.{literalLen, literalRun}
+use Rattle.notation.specs.declared.styles.Style.{Style}
+use Rattle.notation.specs.declared.styles.Style.the-variants.{Json}
+use Rattle.notation.specs.declared.styles.Form.{Form}
+use Rattle.notation.specs.declared.styles.Form.the-variants.{AsJson, AsBytes}
+use Rattle.notation.specs.Styles.{quote, styleOf}
+use Rattle.notation.specs.Literals.{literalLen, literalRun}
 use Rattle.units.specs.Written.{escapeByte}
 use Rattle.runs.specs.inner.Blocks.{Running}
-use Rattle.units.proofs.LiteralLaws.{run-fits, run-ends, run-valid, all-literal}
+use Rattle.notation.proofs.LiteralLaws.{run-fits, run-ends, run-valid, all-literal}
 use Rattle.runs.proofs.LiteralRuns.{at-end}
 use Rattle.units.proofs.EscapeStores.{escape-written}
 use Rattle.units.proofs.WrittenUnits.{limit}

@@ -9,9 +9,9 @@ use Rattle.prelude.specs.Bytes.{doubleQuote, singleQuote}
 use Rattle.prelude.specs.Pick.{pick}
 use Rattle.prelude.specs.Refusals.{noRoom}
 use Rattle.utf8.specs.Utf8.{charLen, validUtf8}
-use Rattle.units.specs.declared.styles.Form.{Form}
-use Rattle.units.specs.declared.styles.Form.the-variants.{AsJson, AsBytes}
-use Rattle.units.specs.Styles.{quote, styleOf}
+use Rattle.notation.specs.declared.styles.Form.{Form}
+use Rattle.notation.specs.declared.styles.Form.the-variants.{AsJson, AsBytes}
+use Rattle.notation.specs.Styles.{quote, styleOf}
 use Rattle.units.specs.Written.{written}
 use Rattle.strings_write.specs.declared.answers.Written.{Written}
 use Rattle.strings_write.specs.declared.answers.Written.the-variants.{Wrote, Full}

@@ -9,11 +9,10 @@ use borrow.Author.Tests.{eq-eqb, ne-eqb}
 use lib.ListN.{length, getD, take, drop, length-drop, drop-of-length-le}
 use lib.Seq.{drop-cons, take-all}
 use Rattle.prelude.specs.Pick.{pick}
-use Rattle.strings.specs.declared.read.Mark.{Mark as Opener}
-use Rattle.strings.specs.declared.read.Mark.the-variants.{Opens, Unopened}
-use Rattle.strings.specs.Read.{opens, unopened, opening}
-use Rattle.strings.specs.inner.Turns.{openingOf}
-use Rattle.units.specs.declared.styles.Style.{Style}
+use Rattle.notation.specs.declared.marks.Mark.{Mark as Opener}
+use Rattle.notation.specs.declared.marks.Mark.the-variants.{Opens, Unopened}
+use Rattle.notation.specs.Marks.{opens, unopened, opening, openingOf}
+use Rattle.notation.specs.declared.styles.Style.{Style}
 use Rattle.tokens.specs.declared.starts.Start.the-variants.{Ended, String, Word, Number, List as ListStart, Dict, Nothing}
 use Rattle.tokens.specs.declared.starts.Mark.the-variants.{Close, Separator, Fault}
 use Rattle.tokens.specs.Words.{isLetter, isDigit}

@@ -15,7 +15,7 @@ use Rattle.prelude.proofs.Suffix.{by-suffix}
 use Rattle.utf8.specs.declared.chars.Char.{Char}
 use Rattle.utf8.specs.declared.chars.Char.the-variants.{Good, Bad}
 use Rattle.utf8.specs.Utf8.{charLen, charBy, charAt}
-use Rattle.strings.specs.Read.{opening}
+use Rattle.notation.specs.Marks.{opening}
 use Rattle.tokens.specs.declared.blanks.Blank.{Blank}
 use Rattle.tokens.specs.declared.blanks.Blank.the-variants.{Clear, Ill}
 use Rattle.tokens.specs.declared.numbers.Number.{Number}

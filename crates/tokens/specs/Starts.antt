@@ -6,7 +6,7 @@ use mathlib.Core.List.{List, [], _∷_}
 use lib.Dec.{eqb}
 use Rattle.prelude.specs.Pick.{pick}
 use Rattle.prelude.specs.Refusals.{cutOff, misplaced}
-use Rattle.strings.specs.Read.{Opening, opens, unopened, opening}
+use Rattle.notation.specs.Marks.{Opening, opens, unopened, opening}
 use Rattle.tokens.specs.declared.starts.Start.{Start}
 use Rattle.tokens.specs.declared.starts.Start.the-variants.{Ended, String, Word, Number, List as ListStart, Dict, Nothing}
 use Rattle.tokens.specs.declared.starts.Mark.{Mark}

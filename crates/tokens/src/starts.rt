@@ -2,11 +2,11 @@
 ghost use mathlib.Core.Path.{_≡_};
 ghost use Prim.Native.Nat.{_≤_};
 ghost use lib.ListN.{length, drop};
-ghost use Rattle.strings.specs.Read.{opening};
+ghost use Rattle.notation.specs.Marks.{opening};
 ghost use Rattle.tokens.specs.Starts.{isOpening, startOf, colonAt, commaAt};
 use crate::words;
+use notation::marks;
 use prelude::refusals;
-use strings::read;
 
 // What begins at a place: the text's end, a token by its kind, or nothing.
 pub enum Start {
@@ -31,10 +31,10 @@ fn opens(s: &[u8], at: usize) -> bool
     requires { ⌜ at ≤ length (now s) ⌝ }
     ensures { λ r. ⌜ r ≡ isOpening (opening (drop at (now (s .entry)))) ⌝ }
 {
-    let mark = read::mark_at(&s[at..]);
+    let mark = marks::mark_at(&s[at..]);
     match mark {
-        read::Mark::Opens(_, _) => true,
-        read::Mark::Unopened => false,
+        marks::Mark::Opens(_, _) => true,
+        marks::Mark::Unopened => false,
     }
 }
 

@@ -13,15 +13,16 @@ use Rattle.prelude.proofs.Cases.{and-left, and-right}
 use Rattle.prelude.proofs.Picks.{pick-case}
 use Rattle.prelude.proofs.Suffix.{by-suffix}
 use Rattle.utf8.specs.Utf8.{between, charLen, charBy, encode}
-use Rattle.units.specs.declared.styles.Style.{Style}
-use Rattle.units.specs.declared.styles.Style.the-variants.{Json, Unicode, Bytes}
-use Rattle.units.specs.Styles.{quote, StringUnit, close, took, fault}
-use Rattle.units.specs.Hex.{hexVal, hexDigits, hexFrom, hexRun, hexNumber}
-use Rattle.units.specs.Escapes.{lookup, letters, lettersOf, high, isLow, lowHalf, codeUnit, fourDigits, scalar, isBraced, braced, codePoint, rawByte, letterEscape, escape}
+use Rattle.notation.specs.declared.styles.Style.{Style}
+use Rattle.notation.specs.declared.styles.Style.the-variants.{Json, Unicode, Bytes}
+use Rattle.notation.specs.Styles.{quote, StringUnit, close, took, fault}
+use Rattle.notation.specs.Hex.{hexVal, hexDigits, hexFrom, hexRun, hexNumber}
+use Rattle.notation.specs.Escapes.{lookup, letters, lettersOf, high, isLow, lowHalf, codeUnit, fourDigits, scalar, isBraced, braced, codePoint, rawByte, letterEscape, escape}
 use Rattle.units.specs.Units.{literal, unitAt}
 use Rattle.units.proofs.WrittenBack.{Each, lookup-each}
 use Rattle.prelude.specs.Bytes.{IsBytes}
-use Rattle.strings.specs.Read.{StringRead, accepted, refused, more, after, readUnits, Opening, opens, unopened, opening, readFrom, readToken}
+use Rattle.notation.specs.Marks.{Opening, opens, unopened, opening}
+use Rattle.strings.specs.Read.{StringRead, accepted, refused, more, after, readUnits, readFrom, readToken}
 use Rattle.strings.proofs.Steps.{read-skip}
 use Rattle.string_claims.proofs.RoundTrip.{bytes-take, bytes-drop}
 

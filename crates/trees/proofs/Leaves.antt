@@ -13,11 +13,12 @@ use lib.Seq.{take-append-seam}
 use borrow.Author.Tests.{eqb-true, eqb-false, eq-eqb, ne-eqb, le-leb}
 use Rattle.prelude.specs.Pick.{pick}
 use Rattle.prelude.proofs.Cases.{split, never}
-use Rattle.units.specs.declared.styles.Style.{Style}
-use Rattle.units.specs.Styles.{quote}
-use Rattle.units.specs.Units.{literalRun}
+use Rattle.notation.specs.declared.styles.Style.{Style}
+use Rattle.notation.specs.Styles.{quote}
+use Rattle.notation.specs.Literals.{literalRun}
 use Rattle.prelude.specs.Bytes.{IsBytes}
-use Rattle.strings.specs.Read.{accepted, readToken, Opening, opens, unopened, opening}
+use Rattle.notation.specs.Marks.{Opening, opens, unopened, opening}
+use Rattle.strings.specs.Read.{accepted, readToken}
 use Rattle.tokens.specs.Words.{isWord, wordOf}
 use Rattle.tokens.specs.Numbers.{isNumber, numberKind, numberToken, legal, numberFrom, numberAt}
 use Rattle.tokens.proofs.Runs.{run-le, run-take}

@@ -12,7 +12,7 @@ use Rattle.prelude.specs.Pick.{pick}
 use Rattle.prelude.proofs.Cases.{split, and-right, never}
 use Rattle.prelude.proofs.Picks.{pick-case}
 use Rattle.prelude.proofs.Tables.{at-below}
-use Rattle.strings.specs.Read.{opening}
+use Rattle.notation.specs.Marks.{opening}
 use Rattle.tokens.specs.declared.starts.Start.the-variants.{Number}
 use Rattle.tokens.specs.Blanks.{isSpace}
 use Rattle.tokens.specs.Words.{isLetter, isDigit, runOf}

@@ -9,8 +9,9 @@ use lib.ListN.{length, drop, length-append}
 use lib.Seq.{drop-append-seam}
 use Rattle.prelude.proofs.Cases.{never}
 use Rattle.utf8.specs.Utf8.{validUtf8}
-use Rattle.units.specs.declared.styles.Style.the-variants.{Unicode}
-use Rattle.strings.specs.Read.{StringRead, accepted, refused as unread, opens, opening, readToken}
+use Rattle.notation.specs.declared.styles.Style.the-variants.{Unicode}
+use Rattle.notation.specs.Marks.{opens, opening}
+use Rattle.strings.specs.Read.{StringRead, accepted, refused as unread, readToken}
 use Rattle.strings.proofs.Utf8Denoted.{Valid}
 use Rattle.string_claims.proofs.Texts.{token-valid}
 use Rattle.json8.specs.Nodes.{Node, Read, got}

@@ -10,9 +10,9 @@ use lib.Seq.{drop-drop, drop-append-seam, take-append-seam}
 use Rattle.prelude.specs.Pick.{pick}
 use Rattle.prelude.proofs.Picks.{pick-case}
 use Rattle.utf8.specs.Utf8.{validUtf8}
-use Rattle.units.specs.declared.styles.Form.the-variants.{AsJson, AsBytes}
+use Rattle.notation.specs.declared.styles.Form.the-variants.{AsJson, AsBytes}
 use Rattle.prelude.specs.Bytes.{IsBytes}
-use Rattle.strings.specs.Read.{opening}
+use Rattle.notation.specs.Marks.{opening}
 use Rattle.strings_write.specs.Write.{quoted, writeString}
 use Rattle.string_claims.proofs.RoundTrip.{token-back}
 use Rattle.tokens.specs.declared.words.Word.the-variants.{Value}

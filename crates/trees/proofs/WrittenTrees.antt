@@ -8,7 +8,7 @@ use mathlib.Core.Path.{_≡_, refl, _∙_}
 use native.Mathlib.Omega.{arith}
 use lib.ListN.{length, drop}
 use Rattle.prelude.specs.Pick.{pick}
-use Rattle.strings.specs.Read.{opening}
+use Rattle.notation.specs.Marks.{opening}
 use Rattle.tokens.specs.Blanks.{isSpace}
 use Rattle.tokens.specs.Words.{isLetter}
 use Rattle.tokens.specs.Starts.{startOf}

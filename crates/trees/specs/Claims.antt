@@ -8,8 +8,8 @@ use lib.ListN.{length, take, drop}
 use Rattle.prelude.specs.Bytes.{IsBytes}
 use Rattle.prelude.specs.Limits.{textMax, depthMax}
 use Rattle.utf8.specs.Utf8.{validUtf8}
-use Rattle.units.specs.declared.styles.Style.the-variants.{Unicode}
-use Rattle.strings.specs.Read.{opens, opening}
+use Rattle.notation.specs.declared.styles.Style.the-variants.{Unicode}
+use Rattle.notation.specs.Marks.{opens, opening}
 use Rattle.tokens.specs.Words.{isWord}
 use Rattle.tokens.specs.Numbers.{isNumber}
 use Rattle.json8.specs.declared.answers.Parsed.the-variants.{Done}

@@ -17,12 +17,12 @@ use Rattle.prelude.proofs.Cases.{split}
 use Rattle.prelude.proofs.Stores.{sets-out}
 use Rattle.utf8.specs.Utf8.{charLen}
 use Rattle.utf8.proofs.Characters.{ascii-len}
-use Rattle.units.specs.declared.styles.Form.{Form}
-use Rattle.units.specs.declared.styles.Form.the-variants.{AsJson, AsBytes}
-use Rattle.units.specs.Escapes.{lookup}
+use Rattle.notation.specs.declared.styles.Form.{Form}
+use Rattle.notation.specs.declared.styles.Form.the-variants.{AsJson, AsBytes}
+use Rattle.notation.specs.Escapes.{lookup}
 use Rattle.units.specs.Written.{hexDigit, byNumber, escaped, escapeByte, written}
-use Rattle.units.specs.Styles.{quote, styleOf}
-use Rattle.units.specs.Units.{literalLen}
+use Rattle.notation.specs.Styles.{quote, styleOf}
+use Rattle.notation.specs.Literals.{literalLen}
 use Rattle.units.proofs.WrittenBack.{escaped-ascii, unescaped}
 
 module _ (form : Form) (x : ℕ) where

@@ -1,8 +1,5 @@
-pub mod EscapeLaws
+pub mod LiteralUnits
 pub mod EscapeStores
-pub mod HexLaws
-pub mod LiteralClasses
-pub mod LiteralLaws
 pub mod OneCharacter
 pub mod SingleLaws
 pub mod Sizes

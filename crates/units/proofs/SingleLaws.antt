@@ -14,15 +14,15 @@ use Rattle.prelude.specs.Pick.{pick}
 use Rattle.prelude.proofs.Picks.{pick-true, pick-false}
 use Rattle.utf8.specs.Class.{classOf}
 use Rattle.utf8.specs.Utf8.{encode}
-use Rattle.units.specs.declared.styles.Style.{Style}
-use Rattle.units.specs.declared.styles.Style.the-variants.{Json, Unicode, Bytes}
-use Rattle.units.specs.Styles.{quote, took}
-use Rattle.units.specs.Hex.{hexRun, hexNumber}
-use Rattle.units.specs.Escapes.{lookup, letters, lettersOf, lowHalf, codeUnit, fourDigits, rawByte, letterEscape, escape}
+use Rattle.notation.specs.declared.styles.Style.{Style}
+use Rattle.notation.specs.declared.styles.Style.the-variants.{Json, Unicode, Bytes}
+use Rattle.notation.specs.Styles.{quote, took}
+use Rattle.notation.specs.Hex.{hexRun, hexNumber}
+use Rattle.notation.specs.Escapes.{lookup, letters, lettersOf, lowHalf, codeUnit, fourDigits, rawByte, letterEscape, escape}
 use Rattle.units.specs.Units.{unitAt}
-use Rattle.units.proofs.EscapeLaws.{unit-below, letter-some, raw-two}
-use Rattle.units.proofs.LiteralClasses.{plain-char}
-use Rattle.units.proofs.LiteralLaws.{literal-unit}
+use Rattle.notation.proofs.EscapeLaws.{unit-below, letter-some, raw-two}
+use Rattle.notation.proofs.LiteralClasses.{plain-char}
+use Rattle.units.proofs.LiteralUnits.{literal-unit}
 use Rattle.units.proofs.UnitLaws.{unit-escape}
 
 -- `\u` and four digits of a number below 0x80

@@ -20,11 +20,11 @@ use Rattle.prelude.proofs.Rest.{getD-inside}
 use Rattle.utf8.specs.Utf8.{between, charLen, charBy}
 use Rattle.utf8.proofs.Characters.{char-le}
 use Rattle.utf8.proofs.Encoded.{encode-few}
-use Rattle.units.specs.declared.styles.Style.{Style}
-use Rattle.units.specs.declared.styles.Style.the-variants.{Json, Unicode, Bytes}
-use Rattle.units.specs.Styles.{quote, StringUnit, close, took, fault}
-use Rattle.units.specs.Hex.{hexVal, hexDigits, hexRun}
-use Rattle.units.specs.Escapes.{lookup, lettersOf, high, isLow, lowHalf, codeUnit, fourDigits, scalar, isBraced, braced, codePoint, rawByte, letterEscape, escape}
+use Rattle.notation.specs.declared.styles.Style.{Style}
+use Rattle.notation.specs.declared.styles.Style.the-variants.{Json, Unicode, Bytes}
+use Rattle.notation.specs.Styles.{quote, StringUnit, close, took, fault}
+use Rattle.notation.specs.Hex.{hexVal, hexDigits, hexRun}
+use Rattle.notation.specs.Escapes.{lookup, lettersOf, high, isLow, lowHalf, codeUnit, fourDigits, scalar, isBraced, braced, codePoint, rawByte, letterEscape, escape}
 use Rattle.units.specs.Units.{literal, unitAt}
 
 -- an escape with m bytes from its backslash on: it fits, and denotes fewer bytes than it takes; or no refusal for a text's end

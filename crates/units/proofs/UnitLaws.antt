@@ -18,9 +18,9 @@ use Rattle.utf8.specs.Utf8.{charLen, charBy, charAt}
 use Rattle.utf8.specs.declared.chars.Char.{Char}
 use Rattle.utf8.specs.declared.chars.Char.the-variants.{Good, Bad}
 use Rattle.utf8.proofs.Characters.{char-le, char-few}
-use Rattle.units.specs.declared.styles.Style.{Style}
-use Rattle.units.specs.Styles.{StringUnit, close, took, fault, quote}
-use Rattle.units.specs.Escapes.{escape}
+use Rattle.notation.specs.declared.styles.Style.{Style}
+use Rattle.notation.specs.Styles.{StringUnit, close, took, fault, quote}
+use Rattle.notation.specs.Escapes.{escape}
 use Rattle.units.specs.Units.{literal, unitAt}
 
 good-by : (k n : ℕ) (r : List ℕ) → Good n ≡ charBy k r → n ≡ k

@@ -17,14 +17,14 @@ use Rattle.prelude.proofs.Cases.{split}
 use Rattle.prelude.proofs.Tables.{at-below}
 use Rattle.utf8.specs.Utf8.{charLen, encode, positive}
 use Rattle.utf8.proofs.Characters.{char-length, char-take, ascii-len}
-use Rattle.units.specs.declared.styles.Form.{Form}
-use Rattle.units.specs.declared.styles.Form.the-variants.{AsJson, AsBytes}
-use Rattle.units.specs.Styles.{quote, took, styleOf}
-use Rattle.units.specs.Hex.{hexVal, hexDigits, hexFrom}
-use Rattle.units.specs.Escapes.{lookup, codeUnit, fourDigits, rawByte, escape}
+use Rattle.notation.specs.declared.styles.Form.{Form}
+use Rattle.notation.specs.declared.styles.Form.the-variants.{AsJson, AsBytes}
+use Rattle.notation.specs.Styles.{quote, took, styleOf}
+use Rattle.notation.specs.Hex.{hexVal, hexDigits, hexFrom}
+use Rattle.notation.specs.Escapes.{lookup, codeUnit, fourDigits, rawByte, escape}
 use Rattle.units.specs.Units.{unitAt}
 use Rattle.units.specs.Written.{hexDigit, byNumber, escaped, written}
-use Rattle.units.proofs.LiteralLaws.{quote-ascii}
+use Rattle.notation.proofs.LiteralLaws.{quote-ascii}
 
 pub digit-back : (d : ℕ) → d < 16 → hexVal (hexDigit d) ≡ d
 unfolding hexDigit hexVal pick

@@ -14,12 +14,12 @@ use Rattle.prelude.proofs.Cases.{and-left, and-right}
 use Rattle.prelude.proofs.Picks.{pick-case}
 use Rattle.utf8.specs.Utf8.{between, charLen}
 use Rattle.utf8.proofs.Characters.{tails, low-bound, char-tails, char-length}
-use Rattle.units.specs.declared.styles.Form.{Form}
-use Rattle.units.specs.declared.styles.Form.the-variants.{AsJson, AsBytes}
-use Rattle.units.specs.Styles.{styleOf}
-use Rattle.units.specs.Escapes.{lookup}
+use Rattle.notation.specs.declared.styles.Form.{Form}
+use Rattle.notation.specs.declared.styles.Form.the-variants.{AsJson, AsBytes}
+use Rattle.notation.specs.Styles.{styleOf}
+use Rattle.notation.specs.Escapes.{lookup}
 use Rattle.units.specs.Written.{hexDigit, byNumber, escaped, written}
-use Rattle.units.proofs.LiteralLaws.{quote-ascii}
+use Rattle.notation.proofs.LiteralLaws.{quote-ascii}
 use Rattle.units.proofs.WrittenBack.{lookup-each}
 
 -- every byte is 0x20 or above

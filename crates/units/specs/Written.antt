@@ -8,10 +8,10 @@ use lib.Dec.{ltb, eqb}
 use lib.ListN.{take}
 use Rattle.prelude.specs.Bytes.{backspace, TAB, LF, formFeed, CR, backslash}
 use Rattle.prelude.specs.Pick.{pick}
-use Rattle.units.specs.declared.styles.Form.{Form}
-use Rattle.units.specs.declared.styles.Form.the-variants.{AsJson, AsBytes}
-use Rattle.units.specs.Styles.{quote, styleOf}
-use Rattle.units.specs.Escapes.{lookup}
+use Rattle.notation.specs.declared.styles.Form.{Form}
+use Rattle.notation.specs.declared.styles.Form.the-variants.{AsJson, AsBytes}
+use Rattle.notation.specs.Styles.{quote, styleOf}
+use Rattle.notation.specs.Escapes.{lookup}
 
 unfoldable pub hexDigit : ℕ → ℕ
 hexDigit d = pick (ltb d 10) (code "0" + d) (code "a" + (d - 10))

@@ -3,12 +3,12 @@ ghost use mathlib.Core.List.{[], _∷_};
 ghost use mathlib.Core.Path.{_≡_};
 ghost use Prim.Native.Nat.{_<_};
 ghost use lib.ListN.{length, drop};
-ghost use Rattle.units.specs.declared.styles.Style.the-variants.{Bytes};
-ghost use Rattle.units.specs.Styles.{took};
-ghost use Rattle.units.specs.Escapes.{fourDigits, rawByte, escape};
-use crate::escapes;
-use crate::hex;
-use crate::styles::Style;
+ghost use Rattle.notation.specs.declared.styles.Style.the-variants.{Bytes};
+ghost use Rattle.notation.specs.Styles.{took};
+ghost use Rattle.notation.specs.Escapes.{fourDigits, rawByte, escape};
+use notation::escapes;
+use notation::hex;
+use notation::styles::Style;
 use prelude::slices;
 
 // An escape of len bytes that denotes one byte; len is 0 where no such escape stands.

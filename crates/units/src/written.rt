@@ -4,10 +4,10 @@ ghost use mathlib.Core.Path.{_≡_};
 ghost use Prim.Native.Nat.{_<_};
 ghost use lib.ListN.{length};
 ghost use lib.Seq.{sets};
-ghost use Rattle.units.specs.Escapes.{lookup};
+ghost use Rattle.notation.specs.Escapes.{lookup};
 ghost use Rattle.units.specs.Written.{hexDigit, byNumber, escaped, escapeByte};
-use crate::styles;
-use crate::styles::Form;
+use notation::styles;
+use notation::styles::Form;
 use prelude::slices;
 
 fn hex_digit(d: u8) -> u8

@@ -9,10 +9,11 @@ use lib.ListN.{length, drop-of-length-le}
 use Rattle.prelude.specs.Pick.{pick}
 use Rattle.utf8.specs.Class.{classOf}
 use Rattle.utf8.specs.Utf8.{lowOf, highOf, twoBytes, threeBytes, fourBytes, longLen, lenBy, charLen, encode, validFrom}
-use Rattle.units.specs.Hex.{hexVal, hexDigits, hexFrom}
-use Rattle.units.specs.Escapes.{lookup, lowHalf, codeUnit, fourDigits, scalar, braced, rawByte, escape}
+use Rattle.notation.specs.Hex.{hexVal, hexDigits, hexFrom}
+use Rattle.notation.specs.Escapes.{lookup, lowHalf, codeUnit, fourDigits, scalar, braced, rawByte, escape}
 use Rattle.units.specs.Units.{unitAt}
-use Rattle.strings.specs.Read.{readUnits, opening, readToken, readString}
+use Rattle.notation.specs.Marks.{opening}
+use Rattle.strings.specs.Read.{readUnits, readToken, readString}
 use Rattle.lines.specs.Line.{readLine, readStripped, strip, trimmed, leads, blank, bareFault, bareFrom, bare, kindOf}
 use Rattle.lines.specs.Records.{lineRecord, none, lineFault}
 use Rattle.replay.specs.Lines.{headed, cut, countLF, records, faultBehind, firstFrom, firstFault, openFault, recordsOf, left, j8Lines}

@@ -7,8 +7,9 @@ use mathlib.Core.Path.{_≡_, refl, sym, _∙_}
 use Rattle.prelude.specs.Pick.{pick}
 use Rattle.prelude.proofs.Cases.{never}
 use Rattle.utf8.specs.Utf8.{validUtf8}
-use Rattle.units.specs.declared.styles.Style.the-variants.{Unicode}
-use Rattle.strings.specs.Read.{StringRead, accepted, refused, Opening, opens, unopened, opening, readString}
+use Rattle.notation.specs.declared.styles.Style.the-variants.{Unicode}
+use Rattle.notation.specs.Marks.{Opening, opens, unopened, opening}
+use Rattle.strings.specs.Read.{StringRead, accepted, refused, readString}
 use Rattle.strings.proofs.Utf8Denoted.{Valid, unicode-valid}
 use Rattle.lines.specs.Line.{LineRead, holds, kindOf, fromString, byOpening, readStripped, shifted, strip, leads, readLine}
 

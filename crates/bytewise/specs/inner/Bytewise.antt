@@ -9,8 +9,8 @@ use lib.ListN.{length, getD, take, drop}
 use lib.Seq.{sets}
 use Rattle.prelude.specs.Bytes.{doubleQuote, backslash}
 use Rattle.prelude.specs.Pick.{pick}
-use Rattle.units.specs.declared.styles.Style.the-variants.{Json}
-use Rattle.units.specs.declared.styles.Form.the-variants.{AsJson}
+use Rattle.notation.specs.declared.styles.Style.the-variants.{Json}
+use Rattle.notation.specs.declared.styles.Form.the-variants.{AsJson}
 use Rattle.utf8.specs.Utf8.{tail}
 use Rattle.runs.specs.inner.Blocks.{Running, owed}
 use Rattle.units.specs.Written.{escapeByte}

@@ -8,8 +8,8 @@ use lib.Dec.{leb}
 use lib.ListN.{length, getD, drop}
 use Rattle.prelude.specs.Bytes.{backslash}
 use Rattle.utf8.specs.Utf8.{tail}
-use Rattle.units.specs.declared.styles.Style.{Style}
-use Rattle.units.specs.Units.{literalLen, literalRun}
+use Rattle.notation.specs.declared.styles.Style.{Style}
+use Rattle.notation.specs.Literals.{literalLen, literalRun}
 
 -- from a place on, only literal characters stand before another place
 pub record Running (st : Style) (s : List ℕ) (from at : ℕ) : Type 0 where

@@ -5,19 +5,14 @@ use mathlib.Core.List.{List, [], _∷_, _++_}
 use mathlib.Core.Path.{_≡_}
 use lib.ListN.{length, getD, take, drop}
 use lib.Seq.{sets}
-use Rattle.units.specs.declared.styles.Style.{Style}
-use Rattle.units.specs.Styles.{quote, StringUnit, close, took, fault}
-use Rattle.units.specs.Units.{unitAt, literalRun}
-use Rattle.strings.specs.declared.read.Mark.{Mark}
-use Rattle.strings.specs.declared.read.Mark.the-variants.{Opens, Unopened}
+use Rattle.notation.specs.declared.styles.Style.{Style}
+use Rattle.notation.specs.Styles.{quote, StringUnit, close, took, fault}
+use Rattle.notation.specs.Literals.{literalRun}
+use Rattle.units.specs.Units.{unitAt}
 use Rattle.strings.specs.declared.read.Turned.{Turned}
 use Rattle.strings.specs.declared.read.Turned.the-variants.{On, Finish, Refuse}
-use Rattle.strings.specs.Read.{StringRead, more, readUnits, nothingBehind, fitted, Opening, opens, unopened, opening}
-
--- the code's opening mark as the definition's
-abbrev pub openingOf : Mark → Opening
-openingOf (Opens st n) = opens st n
-openingOf Unopened = unopened
+use Rattle.notation.specs.Marks.{Opening, opens, unopened, opening}
+use Rattle.strings.specs.Read.{StringRead, more, readUnits, nothingBehind, fitted}
 
 -- a whole text whose opening mark is n bytes long, read into a room of so many bytes
 abbrev pub readBehind : Style → ℕ → ℕ → List ℕ → StringRead

@@ -8,7 +8,7 @@ use native.Mathlib.Omega.{arith}
 use lib.ListN.{length}
 use denote.Ref.{now}
 use Rattle.runs.specs.inner.Blocks.{Running}
-use Rattle.units.proofs.LiteralClasses.{plain-char}
+use Rattle.notation.proofs.LiteralClasses.{plain-char}
 use Rattle.runs.proofs.LiteralRuns.{here, moved}
 
 abbrev Inv-loop : tie.InvT-loop

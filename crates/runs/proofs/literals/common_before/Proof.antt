@@ -6,10 +6,10 @@ use Prim.Native.Nat.{_-_, _≤_, _<_}
 use native.Mathlib.Omega.{arith}
 use lib.ListN.{length}
 use denote.Ref.{now}
-use Rattle.units.specs.declared.styles.Style.{Style}
-use Rattle.units.specs.declared.styles.Style.the-variants.{Json}
+use Rattle.notation.specs.declared.styles.Style.{Style}
+use Rattle.notation.specs.declared.styles.Style.the-variants.{Json}
 use Rattle.runs.specs.inner.Blocks.{Running}
-use Rattle.units.proofs.LiteralClasses.{plain-char, two-bytes, three-bytes}
+use Rattle.notation.proofs.LiteralClasses.{plain-char, two-bytes, three-bytes}
 use Rattle.runs.proofs.LiteralRuns.{here, moved}
 
 abbrev Inv-loop : tie.InvT-loop

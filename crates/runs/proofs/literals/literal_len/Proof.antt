@@ -5,7 +5,7 @@ use Rattle.runs.proofs.literals.literal_len.Statement.{statement}
 use Rattle.runs.proofs.literals.literal_len.Tie as tie
 use denote.Ref.{now}
 use mathlib.Core.Path.{sym, _∙_}
-use Rattle.units.proofs.LiteralClasses.{plain-char, bare-quote, no-char, long-char}
+use Rattle.notation.proofs.LiteralClasses.{plain-char, bare-quote, no-char, long-char}
 
 returns : tie.Need-returns
 returns c =

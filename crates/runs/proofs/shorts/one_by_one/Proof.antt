@@ -8,8 +8,8 @@ use native.Mathlib.Omega.{arith}
 use lib.ListN.{length}
 use denote.Ref.{now}
 use borrow.Author.Tests.{not-false}
-use Rattle.units.specs.declared.styles.Style.{Style}
-use Rattle.units.specs.Styles.{quote}
+use Rattle.notation.specs.declared.styles.Style.{Style}
+use Rattle.notation.specs.Styles.{quote}
 use Rattle.runs.specs.inner.Blocks.{Running}
 use Rattle.runs.proofs.LiteralRuns.{here}
 use Rattle.runs.proofs.BlockLaws.{over-one, over-lead, lead-fits}

@@ -5,7 +5,7 @@ use Rattle.runs.proofs.shorts.short.Statement.{statement}
 use Rattle.runs.proofs.shorts.short.Tie as tie
 use mathlib.Core.Path.{sym, subst}
 use denote.Ref.{now}
-use Rattle.units.specs.declared.styles.Style.{Style}
+use Rattle.notation.specs.declared.styles.Style.{Style}
 use Rattle.runs.specs.inner.Blocks.{Running}
 
 enum-told : tie.Need-enum-told

@@ -9,7 +9,7 @@ use native.Mathlib.Omega.{arith}
 use mathlib.Core.Path.{_≡_, refl, _∙_}
 use Prim.Native.Nat.{_+_, _-_}
 use lib.ListN.{length, drop}
-use Rattle.units.specs.Units.{literalRun}
+use Rattle.notation.specs.Literals.{literalRun}
 use Rattle.strings.proofs.Reading.{Kept, begun, and-more, moved, ended, failed}
 
 abbrev Inv-loop : tie.InvT-loop

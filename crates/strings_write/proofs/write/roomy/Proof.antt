@@ -7,7 +7,7 @@ use native.Mathlib.Omega.{arith}
 use Prim.Native.Nat.{_-_, _/_, _≤_}
 use borrow.Author.Tests.{leb-true}
 use Rattle.prelude.proofs.Cases.{never}
-use Rattle.units.specs.declared.styles.Form.the-variants.{AsJson, AsBytes}
+use Rattle.notation.specs.declared.styles.Form.the-variants.{AsJson, AsBytes}
 use Rattle.strings_write.proofs.Writing.{room-enough}
 
 returns : tie.Need-returns

@@ -7,8 +7,8 @@ use denote.Ref.{now}
 use mathlib.Core.Path.{sym, ap}
 use lib.ListN.{length}
 use lib.Seq.{take-length}
-use Rattle.units.specs.declared.styles.Style.the-variants.{Json}
-use Rattle.units.proofs.LiteralLaws.{all-literal}
+use Rattle.notation.specs.declared.styles.Style.the-variants.{Json}
+use Rattle.notation.proofs.LiteralLaws.{all-literal}
 use Rattle.strings_write.proofs.Writing.{valid-form, all-of-it, one-run}
 
 slice-aggregate-strides : tie.Need-slice-aggregate-strides

@@ -7,10 +7,10 @@ use denote.Ref.{now}
 use mathlib.Core.Path.{_≡_, sym, _∙_}
 use native.Mathlib.Omega.{arith}
 use lib.ListN.{length}
-use Rattle.units.specs.declared.styles.Style.the-variants.{Json}
-use Rattle.units.specs.Units.{literalRun}
+use Rattle.notation.specs.declared.styles.Style.the-variants.{Json}
+use Rattle.notation.specs.Literals.{literalRun}
 use Prim.Native.Nat.{_≤_}
-use Rattle.units.proofs.LiteralLaws.{all-literal}
+use Rattle.notation.proofs.LiteralLaws.{all-literal}
 use Rattle.runs.proofs.LiteralRuns.{through}
 use Rattle.strings_write.specs.Write.{writeString}
 use Rattle.strings_write.proofs.WriteLengths.{write-length}

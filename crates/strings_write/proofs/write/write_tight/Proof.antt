@@ -8,9 +8,9 @@ use mathlib.Core.Path.{_≡_, sym, _∙_}
 use native.Mathlib.Omega.{arith}
 use Prim.Native.Nat.{_≤_}
 use lib.ListN.{length}
-use Rattle.units.specs.declared.styles.Style.the-variants.{Json}
+use Rattle.notation.specs.declared.styles.Style.the-variants.{Json}
 use native.Mathlib.Nat.{zero-add}
-use Rattle.units.specs.Units.{literalRun}
+use Rattle.notation.specs.Literals.{literalRun}
 use Rattle.runs.proofs.LiteralRuns.{here, through}
 use Rattle.strings_write.proofs.Writing.{valid-behind}
 

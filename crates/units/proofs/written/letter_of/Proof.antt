@@ -7,7 +7,7 @@ use Rattle.prelude.proofs.Picks.{picks}
 use borrow.Author.Tests.{eq-eqb, ne-eqb}
 use mathlib.Core.Path.{_∙_, sym}
 use Rattle.prelude.specs.Pick.{pick}
-use Rattle.units.specs.Escapes.{lookup}
+use Rattle.notation.specs.Escapes.{lookup}
 
 quote-in-requires : tie.Need-quote-in-requires
 quote-in-requires c κs = search needs

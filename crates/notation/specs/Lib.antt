@@ -1,0 +1,5 @@
+pub mod Styles
+pub mod Marks
+pub mod Hex
+pub mod Escapes
+pub mod Literals
