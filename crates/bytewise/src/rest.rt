@@ -1,10 +1,10 @@
 // Valid data written in `""` where the room is known to suffice: every byte stands for itself or has an escape of its own.
-ghost use mathlib.Core.Bool.{true, false, _||_};
+ghost use mathlib.Core.Bool.{false, _||_};
 ghost use mathlib.Core.List.{_∷_, []};
 ghost use mathlib.Core.Path.{_≡_};
 ghost use Prim.Native.Nat.{_+_, _-_, _*_, _≤_, _<_};
 ghost use lib.Dec.{eqb};
-ghost use lib.ListN.{length, getD, take, drop};
+ghost use lib.ListN.{length};
 ghost use lib.Seq.{sets};
 ghost use Rattle.prelude.specs.Pick.{pick};
 ghost use Rattle.utf8.specs.Class.{IsTable};

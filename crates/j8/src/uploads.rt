@@ -1,7 +1,6 @@
 // The upload's calls of the C interface, with its structs by value.
 ghost use mathlib.Core.Path.{_≡_};
-ghost use Rattle.upload.specs.Calls.{fresh, feed, finish};
-ghost use Rattle.structs.specs.Uploads.{uploadOf, given, fedOf};
+ghost use Rattle.j8.specs.Runs.{uploadFresh, uploadFeed, uploadFinish};
 use structs::uploads;
 use structs::uploads::J8Fed;
 use structs::uploads::J8Upload;
@@ -9,7 +8,7 @@ use upload::uploads::Upload;
 
 #[no_mangle]
 pub extern "C" fn j8_upload_fresh() -> J8Upload
-    ensures { λ r. ⌜ r ≡ uploadOf fresh ⌝ }
+    ensures { λ r. ⌜ r ≡ uploadFresh ⌝ }
 {
     uploads::upload_of(Upload::fresh())
 }
@@ -21,9 +20,9 @@ pub extern "C" fn j8_upload_feed(
     line: &mut [u8],
     out: &mut [u8],
 ) -> J8Fed
-    ensures answer { λ r. ⌜ r ≡ fedOf (feed (given upload (now (line .entry)) (now (out .entry))) (now (piece .entry))) ⌝ }
-    ensures held { λ r. ⌜ now (line .exit) ≡ feed (given upload (now (line .entry)) (now (out .entry))) (now (piece .entry)) .lent .line ⌝ }
-    ensures stored { λ r. ⌜ now (out .exit) ≡ feed (given upload (now (line .entry)) (now (out .entry))) (now (piece .entry)) .lent .out ⌝ }
+    ensures answer { λ r. ⌜ r ≡ uploadFeed upload (now (piece .entry)) (now (line .entry)) (now (out .entry)) .fed ⌝ }
+    ensures held { λ r. ⌜ now (line .exit) ≡ uploadFeed upload (now (piece .entry)) (now (line .entry)) (now (out .entry)) .line ⌝ }
+    ensures stored { λ r. ⌜ now (out .exit) ≡ uploadFeed upload (now (piece .entry)) (now (line .entry)) (now (out .entry)) .out ⌝ }
 {
     let s = uploads::state_of(upload);
     let f = s.feed(piece, line, out);
@@ -32,9 +31,9 @@ pub extern "C" fn j8_upload_feed(
 
 #[no_mangle]
 pub extern "C" fn j8_upload_finish(upload: J8Upload, line: &mut [u8], out: &mut [u8]) -> J8Fed
-    ensures answer { λ r. ⌜ r ≡ fedOf (finish (given upload (now (line .entry)) (now (out .entry)))) ⌝ }
-    ensures held { λ r. ⌜ now (line .exit) ≡ finish (given upload (now (line .entry)) (now (out .entry))) .lent .line ⌝ }
-    ensures stored { λ r. ⌜ now (out .exit) ≡ finish (given upload (now (line .entry)) (now (out .entry))) .lent .out ⌝ }
+    ensures answer { λ r. ⌜ r ≡ uploadFinish upload (now (line .entry)) (now (out .entry)) .fed ⌝ }
+    ensures held { λ r. ⌜ now (line .exit) ≡ uploadFinish upload (now (line .entry)) (now (out .entry)) .line ⌝ }
+    ensures stored { λ r. ⌜ now (out .exit) ≡ uploadFinish upload (now (line .entry)) (now (out .entry)) .out ⌝ }
 {
     let s = uploads::state_of(upload);
     let f = s.finish(line, out);

@@ -1,19 +1,15 @@
 -- The claims of specs/Claims.antt, each from the law that has it.
 -- Assumes nothing.
-use Prim.Native.Nat.{ℕ, _≤_}
-use mathlib.Core.List.{List, [], map}
-use mathlib.Core.Path.{_≡_, sym, ap, _∙_, subst}
-use lib.ListN.{length}
-use Rattle.upload.specs.Calls.{Lent, Called}
-use Rattle.upload.specs.declared.uploads.Answer.{Answer}
-use Rattle.replay.specs.Lists.{run, began, joined, defined}
-use Rattle.replay.proofs.WholeList.{whole-list}
-use Rattle.upload_claims.specs.Claims.{Finished, firstRefusal}
+use mathlib.Core.List.{map}
+use mathlib.Core.Path.{sym, ap, _∙_}
+use Rattle.j8_lines.specs.Lists.{run, began}
+use Rattle.j8_lines.proofs.WholeList.{whole-list}
 use Rattle.upload_claims.proofs.Claims.{every-list-of-calls, pieces-do-not-matter, records-after-finish}
 use Rattle.structs.specs.Uploads.{answerOf}
-use Rattle.j8_claims.specs.Runs.{ranCall}
-use Rattle.j8_claims.specs.Claims.{Every-List-Of-C-Calls, C-Pieces-Do-Not-Matter, C-Records-After-Finish, C-Strings-Return, C-Lines-Return, C-Tables-Return}
+use Rattle.j8.specs.Runs.{ranCall}
+use Rattle.j8_claims.specs.Claims.{Every-List-Of-C-Calls, C-Pieces-Do-Not-Matter, C-Records-After-Finish, C-Strings-Return, C-Unicode-Is-Utf8, C-Lines-Return, C-Tables-Return}
 use Rattle.j8_claims.proofs.Lists.{run-back, answers-back, handed-back}
+use Rattle.j8_claims.proofs.Unicode.{unicode-read}
 use Rattle.j8_claims.proofs.Returned.{string-returned, lines-returned, table-returned}
 
 pub every-list-of-c-calls : Every-List-Of-C-Calls
@@ -32,6 +28,9 @@ c-records-after-finish cs line out h f =
 
 pub c-strings-return : C-Strings-Return
 c-strings-return = string-returned
+
+pub c-unicode-is-utf8 : C-Unicode-Is-Utf8
+c-unicode-is-utf8 = unicode-read
 
 pub c-lines-return : C-Lines-Return
 c-lines-return records text cs line out l b e h = lines-returned records text e h cs line out l b

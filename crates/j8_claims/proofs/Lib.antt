@@ -1,3 +1,4 @@
 pub mod Lists
 pub mod Returned
 pub mod Claims
+pub mod Unicode

@@ -1,20 +1,16 @@
 -- Lists of the C calls: each call's state comes back as it went out, so that a list of C calls is the list of the calls below, call by call.
 -- Assumes nothing.
-use Prim.Native.Nat.{ℕ, _≤_}
-use mathlib.Core.Bool.{true, false}
 use mathlib.Core.List.{List, [], _∷_, map}
-use mathlib.Core.Path.{_≡_, refl, sym, ap, _∙_, subst}
-use lib.ListN.{length}
-use Rattle.prelude.specs.Limits.{lineMax}
+use mathlib.Core.Path.{_≡_, refl, ap, _∙_}
 use Rattle.upload.specs.declared.uploads.Upload.{Upload}
-use Rattle.upload.specs.declared.uploads.Answer.{Answer}
 use Rattle.upload.specs.Calls.{Lent, lent, Called, feed, finish}
-use Rattle.replay.specs.Lists.{Call, feeds, finishes, call, run, began, joined, finished, defined}
-use Rattle.upload_claims.specs.Claims.{answers, definedAnswers, Finished, firstRefusal}
+use Rattle.j8_lines.specs.Lists.{Call, feeds, finishes, call, run}
+use Rattle.upload_claims.specs.Claims.{answers}
 use Rattle.structs.specs.declared.uploads.J8Answer.{J8Answer}
-use Rattle.structs.specs.Uploads.{stateOf, uploadOf, answerOf, given}
+use Rattle.structs.specs.Uploads.{uploadOf, answerOf, given}
 use Rattle.structs.proofs.Claims.{states-return}
-use Rattle.j8_claims.specs.Runs.{RanCall, ranCall, callC, runC, beganC, answersC}
+use Rattle.j8.specs.Runs.{RanCall, ranCall}
+use Rattle.j8_claims.specs.Lists.{callC, runC, answersC}
 
 -- a state handed out and in again
 given-back : (m : Lent) → given (uploadOf (m .state)) (m .line) (m .out) ≡ m

@@ -2,34 +2,31 @@
 -- Assumes nothing.
 use Prim.Native.Nat.{ℕ, _/_, _≤_}
 use mathlib.Core.Bool.{true}
-use mathlib.Core.List.{List, [], _++_}
-use mathlib.Core.Path.{_≡_, refl, sym, ap, _∙_, subst}
+use mathlib.Core.List.{List, _++_}
+use mathlib.Core.Path.{_≡_, sym, ap, _∙_, subst}
 use borrow.Author.Tests.{le-leb}
-use lib.Dec.{leb}
 use lib.ListN.{length, take, drop}
 use lib.Seq.{take-append-seam}
 use Rattle.prelude.specs.Bytes.{IsBytes}
 use Rattle.prelude.specs.Limits.{textMax, lineMax, uploadMax}
 use Rattle.prelude.specs.Pick.{pick}
-use Rattle.strings.specs.Read.{readText}
 use Rattle.strings_write.specs.Write.{writeString, writtenIn, wroteInto}
 use Rattle.string_claims.proofs.Claims.{written-reads-back}
-use Rattle.json8.specs.Read.{readOf, parsedOf}
 use Rattle.trees.specs.Trees.{Tree, render}
 use Rattle.trees.specs.Tables.{just, nodesIn, treeOf}
 use Rattle.trees.specs.Sizes.{sizeOf, storeOf}
 use Rattle.trees.proofs.Claims.{written-table-reads-back}
-use Rattle.json8_write.specs.Write.{wroteTree, treeInto}
+use Rattle.json8_write.specs.Write.{wroteTree}
 use Rattle.lines_write.specs.Write.{rightRecords, writeQuoted, wroteLines, linesInto}
-use Rattle.replay.specs.Lines.{cut}
-use Rattle.replay.specs.Lists.{Call, run, began, joined, finished}
+use Rattle.j8_lines.specs.Lines.{cut}
+use Rattle.j8_lines.specs.Lists.{Call, run, began, joined, finished}
 use Rattle.upload_claims.specs.Claims.{Within, EndedWith}
 use Rattle.upload_claims.proofs.Claims.{written-lines-read-back}
 use Rattle.structs.specs.declared.results.J8Result.{J8Result}
 use Rattle.structs.specs.Results.{done, writtenResult, linesResult, tableResult}
-use Rattle.structs.specs.Tables.{nodesResult}
 use Rattle.structs.specs.Uploads.{given}
-use Rattle.j8_claims.specs.Runs.{stringWrite, stringRead, linesWrite, json8Write, json8Read, RanCall, runC, beganC}
+use Rattle.j8.specs.Runs.{stringWrite, stringRead, linesWrite, json8Write, json8Read, RanCall}
+use Rattle.j8_claims.specs.Lists.{runC, beganC}
 use Rattle.j8_claims.specs.Claims.{StringReturned, LinesReturned, TableReturned}
 use Rattle.j8_claims.proofs.Lists.{run-back, handed-back}
 

@@ -7,17 +7,21 @@ use mathlib.Core.Path.{_≡_}
 use lib.ListN.{length, take, drop}
 use Rattle.prelude.specs.Bytes.{IsBytes}
 use Rattle.prelude.specs.Limits.{textMax, lineMax, uploadMax}
+use Rattle.utf8.specs.Utf8.{validUtf8}
+use Rattle.notation.specs.declared.styles.Style.the-variants.{Unicode}
+use Rattle.notation.specs.Marks.{opens, opening}
 use Rattle.strings_write.specs.Write.{writeString}
 use Rattle.trees.specs.Trees.{Tree, render}
 use Rattle.trees.specs.Tables.{just, nodesIn, treeOf}
 use Rattle.trees.specs.Sizes.{sizeOf, storeOf}
 use Rattle.lines_write.specs.Write.{rightRecords, writeQuoted}
-use Rattle.replay.specs.Lists.{Call, began, joined, finished, defined}
-use Rattle.replay.specs.Lines.{cut, j8Lines}
+use Rattle.j8_lines.specs.Lists.{Call, joined, finished, defined}
+use Rattle.j8_lines.specs.Lines.{cut}
 use Rattle.upload_claims.specs.Claims.{definedAnswers, Finished, firstRefusal, EndedWith, Within}
 use Rattle.structs.specs.Results.{done}
 use Rattle.structs.specs.Uploads.{answerOf, given}
-use Rattle.j8_claims.specs.Runs.{Ran, stringWrite, stringRead, linesWrite, json8Write, RanNodes, json8Read, RanCall, ranCall, runC, beganC, answersC}
+use Rattle.j8.specs.Runs.{Ran, stringWrite, stringRead, linesWrite, json8Write, RanNodes, json8Read, RanCall, ranCall}
+use Rattle.j8_claims.specs.Lists.{runC, beganC, answersC}
 
 -- Demand 3, of `j8_upload_feed` and `j8_upload_finish`: "Take any list of feeds and finishes of one J8 Lines upload, in any order, empty
 -- pieces and refused calls included. .. After every such list, the state and both buffers are exactly what the J8 Lines definition gives for
@@ -53,6 +57,12 @@ abbrev pub C-Strings-Return : Type 0
 C-Strings-Return =
     (bytes out into : List ℕ) → IsBytes bytes → length (writeString bytes) ≤ length out → length (writeString bytes) ≤ textMax → length bytes ≤ length into
     → StringReturned bytes (stringWrite bytes out) (stringRead (take (stringWrite bytes out .result .length) (stringWrite bytes out .out)) into) into
+
+-- "an accepted u'' string always gives valid UTF-8": what `j8_string_read` leaves in front of a buffer
+abbrev pub C-Unicode-Is-Utf8 : Type 0
+C-Unicode-Is-Utf8 =
+    (text out : List ℕ) (n : ℕ) → opening text ≡ opens Unicode n → stringRead text out .result .number ≡ 0
+    → validUtf8 (take (stringRead text out .result .length) (stringRead text out .out)) ≡ true
 
 -- records that `j8_lines_write` wrote in front of a buffer and that an upload read from there
 pub record LinesReturned (records : List ℕ) (written : Ran) (last : RanCall) (out : List ℕ) : Type 0 where

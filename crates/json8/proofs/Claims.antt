@@ -2,17 +2,19 @@
 -- Assumes nothing.
 use Prim.Native.Nat.{ℕ, _≤_}
 use mathlib.Core.List.{List}
-use mathlib.Core.Path.{_≡_, refl, sym}
+use mathlib.Core.Path.{_≡_, refl}
 use native.Mathlib.Omega.{arith}
 use lib.Dec.{ltb}
 use lib.ListN.{length}
 use Rattle.prelude.proofs.Picks.{pick-case}
 use Rattle.prelude.specs.Refusals.{cutOff}
 use Rattle.prelude.specs.Limits.{textMax}
-use Rattle.json8.specs.Nodes.{Node, Read, got, refused}
-use Rattle.json8.specs.Values.{value}
+use Rattle.json8.specs.Nodes.{Read, got, refused}
+use Rattle.json8.specs.Leaves.{string, word, number, key}
+use Rattle.json8.specs.Values.{valueOf, group}
 use Rattle.json8.specs.Read.{readAll, fitted, readOf}
-use Rattle.json8.specs.Claims.{Tables-Fit, Values-Progress, Refusals-Inside, Texts-Cut-Off-At-End}
+use Rattle.json8.specs.Claims.{Tables-Fit, Values-Progress, Refusals-Inside, Texts-Cut-Off-At-End, Faults-In-Order}
+use Rattle.json8.proofs.Limited.{limited-full}
 use Rattle.json8.proofs.Fair.{Fair, value-fair, read-fair}
 
 pub tables-fit : Tables-Fit
@@ -45,3 +47,15 @@ refusals-inside nodes room s number at e = (rw e at (all-inside nodes room s)) .
 
 pub texts-cut-off-at-end : Texts-Cut-Off-At-End
 texts-cut-off-at-end nodes room s at e = (rw e at (all-inside nodes room s)) .1 refl
+
+pub faults-in-order : Faults-In-Order
+unfolding valueOf group word number key
+faults-in-order left p n m s = (
+  λ e. rw e,
+  λ e v. rw (e, v),
+  λ e. rw e,
+  λ e v. rw (e, v),
+  λ e. rw e,
+  λ e. rw e,
+  λ e h. rw e (limited-full string p n m s h),
+)

@@ -4,9 +4,16 @@ use Prim.Native.Nat.{ℕ, _≤_, _<_}
 use mathlib.Core.List.{List}
 use mathlib.Core.Path.{_≡_}
 use lib.ListN.{length}
+use Rattle.tokens.specs.declared.starts.Start.the-variants.{String as StringStart, Word as WordStart, Number as NumberStart, List as ListStart, Dict, Nothing}
+use Rattle.tokens.specs.declared.words.Word.the-variants.{Other}
+use Rattle.tokens.specs.declared.numbers.Number.the-variants.{Malformed}
+use Rattle.tokens.specs.Starts.{startOf}
+use Rattle.tokens.specs.Words.{wordOf, wordValue}
+use Rattle.tokens.specs.Numbers.{numberAt}
 use Rattle.json8.specs.Nodes.{Node, got, refused}
-use Rattle.prelude.specs.Refusals.{cutOff}
+use Rattle.prelude.specs.Refusals.{cutOff, misplaced, badNumber, tooDeep, tooMany}
 use Rattle.prelude.specs.Limits.{nodeMax}
+use Rattle.json8.specs.Leaves.{key}
 use Rattle.json8.specs.Values.{value}
 use Rattle.json8.specs.Read.{readAll, readOf}
 
@@ -29,3 +36,16 @@ Refusals-Inside = (nodes room : ℕ) (s : List ℕ) (number at : ℕ) → readOf
 -- "the text ends where more is needed": refusal 4 stands at the "text length"
 abbrev pub Texts-Cut-Off-At-End : Type 0
 Texts-Cut-Off-At-End = (nodes room : ℕ) (s : List ℕ) (at : ℕ) → readOf nodes room s ≡ refused cutOff at → at ≡ length s
+
+-- "At one place 3 comes first, then 11, 13, 14, 15, 16, then the rest.": 13, 14 and 15 whatever the number of nodes, and 16 whatever the
+-- string
+abbrev pub Faults-In-Order : Type 0
+Faults-In-Order =
+    (left p n m : ℕ) (s : List ℕ)
+    → (startOf s ≡ Nothing → value left p n m s ≡ refused misplaced p)
+    × (startOf s ≡ WordStart → wordValue (wordOf s) ≡ Other → value left p n m s ≡ refused misplaced p)
+    × (startOf s ≡ NumberStart → key p n m s ≡ refused misplaced p)
+    × (startOf s ≡ NumberStart → numberAt s ≡ Malformed → value left p n m s ≡ refused badNumber p)
+    × (startOf s ≡ ListStart → value 0 p n m s ≡ refused tooDeep p)
+    × (startOf s ≡ Dict → value 0 p n m s ≡ refused tooDeep p)
+    × (startOf s ≡ StringStart → nodeMax ≤ n → value left p n m s ≡ refused tooMany p)

@@ -1,13 +1,10 @@
 // Whether a table is fit. Values and groups, which are lists and dicts, call each other, and the brackets that may still be opened fall at each call.
-ghost use mathlib.Core.Bool.{_&&_};
 ghost use mathlib.Core.Path.{_≡_};
 ghost use Prim.Native.Nat.{_+_, _≤_, _<_};
-ghost use lib.Dec.{leb};
-ghost use lib.ListN.{length, drop};
+ghost use lib.ListN.{drop};
 ghost use Rattle.json8.specs.declared.nodes.Sort.the-variants.{Pairs};
-ghost use Rattle.json8.specs.Nodes.{Node};
 ghost use Rattle.prelude.specs.Limits.{nodeMax};
-ghost use Rattle.trees.specs.Tables.{nodesIn, countAt, stringOf, numberOf, leafOf, labelSize, labelAt, memberSize, treeAt, grouped, treeOf};
+ghost use Rattle.trees.specs.Tables.{nodesIn, countAt, stringOf, numberOf, leafOf, labelAt, treeAt, grouped, treeOf};
 ghost use Rattle.json8_fit.specs.inner.Steps.{Inside, nodeAt, memberFit, within};
 ghost use Rattle.json8_fit.specs.Fitness.{isFit};
 use crate::nodes;

@@ -2,7 +2,7 @@
 ghost use mathlib.Core.Path.{_≡_};
 ghost use Prim.Native.Nat.{_+_, _*_, _≤_, _<_};
 ghost use lib.Dec.{eqb};
-ghost use lib.ListN.{length, getD, drop, take};
+ghost use lib.ListN.{length, getD, drop};
 ghost use Rattle.tokens.specs.Numbers.{numberKind};
 ghost use Rattle.prelude.specs.Limits.{nodeMax};
 ghost use Rattle.trees.specs.Tables.{nodesIn, countAt, labelSize, memberSize};

@@ -5,10 +5,8 @@ use mathlib.Core.List.{List, [], _∷_}
 use Prim.Native.Nat.{ℕ, _+_, _-_, _*_, _≤_, _<_}
 use native.Mathlib.Omega.{arith}
 use native.Mathlib.Nat.{add-zero}
-use borrow.Author.Tests.{lt-ltb, le-ltb}
 use lib.ListN.{length, getD, take, drop, length-drop}
 use lib.Seq.{sets, drop-drop}
-use Rattle.prelude.specs.Pick.{pick}
 use Rattle.prelude.proofs.Cases.{never}
 use Rattle.prelude.proofs.Stores.{sets-part}
 use borrow.Rule.Slice.PartMut.{putMid}
@@ -42,7 +40,7 @@ use Rattle.json8_leaves.specs.declared.nodes.Out.{Out}
 use Rattle.json8_leaves.specs.declared.nodes.Out.the-variants.{Got, Refused}
 use Rattle.json8_leaves.specs.declared.nodes.Step.{Step}
 use Rattle.json8_leaves.specs.declared.nodes.Step.the-variants.{At, Stop}
-use Rattle.json8.specs.Nodes.{node, Read, got, refused, Reader, flat, limited}
+use Rattle.json8.specs.Nodes.{node, Read, got, flat, limited}
 use Rattle.prelude.specs.Limits.{nodeMax}
 use Rattle.json8.specs.Leaves.{passed, spaces, marked, colon, comma, stringNode, string, plain, wordRead, word, number}
 use Rattle.json8_leaves.specs.inner.Told.{Told, Stepped, StoredAt}

@@ -1,6 +1,5 @@
 // Readers of what holds no other value, but for strings.
 ghost use mathlib.Core.List.{List};
-ghost use mathlib.Core.Path.{_≡_};
 ghost use Prim.Native.Nat.{ℕ, _≤_};
 ghost use lib.ListN.{length, drop};
 ghost use Rattle.utf8.specs.Class.{IsTable};

@@ -1,11 +1,9 @@
 // Strings, and keys, which are strings or words.
-ghost use mathlib.Core.Bool.{true};
 ghost use mathlib.Core.List.{List};
 ghost use mathlib.Core.Path.{_≡_};
-ghost use Prim.Native.Nat.{ℕ, _+_, _≤_, _<_};
-ghost use lib.ListN.{length, getD, drop};
+ghost use Prim.Native.Nat.{_+_, _<_};
+ghost use lib.ListN.{drop};
 ghost use Rattle.utf8.specs.Class.{IsTable};
-ghost use Rattle.notation.specs.Styles.{quote};
 ghost use Rattle.notation.specs.Literals.{literalRun};
 ghost use Rattle.notation.specs.Marks.{opens, opening};
 ghost use Rattle.strings.specs.Read.{readToken, tokenOf};

@@ -3,11 +3,10 @@
 ghost use mathlib.Core.Bool.{true};
 ghost use mathlib.Core.Path.{_≡_};
 ghost use Prim.Native.Nat.{_+_, _≤_};
-ghost use lib.ListN.{length, drop};
+ghost use lib.ListN.{drop};
 ghost use Rattle.utf8.specs.Class.{IsTable};
 ghost use Rattle.rooms.specs.inner.Puts.{roomMax, Put};
 ghost use Rattle.json8.specs.declared.nodes.Sort.the-variants.{Pairs};
-ghost use Rattle.json8.specs.Nodes.{Node};
 ghost use Rattle.prelude.specs.Limits.{nodeMax};
 ghost use Rattle.trees.specs.Tables.{nodesIn, countAt, stringOf, numberOf, leafOf, labelSize, labelAt, memberSize, treeAt, grouped};
 ghost use Rattle.json8_fit.specs.Fitness.{isFit};

@@ -28,7 +28,7 @@ use Rattle.lines.specs.Line.{bareFault, unless, bareFrom, bare, LineRead
 use Rattle.lines.proofs.BareTexts.{bare-skip}
 
 -- the number of a fault in a text
-abbrev Textual : ℕ → Type 0
+abbrev pub Textual : ℕ → Type 0
 Textual n = (0 < n) × (n < noRoom)
 
 -- a unit's
@@ -88,7 +88,7 @@ unit-fault st (x ∷ r) =
     (λ d. pick-case UnitFault (ltb x 32) _ _ (λ l. (lit< tt, lit< tt)) (λ l. literal-fault (charLen (x ∷ r)) (x ∷ r))))
 
 -- a string's
-abbrev StringFault : StringRead → Type 0
+abbrev pub StringFault : StringRead → Type 0
 StringFault (accepted bs e) = Unit
 StringFault (refused number at) = Textual number
 
@@ -121,7 +121,7 @@ whole-fault : (m : ℕ) (r : StringRead) → StringFault r → StringFault (noth
 whole-fault m (accepted bs e) h = pick-case StringFault (eqb e m) _ _ (λ q. tt) (λ q. (lit< tt, lit< tt))
 whole-fault m (refused number at) h = h
 
-string-fault : (s : List ℕ) → StringFault (readString s)
+pub string-fault : (s : List ℕ) → StringFault (readString s)
 unfolding readString readToken
 string-fault s = whole-fault (length s) (readFrom (opening s) s) (from-fault (opening s) s)
 

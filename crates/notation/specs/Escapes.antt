@@ -2,7 +2,7 @@
 -- Assumes nothing.
 use Prim.Native.Nat.{ℕ, zero, suc, _+_, _-_, _*_}
 use Prim.Native.Char.{code}
-use mathlib.Core.Bool.{Bool, true, false, _&&_}
+use mathlib.Core.Bool.{Bool, _&&_}
 use mathlib.Core.List.{List, [], _∷_}
 use lib.Dec.{ltb, eqb}
 use lib.ListN.{getD, drop}
@@ -12,7 +12,7 @@ use Rattle.prelude.specs.Refusals.{badEscape, surrogate, tooLarge, byteEscape}
 use Rattle.utf8.specs.Utf8.{between, encode}
 use Rattle.notation.specs.declared.styles.Style.{Style}
 use Rattle.notation.specs.declared.styles.Style.the-variants.{Json, Unicode, Bytes}
-use Rattle.notation.specs.Styles.{StringUnit, close, took, fault}
+use Rattle.notation.specs.Styles.{StringUnit, took, fault}
 use Rattle.notation.specs.Hex.{hexRun, hexNumber}
 
 -- the number beside x in a table of pairs, 0 where x isn't in it

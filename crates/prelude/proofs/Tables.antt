@@ -1,6 +1,6 @@
 -- A rule about every entry of a table, or every number below a bound, proved by one test that antt computes.
 -- Assumes nothing.
-use mathlib.Core.Path.{_≡_, _∙_, refl, subst, sym}
+use mathlib.Core.Path.{_≡_, _∙_, subst, sym}
 use mathlib.Core.Bool.{Bool, true, false, _&&_}
 use mathlib.Core.List.{List, [], _∷_}
 use Prim.Native.Nat.{ℕ, zero, suc, _+_, _<_}

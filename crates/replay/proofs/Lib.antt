@@ -1,4 +1,1 @@
-pub mod Snoc
-pub mod Step
-pub mod WholeList
 pub mod Playing

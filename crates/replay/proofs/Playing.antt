@@ -14,7 +14,7 @@ use Rattle.prelude.specs.Pick.{pick}
 use Rattle.upload.specs.declared.uploads.Upload.{Upload}
 use Rattle.upload.specs.declared.uploads.Answer.{Answer}
 use Rattle.upload.specs.Calls.{Lent, lent, fresh, Called, zeros, feed, finish}
-use Rattle.replay.specs.Lists.{feeds, finishes, call, run, began, decode}
+use Rattle.j8_lines.specs.Lists.{feeds, finishes, call, run, began, decode}
 use Rattle.replay.specs.inner.Plans.{OneCall}
 
 module _ (text : List ℕ) (at c : ℕ) (m : Lent) (r : Called) (h : at ≤ length text) where

@@ -1,3 +1,1 @@
-pub mod Lines
-pub mod Lists
 pub mod inner

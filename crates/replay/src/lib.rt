@@ -1,2 +1,2 @@
-// Lists of an upload's calls, against the J8 Lines definition of the joined text.
+// A list of an upload's calls, run from a text and a plan.
 pub mod replays;

@@ -5,7 +5,7 @@ ghost use Prim.Native.Nat.{_≤_};
 ghost use lib.ListN.{length};
 ghost use Rattle.prelude.specs.Limits.{lineMax};
 ghost use Rattle.upload.specs.Calls.{lent, called};
-ghost use Rattle.replay.specs.Lists.{began, run, defined, decode};
+ghost use Rattle.j8_lines.specs.Lists.{began, run, defined, decode};
 ghost use Rattle.replay.specs.inner.Plans.{OneCall};
 use upload::uploads::Answer;
 use upload::uploads::Fed;

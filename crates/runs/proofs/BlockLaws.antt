@@ -13,7 +13,7 @@ use borrow.Author.Count.{below-more}
 use borrow.Author.Tests.{ltb-true, ltb-false, leb-true, leb-false, eqb-false, le-ltb, lt-ltb, ne-eqb, le-leb, lt-leb}
 use Rattle.prelude.specs.Bytes.{doubleQuote, backslash}
 use Rattle.prelude.specs.Pick.{pick}
-use Rattle.prelude.proofs.Cases.{split, or-left, or-right, or-none, never}
+use Rattle.prelude.proofs.Cases.{split, or-left, or-right, never}
 use Rattle.utf8.specs.Class.{classOf}
 use Rattle.utf8.specs.Utf8.{tail, twoBytes, longLen, lenBy, charLen}
 use Rattle.utf8.proofs.Characters.{ascii-len}

@@ -13,7 +13,7 @@ use Rattle.prelude.specs.Pick.{pick}
 use Rattle.prelude.proofs.Picks.{pick-case}
 use Rattle.notation.specs.declared.styles.Style.the-variants.{Unicode}
 use Rattle.notation.specs.Marks.{opens, opening}
-use Rattle.strings.specs.Read.{StringRead, accepted, refused, fitted, readFrom, readToken, readString, readText}
+use Rattle.strings.specs.Read.{StringRead, accepted, refused, fitted, readToken, readString, readText}
 use Rattle.strings.proofs.Steps.{read-skip}
 use Rattle.strings.proofs.Utf8Denoted.{Valid, units-valid, unicode-valid}
 use Rattle.string_claims.specs.Claims.{Example}

@@ -1,14 +1,13 @@
 -- The reader's loop: the whole reading is what is decoded already and then the reading of the rest, a run and a unit at a time.
 -- Assumes nothing.
-use Prim.Native.Nat.{ℕ, zero, suc, _+_, _-_, _≤_, _<_, zero-le}
-use mathlib.Core.List.{List, [], _∷_, _++_, append-assoc, append-nil}
+use Prim.Native.Nat.{ℕ, _+_, _-_, _≤_, _<_, zero-le}
+use mathlib.Core.List.{List, [], _∷_, _++_, append-assoc}
 use mathlib.Core.Path.{_≡_, refl, sym, ap, _∙_, subst}
 use native.Mathlib.Omega.{arith}
 use lib.ListN.{length, take, drop, length-drop, length-append}
 use lib.Seq.{sets, drop-drop, length-take-le}
 use Rattle.prelude.proofs.Cases.{never}
 use Rattle.prelude.proofs.Stores.{sets-append}
-use Rattle.utf8.specs.declared.chars.Char.{Char}
 use Rattle.notation.specs.declared.styles.Style.{Style}
 use Rattle.notation.specs.declared.styles.Unit.{Unit as Found}
 use Rattle.notation.specs.declared.styles.Unit.the-variants.{Close, Took, Fault}

@@ -1,23 +1,19 @@
 -- What a whole text is answered, way by way of the code, against the definition.
 -- Assumes nothing.
-use Prim.Native.Nat.{ℕ, zero, suc, _+_, _-_, _≤_, _<_, zero-le}
+use Prim.Native.Nat.{ℕ, _+_, _-_, _≤_, _<_}
 use Prim.Native.Char.{code}
-use mathlib.Core.Bool.{Bool, true, false, _&&_}
-use mathlib.Core.List.{List, [], _∷_, _++_, append-nil}
+use mathlib.Core.List.{List, [], _++_, append-nil}
 use mathlib.Core.Path.{_≡_, refl, sym, ap, _∙_, subst}
 use native.Mathlib.Omega.{arith}
-use lib.Dec.{ltb, eqb}
 use borrow.Author.Tests.{lt-ltb, le-ltb, eq-eqb, ne-eqb}
-use lib.ListN.{length, getD, take, drop, length-drop}
+use lib.ListN.{length, getD, take, drop}
 use lib.Seq.{sets, drop-drop, drop-cons, length-take-le}
-use Rattle.prelude.specs.Bytes.{doubleQuote, singleQuote}
 use Rattle.prelude.specs.Pick.{pick}
-use Rattle.prelude.proofs.Cases.{split, never}
+use Rattle.prelude.proofs.Cases.{never}
 use Rattle.prelude.proofs.Stores.{sets-over, empty-front}
 use Rattle.utf8.specs.Utf8.{validUtf8}
 use Rattle.notation.specs.declared.styles.Style.{Style}
-use Rattle.notation.specs.declared.styles.Style.the-variants.{Json, Unicode, Bytes}
-use Rattle.notation.specs.Styles.{quote, StringUnit, close}
+use Rattle.notation.specs.Styles.{quote, close}
 use Rattle.notation.specs.Literals.{literalLen, literalRun}
 use Rattle.units.specs.Units.{unitAt}
 use Rattle.runs.specs.inner.Blocks.{Running}
@@ -29,7 +25,7 @@ use Rattle.strings.specs.declared.answers.Token.{Token}
 use Rattle.strings.specs.declared.answers.Token.the-variants.{Ended, Failed}
 use Rattle.notation.specs.declared.marks.Mark.{Mark}
 use Rattle.notation.specs.declared.marks.Mark.the-variants.{Opens, Unopened}
-use Rattle.notation.specs.Marks.{Opening, opens, unopened, opening, openingOf}
+use Rattle.notation.specs.Marks.{Opening, opens, opening, openingOf}
 use Rattle.strings.specs.Read.{StringRead, accepted, refused, more, readUnits, readFrom, readToken, readString, readText, nothingBehind, fitted, decodedOf, tokenOf, readInto}
 use Rattle.prelude.specs.Limits.{textMax}
 use Rattle.strings.specs.inner.Turns.{unitsBytes, bytesFrom, tokenBytes, Closed}

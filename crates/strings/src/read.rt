@@ -9,7 +9,6 @@ ghost use Rattle.utf8.specs.Utf8.{fewOf};
 ghost use Rattle.runs.specs.inner.Blocks.{Running};
 ghost use Rattle.notation.specs.Literals.{literalRun};
 ghost use Rattle.units.specs.Units.{unitAt};
-ghost use Rattle.notation.specs.Marks.{opening, openingOf};
 ghost use Rattle.strings.specs.Read.{readUnits, readToken, readString, readText, readTextToken, fitted, decodedOf, tokenOf, readInto};
 ghost use Rattle.strings.specs.inner.Turns.{readBehind, unitTurn, unitBytes, turnOf, turnBytes, unitsBytes, tokenBytes, Closed};
 use crate::answers::Decoded;

@@ -2,13 +2,12 @@
 -- Assumes nothing.
 use Prim.Native.Nat.{ℕ}
 use mathlib.Core.Bool.{Bool, true, false}
-use mathlib.Core.List.{List}
 use mathlib.Core.Path.{_≡_, refl, sym, ap, _∙_}
 use native.Mathlib.Omega.{arith}
 use lib.Dec.{eqb}
 use lib.ListN.{length}
 use Rattle.prelude.specs.Pick.{pick}
-use Rattle.prelude.proofs.Cases.{split, never}
+use Rattle.prelude.proofs.Cases.{split}
 use Rattle.strings.specs.declared.answers.Decoded.{Decoded}
 use Rattle.strings.specs.declared.answers.Decoded.the-variants as strings
 use Rattle.strings_write.specs.declared.answers.Written.{Written}
@@ -21,16 +20,12 @@ use Rattle.json8_show.specs.declared.show.Shown.{Shown}
 use Rattle.json8_show.specs.declared.show.Shown.the-variants.{InText, InStore, Nowhere}
 use Rattle.json8.specs.declared.answers.WroteTable.{WroteTable}
 use Rattle.json8.specs.declared.answers.WroteTable.the-variants as tables
-use Rattle.upload.specs.declared.uploads.Upload.{Upload}
-use Rattle.upload.specs.declared.uploads.Answer.{Answer}
-use Rattle.upload.specs.declared.uploads.Fed.{Fed}
 use Rattle.structs.specs.declared.results.J8Result.{J8Result}
 use Rattle.structs.specs.declared.tables.J8Nodes.{J8Nodes}
 use Rattle.structs.specs.declared.tables.J8Shown.{J8Shown}
-use Rattle.structs.specs.declared.uploads.J8Upload.{J8Upload}
 use Rattle.structs.specs.declared.uploads.J8Fed.{J8Fed}
 use Rattle.structs.specs.Results.{decodedResult, writtenResult, linesResult, tableResult}
-use Rattle.structs.specs.Uploads.{isEnded, endedNumber, stateWith, stateOf, uploadWith, uploadOf, answerOf, fedFrom}
+use Rattle.structs.specs.Uploads.{isEnded, endedNumber, stateWith, stateOf, uploadWith, uploadOf}
 use Rattle.structs.specs.Tables.{nodesResult, shownResult}
 use Rattle.structs.specs.Claims.{States-Return, Structs-Return, Fed-Tells-All, DecodedNumbered, WrittenNumbered, LinesNumbered, NodesNumbered, TableNumbered, Results-Tell-All}
 

@@ -17,7 +17,7 @@ use Rattle.utf8.specs.Utf8.{charLen, charBy, charAt}
 use Rattle.utf8.proofs.CharSteps.{is-one}
 use Rattle.utf8.proofs.Characters.{char-le}
 use Rattle.tokens.specs.declared.blanks.Blank.the-variants.{Clear, Ill}
-use Rattle.tokens.specs.Blanks.{isSpace, pass, token, fault, passing, passOn, blanksFrom, blanks}
+use Rattle.tokens.specs.Blanks.{isSpace, pass, token, fault, passing, blanksFrom, blanks}
 
 pub blanks-skip : (o : Bool) (i k : ℕ) (s : List ℕ) → blanksFrom o i k s ≡ blanksFrom o i 0 (drop k s)
 unfolding blanksFrom

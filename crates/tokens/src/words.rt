@@ -2,7 +2,7 @@
 ghost use mathlib.Core.Path.{_≡_};
 ghost use Prim.Native.Nat.{_≤_};
 ghost use lib.ListN.{length, drop};
-ghost use Rattle.tokens.specs.Words.{isLetter, isDigit, isWord, runOf, wordOf, sameBytes, wordValue};
+ghost use Rattle.tokens.specs.Words.{isLetter, isDigit, isWord, wordOf, sameBytes, wordValue};
 use utf8::chars;
 
 // The kind of the value that a word names; or a word that names none.

@@ -3,7 +3,7 @@
 use Prim.Native.Nat.{ℕ}
 use mathlib.Core.Bool.{true}
 use mathlib.Core.List.{List, [], _∷_, _++_}
-use mathlib.Core.Path.{_≡_, refl, sym, ap, _∙_}
+use mathlib.Core.Path.{_≡_, refl, sym, _∙_}
 use native.Mathlib.Omega.{arith}
 use lib.ListN.{length, drop, length-append}
 use lib.Seq.{drop-append-seam}
@@ -14,8 +14,8 @@ use Rattle.notation.specs.Marks.{opens, opening}
 use Rattle.strings.specs.Read.{StringRead, accepted, refused as unread, readToken}
 use Rattle.strings.proofs.Utf8Denoted.{Valid}
 use Rattle.string_claims.proofs.Texts.{token-valid}
-use Rattle.json8.specs.Nodes.{Node, Read, got}
-use Rattle.json8.specs.Leaves.{stringRead, string}
+use Rattle.json8.specs.Nodes.{Node, got}
+use Rattle.json8.specs.Leaves.{string}
 use Rattle.trees.specs.Tables.{just, stringOf}
 use Rattle.trees.proofs.Meanings.{Stands}
 use Rattle.trees.proofs.Leaves.{string-token}

@@ -1,8 +1,6 @@
 -- The trees that have a text: bytes, legal numbers, and no deeper or larger than a table may be.
 -- Assumes nothing.
 use Prim.Native.Nat.{ℕ, zero, suc, _≤_}
-use mathlib.Core.Bool.{Bool}
-use mathlib.Core.List.{List}
 use mathlib.Core.Path.{_≡_}
 use Rattle.prelude.specs.Bytes.{IsBytes}
 use Rattle.tokens.specs.Numbers.{numberKind}

@@ -1,7 +1,7 @@
 -- The escapes that the writer stores, form by form: the array that the code copies is the definition's list.
 -- Assumes nothing.
-use mathlib.Core.Path.{_≡_, refl, sym, ap, _∙_}
-use mathlib.Core.Bool.{Bool, true, false}
+use mathlib.Core.Path.{_≡_, refl, sym}
+use mathlib.Core.Bool.{false}
 use mathlib.Core.List.{List, [], _∷_}
 use Prim.Native.Nat.{ℕ, zero, suc, pred, _+_, _-_, _/_, _%_, _≤_, _<_}
 use Prim.Native.Char.{code}
@@ -21,7 +21,7 @@ use Rattle.notation.specs.declared.styles.Form.{Form}
 use Rattle.notation.specs.declared.styles.Form.the-variants.{AsJson, AsBytes}
 use Rattle.notation.specs.Escapes.{lookup}
 use Rattle.units.specs.Written.{hexDigit, byNumber, escaped, escapeByte, written}
-use Rattle.notation.specs.Styles.{quote, styleOf}
+use Rattle.notation.specs.Styles.{styleOf}
 use Rattle.notation.specs.Literals.{literalLen}
 use Rattle.units.proofs.WrittenBack.{escaped-ascii, unescaped}
 

@@ -16,7 +16,7 @@ use Rattle.notation.specs.declared.styles.Form.{Form}
 use Rattle.notation.specs.Styles.{quote, took, styleOf}
 use Rattle.notation.specs.Escapes.{lookup}
 use Rattle.notation.specs.Literals.{literalLen}
-use Rattle.notation.proofs.LiteralLaws.{Literal, literal-is, literal-nil}
+use Rattle.notation.proofs.LiteralLaws.{literal-is, literal-nil}
 use Rattle.units.specs.Units.{unitAt}
 use Rattle.units.specs.Written.{escaped, written}
 

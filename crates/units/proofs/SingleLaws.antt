@@ -1,13 +1,13 @@
 -- Units that denote one byte, by the few bytes that tell them: the tests on them decide each `pick` of the definition.
 -- Assumes nothing.
-use Prim.Native.Nat.{ℕ, zero, suc, _+_, _<_}
+use Prim.Native.Nat.{ℕ, suc, _+_, _<_}
 use Prim.Native.Char.{code}
 use mathlib.Core.List.{List, [], _∷_}
 use mathlib.Core.Path.{_≡_, refl, sym, ap, _∙_}
 use native.Mathlib.Omega.{arith}
 use native.Mathlib.Numerals.{add-one}
 use borrow.Author.Tests.{lt-ltb, eq-eqb, ne-eqb}
-use lib.ListN.{length, getD, take, drop}
+use lib.ListN.{length, getD, drop}
 use lib.Seq.{drop-cons}
 use Rattle.prelude.specs.Bytes.{singleQuote, backslash}
 use Rattle.prelude.specs.Pick.{pick}
@@ -18,7 +18,7 @@ use Rattle.notation.specs.declared.styles.Style.{Style}
 use Rattle.notation.specs.declared.styles.Style.the-variants.{Json, Unicode, Bytes}
 use Rattle.notation.specs.Styles.{quote, took}
 use Rattle.notation.specs.Hex.{hexRun, hexNumber}
-use Rattle.notation.specs.Escapes.{lookup, letters, lettersOf, lowHalf, codeUnit, fourDigits, rawByte, letterEscape, escape}
+use Rattle.notation.specs.Escapes.{lookup, letters, lettersOf, lowHalf, codeUnit, fourDigits, rawByte, escape}
 use Rattle.units.specs.Units.{unitAt}
 use Rattle.notation.proofs.EscapeLaws.{unit-below, letter-some, raw-two}
 use Rattle.notation.proofs.LiteralClasses.{plain-char}

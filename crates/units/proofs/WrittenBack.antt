@@ -10,7 +10,7 @@ use native.Mathlib.Omega.{arith}
 use lib.Dec.{ltb, eqb, lit<}
 use lib.ListN.{length, take}
 use lib.Seq.{take-at, length-take-le}
-use borrow.Author.Tests.{eqb-true, eqb-false, lt-ltb, lt-leb, ltb-true, le-ltb}
+use borrow.Author.Tests.{eqb-true, eqb-false, lt-ltb, lt-leb, ltb-true}
 use Rattle.prelude.specs.Bytes.{backslash}
 use Rattle.prelude.specs.Pick.{pick}
 use Rattle.prelude.proofs.Cases.{split}

@@ -1,7 +1,7 @@
 -- One unit of a J8 string: "A unit is one well-formed UTF-8 character from 0x20 up (0x7f included) that isn't the closing quote
 -- or a backslash, or one escape."
 -- Assumes nothing.
-use Prim.Native.Nat.{ℕ, zero, suc, pred}
+use Prim.Native.Nat.{ℕ}
 use mathlib.Core.List.{List, [], _∷_}
 use lib.Dec.{ltb, eqb}
 use lib.ListN.{take}
@@ -10,7 +10,7 @@ use Rattle.prelude.specs.Pick.{pick}
 use Rattle.prelude.specs.Refusals.{cutOff, control}
 use Rattle.utf8.specs.declared.chars.Char.{Char}
 use Rattle.utf8.specs.declared.chars.Char.the-variants.{Good, Bad}
-use Rattle.utf8.specs.Utf8.{charLen, charAt}
+use Rattle.utf8.specs.Utf8.{charAt}
 use Rattle.notation.specs.declared.styles.Style.{Style}
 use Rattle.notation.specs.Styles.{quote, StringUnit, close, took, fault}
 use Rattle.notation.specs.Escapes.{escape}

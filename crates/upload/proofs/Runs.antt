@@ -1,16 +1,15 @@
 -- The bytes of a piece, in parts; a run without LF, stored at once, is what its bytes give one by one: by induction on the run.
 -- Assumes nothing.
 use Prim.Native.Nat.{ℕ, zero, suc, _+_, _≤_, _<_}
-use mathlib.Core.Bool.{true, false}
 use mathlib.Core.List.{List, [], _∷_, _++_}
 use mathlib.Core.Path.{_≡_, refl, sym, ap, _∙_}
 use native.Mathlib.Nat.{add-zero}
 use native.Mathlib.Numerals.{add-one}
 use native.Mathlib.Omega.{arith}
-use borrow.Author.Tests.{eqb-false, eq-eqb, ne-eqb}
+use borrow.Author.Tests.{eqb-false}
 use lib.Dec.{eqb}
 use lib.ListN.{length, take, drop, getD, set, length-drop, take-append-drop}
-use lib.Seq.{sets, take-add, take-all, take-suc, drop-cons, length-take-le}
+use lib.Seq.{sets, take-add, take-all, take-suc, length-take-le}
 use Rattle.prelude.proofs.Cases.{split}
 use Rattle.upload.specs.declared.uploads.Upload.{Upload}
 use Rattle.prelude.specs.Bytes.{LF}

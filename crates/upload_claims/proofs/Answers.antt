@@ -8,8 +8,8 @@ use lib.ListN.{length}
 use Rattle.prelude.proofs.Cases.{never}
 use Rattle.prelude.specs.Limits.{lineMax}
 use Rattle.upload.specs.Calls.{Called}
-use Rattle.replay.specs.Lists.{Call, feeds, finishes, call, run, began, joined, finished, earlier, defined}
-use Rattle.replay.proofs.WholeList.{whole-list}
+use Rattle.j8_lines.specs.Lists.{Call, feeds, finishes, call, run, began, joined, finished, earlier, defined}
+use Rattle.j8_lines.proofs.WholeList.{whole-list}
 use Rattle.upload_claims.specs.Claims.{answers, definedAnswers}
 
 run-last : (cs : List Call) (c : Call) (r : Called) → run r (cs ++ (c ∷ [])) ≡ call (run r cs .lent) c

@@ -16,9 +16,9 @@ use Rattle.notation.specs.Marks.{opening}
 use Rattle.strings.specs.Read.{readUnits, readToken, readString}
 use Rattle.lines.specs.Line.{readLine, readStripped, strip, trimmed, leads, blank, bareFault, bareFrom, bare, kindOf}
 use Rattle.lines.specs.Records.{lineRecord, none, lineFault}
-use Rattle.replay.specs.Lines.{headed, cut, countLF, records, faultBehind, firstFrom, firstFault, openFault, recordsOf, left, j8Lines}
+use Rattle.j8_lines.specs.Lines.{headed, cut, countLF, records, faultBehind, firstFrom, firstFault, openFault, recordsOf, left, j8Lines}
 use Rattle.upload_claims.specs.Claims.{caseText, caseOut, caseState}
-use Rattle.replay.proofs.WholeList.{ended-none}
+use Rattle.j8_lines.proofs.WholeList.{ended-none}
 
 none-refused : firstFault 23 caseText .why ≡ none
 unfolding pick classOf lowOf highOf twoBytes threeBytes fourBytes longLen lenBy charLen encode validFrom hexVal hexDigits hexFrom lookup lowHalf codeUnit fourDigits scalar braced rawByte escape unitAt readUnits opening readToken readString blank leads trimmed strip bareFault bareFrom bare kindOf readStripped readLine lineRecord lineFault headed cut countLF records faultBehind firstFrom

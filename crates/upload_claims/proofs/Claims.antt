@@ -9,8 +9,8 @@ use Rattle.prelude.specs.Limits.{lineMax}
 use Rattle.lines.specs.declared.read.Line.the-variants.{Ignored, Holds, Refused}
 use Rattle.lines.specs.Answers.{LineNumbers}
 use Rattle.upload.specs.Calls.{Called}
-use Rattle.replay.specs.Lists.{feeds, finishes, run, began, joined, finished, defined}
-use Rattle.replay.proofs.WholeList.{whole-list}
+use Rattle.j8_lines.specs.Lists.{feeds, finishes, run, began, joined, finished, defined}
+use Rattle.j8_lines.proofs.WholeList.{whole-list}
 use Rattle.upload_claims.specs.Claims.{Every-List-Of-Calls, Pieces-Do-Not-Matter, Records-After-Finish, Written-Lines-Read-Back, Every-List-Is-Encoded, Whole-Case, Handing-On-Changes-Nothing, caseText, Unicode-Lines-Are-Utf8, Lines-Tell-All}
 use Rattle.upload_claims.proofs.UnicodeLines.{unicode-line}
 use Rattle.upload_claims.proofs.Answers.{each-answer, same-pieces}

@@ -8,7 +8,7 @@ use lib.Dec.{eqb·suc-zero}
 use lib.ListN.{length}
 use lib.Seq.{take-append-seam, drop-append-seam}
 use Rattle.prelude.specs.Pick.{pick}
-use Rattle.replay.specs.Lists.{Call, feeds, finishes, decode}
+use Rattle.j8_lines.specs.Lists.{Call, feeds, finishes, decode}
 
 pub textOf : List Call → List ℕ
 textOf [] = []

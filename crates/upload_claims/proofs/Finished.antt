@@ -8,11 +8,11 @@ use native.Mathlib.Omega.{arith}
 use lib.ListN.{length, take}
 use lib.Seq.{take-all, length-take-le}
 use Rattle.lines.specs.Records.{Fault, none, refuse}
-use Rattle.replay.specs.Lines.{cut, records, FirstFault, firstFault, openFault, left, endBy, j8Lines}
+use Rattle.j8_lines.specs.Lines.{cut, records, FirstFault, firstFault, openFault, left, endBy, j8Lines}
 use Rattle.upload_claims.specs.Claims.{orOpenLine, firstRefusal, Finished}
-use Rattle.replay.proofs.Snoc.{fault-inside}
-use Rattle.replay.proofs.Step.{standing, fault-none}
-use Rattle.replay.proofs.WholeList.{ended-none, ended-refused}
+use Rattle.j8_lines.proofs.Snoc.{fault-inside}
+use Rattle.j8_lines.proofs.Step.{standing, fault-none}
+use Rattle.j8_lines.proofs.WholeList.{ended-none, ended-refused}
 
 by-open : (f : Fault) (t line out : List ℕ) → firstFault (length out) t .before ≡ length t → Finished f t out (endBy f t line out)
 unfolding left

@@ -20,7 +20,7 @@ use Rattle.lines.specs.Records.{recordOf, lineRecord, Fault, none, refuse, faul
 use Rattle.upload.specs.declared.uploads.Upload.{Upload}
 use Rattle.upload.specs.declared.uploads.Answer.{Answer}
 use Rattle.upload.specs.Calls.{Lent, lent, withRefusal, keepsRefusal, stored, behindLF, atEnd, heldLine, appended, closing, byteFault, byteBy, feedByte, feedBytes, endFault, finishBy, finishAll, fitState, Called, withoutLine, zeros, keptAnswer, answerOf, stopLent, stopState, guarded, feed, finish}
-use Rattle.replay.specs.Lists.{Call, feeds, finishes, call, run, began}
+use Rattle.j8_lines.specs.Lists.{Call, feeds, finishes, call, run, began}
 use Rattle.upload_claims.specs.Claims.{emptied, recordsIn, Turn, calls, hands, turn, turns, handing, callsOf, Alike, Handing-On-Changes-Nothing}
 
 -- two uploads alike, each with its records inside its output

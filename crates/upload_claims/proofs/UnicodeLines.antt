@@ -3,15 +3,15 @@
 use Prim.Native.Nat.{ℕ}
 use mathlib.Core.Bool.{true}
 use mathlib.Core.List.{List, [], _∷_}
-use mathlib.Core.Path.{_≡_, refl, sym, _∙_}
+use mathlib.Core.Path.{_≡_, sym, _∙_}
 use Rattle.prelude.specs.Pick.{pick}
 use Rattle.prelude.proofs.Cases.{never}
 use Rattle.utf8.specs.Utf8.{validUtf8}
 use Rattle.notation.specs.declared.styles.Style.the-variants.{Unicode}
-use Rattle.notation.specs.Marks.{Opening, opens, unopened, opening}
+use Rattle.notation.specs.Marks.{opens, opening}
 use Rattle.strings.specs.Read.{StringRead, accepted, refused, readString}
 use Rattle.strings.proofs.Utf8Denoted.{Valid, unicode-valid}
-use Rattle.lines.specs.Line.{LineRead, holds, kindOf, fromString, byOpening, readStripped, shifted, strip, leads, readLine}
+use Rattle.lines.specs.Line.{holds, kindOf, fromString, readStripped, shifted, strip, leads, readLine}
 
 abbrev Utf8 : ℕ → List ℕ → Type 0
 Utf8 kind bs = (kind ≡ 1) × (validUtf8 bs ≡ true)

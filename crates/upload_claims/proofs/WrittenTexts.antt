@@ -21,11 +21,11 @@ use Rattle.lines_write.specs.Write.{sizeAt, payloadAt, rightRecord, rightRecord
 use Rattle.lines_write.proofs.LineTexts.{lines-step, right-size}
 use Rattle.upload_claims.proofs.WrittenLines.{line-record, line-fault, by-records}
 use Rattle.upload.specs.Calls.{Lent}
-use Rattle.replay.specs.Lines.{Cut, headed, cut, records, faultBehind, firstFrom, firstFault}
+use Rattle.j8_lines.specs.Lines.{Cut, headed, cut, records, faultBehind, firstFrom, firstFault}
 use Rattle.upload_claims.specs.Claims.{firstRefusal, EndedWith, Finished, Within}
-use Rattle.replay.proofs.Snoc.{longer, cut-lf, cut-byte, records-snoc}
-use Rattle.replay.proofs.Step.{fault-snoc}
-use Rattle.replay.proofs.WholeList.{empty-record}
+use Rattle.j8_lines.proofs.Snoc.{longer, cut-lf, cut-byte, records-snoc}
+use Rattle.j8_lines.proofs.Step.{fault-snoc}
+use Rattle.j8_lines.proofs.WholeList.{empty-record}
 
 -- a byte of a written text is no LF
 no-lf : (b : ℕ) → 32 ≤ b → eqb b LF ≡ false

@@ -21,8 +21,8 @@ use Rattle.lines_write.specs.Write.{rightRecords, writeQuoted}
 use Rattle.upload.specs.declared.uploads.Upload.{Upload}
 use Rattle.upload.specs.declared.uploads.Answer.{Answer}
 use Rattle.upload.specs.Calls.{Lent, lent, withCounts, Called}
-use Rattle.replay.specs.Lines.{cut, records, recordsOf, front, firstFault, openFault, j8Lines}
-use Rattle.replay.specs.Lists.{Call, feeds, finishes, call, run, began, joined, finished, defined, decode}
+use Rattle.j8_lines.specs.Lines.{cut, records, recordsOf, front, firstFault, openFault, j8Lines}
+use Rattle.j8_lines.specs.Lists.{Call, feeds, finishes, call, run, began, joined, finished, defined, decode}
 
 -- the answers of a list of calls, in order, from a state and two buffers
 unfoldable pub answers : Lent → List Call → List Answer

@@ -1,16 +1,15 @@
 -- The character check in code, place by place: the definition's decision list, with the class of the byte that stands there.
 -- Assumes nothing.
-use mathlib.Core.Path.{_≡_, refl, sym, ap, _∙_}
-use mathlib.Core.List.{List, [], _∷_}
-use Prim.Native.Nat.{ℕ, zero, suc, _+_, _≤_, _<_}
+use mathlib.Core.Path.{_≡_, refl, sym, _∙_}
+use mathlib.Core.List.{List}
+use Prim.Native.Nat.{ℕ, zero, suc, _≤_, _<_}
 use native.Mathlib.Omega.{arith}
 use borrow.Author.Tests.{lt-ltb, le-ltb}
 use lib.ListN.{length, getD, drop, drop-of-length-le}
 use lib.Seq.{drop-cons}
 use Rattle.prelude.specs.Pick.{pick}
 use Rattle.utf8.specs.Class.{classOf}
-use Rattle.utf8.specs.Utf8.{twoBytes, threeBytes, fourBytes, longLen, lenBy, charLen, charBy, charAt}
-use Rattle.utf8.specs.declared.chars.Char.{Char}
+use Rattle.utf8.specs.Utf8.{fourBytes, longLen, lenBy, charLen, charAt}
 use Rattle.utf8.specs.declared.chars.Char.the-variants.{Good, Bad}
 
 pub four-way : (k b c d x y z v : ℕ) → v ≡ fourBytes k x y z → x ≡ b → y ≡ c → z ≡ d → 10 ≤ k → k < 13 → v ≡ longLen k b c d

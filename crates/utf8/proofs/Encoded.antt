@@ -13,7 +13,6 @@ use borrow.Author.Tests.{eqb-true, eqb-false, ltb-true, ltb-false, leb-true, leb
 use Rattle.prelude.specs.Pick.{pick}
 use Rattle.prelude.proofs.Cases.{split, and-left, and-right}
 use Rattle.prelude.proofs.Picks.{pick-case}
-use Rattle.prelude.proofs.Tables.{allBelow, at-below}
 use Rattle.utf8.specs.Class.{classOf}
 use Rattle.utf8.specs.Claims.{IsScalar}
 use Rattle.utf8.specs.Utf8.{between, lowOf, highOf, charLen, encode}

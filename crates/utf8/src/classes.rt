@@ -1,6 +1,6 @@
 // The class of each byte value, by one table, and the bytes that are plain.
 ghost use mathlib.Core.Path.{_≡_};
-ghost use Prim.Native.Nat.{ℕ, _+_, _*_, _/_, _≤_};
+ghost use Prim.Native.Nat.{_+_, _*_, _/_, _≤_};
 ghost use lib.ListN.{length, drop};
 ghost use lib.Dec.{leb};
 ghost use Rattle.utf8.specs.Class.{classOf, IsTable, plainRun};

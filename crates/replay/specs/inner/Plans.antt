@@ -7,7 +7,7 @@ use lib.Dec.{eqb}
 use lib.ListN.{length, take, drop}
 use Rattle.prelude.specs.Pick.{pick}
 use Rattle.upload.specs.Calls.{Lent, Called}
-use Rattle.replay.specs.Lists.{feeds, finishes, call}
+use Rattle.j8_lines.specs.Lists.{feeds, finishes, call}
 
 -- the call c of a plan, with the text fed up to `at`: its result, and where the next piece begins
 pub record OneCall (text : List ℕ) (at c : ℕ) (m : Lent) (r : Called) (next : ℕ) : Type 0 where

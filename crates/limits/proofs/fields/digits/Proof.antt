@@ -3,9 +3,8 @@
 use borrow.Author.Needs.{needs}
 use Rattle.limits.proofs.fields.digits.Statement.{statement}
 use Rattle.limits.proofs.fields.digits.Tie as tie
-use Prim.Native.Nat.{_-_, _≤_}
+use Prim.Native.Nat.{_-_}
 use lib.ListN.{length}
-use mathlib.Core.Path.{_≡_}
 
 abbrev Inv-loop : tie.InvT-loop
 Inv-loop s from value₀ at₀ value at =

@@ -5,7 +5,6 @@ use Rattle.limits.proofs.fields.part.Statement.{statement}
 use Rattle.limits.proofs.fields.part.Tie as tie
 use Prim.Native.Nat.{_-_, _≤_}
 use lib.ListN.{length}
-use mathlib.Core.Path.{_≡_}
 
 abbrev Inv-loop : tie.InvT-loop
 Inv-loop s by k left₀ from₀ barred₀ at₀ at-end left from barred at =

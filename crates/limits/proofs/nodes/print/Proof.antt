@@ -3,9 +3,7 @@
 use borrow.Author.Needs.{needs}
 use Rattle.limits.proofs.nodes.print.Statement.{statement}
 use Rattle.limits.proofs.nodes.print.Tie as tie
-use Prim.Native.Nat.{_-_, _≤_}
-use lib.ListN.{length}
-use mathlib.Core.Path.{_≡_}
+use Prim.Native.Nat.{_-_}
 
 abbrev Inv-loop : tie.InvT-loop
 Inv-loop table n₀ i₀ i-end n i =

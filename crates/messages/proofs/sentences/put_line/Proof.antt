@@ -4,7 +4,9 @@ use borrow.Author.Needs.{needs}
 use Rattle.messages.proofs.sentences.put_line.Statement.{statement}
 use Rattle.messages.proofs.sentences.put_line.Tie as tie
 use mathlib.Core.Path.{sym}
+use native.Mathlib.Omega.{arith}
 use denote.Ref.{now}
+use Rattle.line_ends.proofs.Ends.{run-inside}
 use Rattle.rooms.proofs.Puts.{put-as}
 use Rattle.messages.proofs.SentenceLines.{line-between}
 
@@ -18,7 +20,8 @@ sub-put-run : tie.Need-sub-put-run
 sub-put-run c = omega (arith, c .lf-from .ensures)
 
 put-run-requires : tie.Need-put-run-requires
-put-run-requires c κs = ?
+put-run-requires c κs =
+    (omega (arith, c .before .lf-from .ensures, run-inside (now (c .before .before .before .before .before .args .s)) (c .before .before .line-at .result) (c .before .before .line-at .ensures .0)), c .before .before .before .before .before .pre)
 
 same-length : tie.Need-same-length
 same-length c = search needs

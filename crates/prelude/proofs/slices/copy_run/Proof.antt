@@ -2,11 +2,11 @@
 -- Assumes nothing.
 use Rattle.prelude.proofs.slices.copy_run.Statement.{statement}
 use Rattle.prelude.proofs.slices.copy_run.Tie as tie
-use Prim.Native.Nat.{ℕ, _+_, _-_, _*_, _≤_, _<_}
-use mathlib.Core.Path.{_≡_, refl, sym, ap, _∙_}
+use Prim.Native.Nat.{ℕ, _+_, _-_, _≤_}
+use mathlib.Core.Path.{_≡_, refl, ap, _∙_}
 use lib.ListN.{length, getD, take, drop, set, length-drop, length-set}
 use mathlib.Core.List.{List}
-use lib.Seq.{sets, length-sets}
+use lib.Seq.{sets}
 use native.Mathlib.Omega.{arith}
 use denote.Ref.{now}
 use Rattle.prelude.proofs.Stores.{copied, copied-all}

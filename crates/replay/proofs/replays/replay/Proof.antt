@@ -7,8 +7,8 @@ use mathlib.Core.Path.{_≡_, refl, _∙_}
 use native.Mathlib.Omega.{arith}
 use lib.ListN.{length, drop}
 use Rattle.upload.specs.Calls.{lent}
-use Rattle.replay.specs.Lists.{run, began, decode}
-use Rattle.replay.proofs.WholeList.{whole-list}
+use Rattle.j8_lines.specs.Lists.{run, began, decode}
+use Rattle.j8_lines.proofs.WholeList.{whole-list}
 use Rattle.replay.proofs.Playing.{play-first, play-next, play-last}
 
 abbrev Inv-loop : tie.InvT-loop

@@ -3,7 +3,6 @@
 use borrow.Author.Needs.{needs}
 use Rattle.runs.proofs.blocks.ends.Statement.{statement}
 use Rattle.runs.proofs.blocks.ends.Tie as tie
-use Prim.Native.Nat.{_<_}
 use mathlib.Core.Bool.{Bool, true, false}
 use mathlib.Core.Path.{_≡_}
 use native.Mathlib.Omega.{arith}

@@ -3,7 +3,7 @@
 use Rattle.runs.proofs.blocks.first_odd.Statement.{statement}
 use Rattle.runs.proofs.blocks.first_odd.Tie as tie
 use Prim.Native.Nat.{ℕ, _+_, _-_, _≤_, _<_}
-use mathlib.Core.Path.{_≡_, _∙_}
+use mathlib.Core.Path.{_∙_}
 use native.Mathlib.Omega.{arith}
 use lib.ListN.{getD}
 use denote.Ref.{now}

@@ -2,7 +2,7 @@
 -- Assumes nothing.
 use Rattle.runs.proofs.shorts.leads.Statement.{statement}
 use Rattle.runs.proofs.shorts.leads.Tie as tie
-use lib.Dec.{leb, ltb}
+use lib.Dec.{leb}
 use borrow.Author.Tests.{leb-true, ltb-true}
 use Rattle.prelude.proofs.Cases.{and-left, and-right}
 

@@ -3,7 +3,6 @@
 use borrow.Author.Needs.{needs}
 use Rattle.strings.proofs.read.token.Statement.{statement}
 use Rattle.strings.proofs.read.token.Tie as tie
-use denote.Ref.{now}
 use Rattle.strings.proofs.WholeTexts.{mark-inside, marked-token, unmarked-token}
 
 mark-at-requires : tie.Need-mark-at-requires

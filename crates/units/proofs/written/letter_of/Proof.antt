@@ -3,7 +3,6 @@
 use borrow.Author.Needs.{needs}
 use Rattle.units.proofs.written.letter_of.Statement.{statement}
 use Rattle.units.proofs.written.letter_of.Tie as tie
-use Rattle.prelude.proofs.Picks.{picks}
 use borrow.Author.Tests.{eq-eqb, ne-eqb}
 use mathlib.Core.Path.{_∙_, sym}
 use Rattle.prelude.specs.Pick.{pick}

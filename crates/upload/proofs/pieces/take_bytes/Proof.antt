@@ -9,7 +9,8 @@ use native.Mathlib.Omega.{arith}
 use denote.Ref.{now}
 use Rattle.upload.specs.Calls.{lent, feedBytes}
 use Rattle.upload.proofs.Values.{after-bytes, ok-fits}
-use Rattle.upload.proofs.Runs.{bytes-nil, bytes-next, bytes-all, run-next, bytes-stay, run-inside}
+use Rattle.line_ends.proofs.Ends.{run-inside}
+use Rattle.upload.proofs.Runs.{bytes-nil, bytes-next, bytes-all, run-next, bytes-stay}
 
 abbrev Inv-loop : tie.InvT-loop
 Inv-loop piece line₀ out₀ s₀ i₀ line out s i =

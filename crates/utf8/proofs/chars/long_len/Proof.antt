@@ -3,9 +3,7 @@
 use borrow.Author.Needs.{needs}
 use Rattle.utf8.proofs.chars.long_len.Statement.{statement}
 use Rattle.utf8.proofs.chars.long_len.Tie as tie
-use mathlib.Core.Path.{_≡_, refl, sym, _∙_}
-use Rattle.prelude.specs.Pick.{pick}
-use Rattle.utf8.specs.Utf8.{between, tail, second, lowOf, highOf, twoBytes, threeBytes, fourBytes, longLen}
+use Rattle.utf8.specs.Utf8.{longLen}
 use Rattle.prelude.proofs.Picks.{picks}
 use Rattle.utf8.proofs.CharSteps.{four-way}
 

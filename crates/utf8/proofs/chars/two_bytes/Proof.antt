@@ -3,10 +3,8 @@
 use borrow.Author.Needs.{needs}
 use Rattle.utf8.proofs.chars.two_bytes.Statement.{statement}
 use Rattle.utf8.proofs.chars.two_bytes.Tie as tie
-use mathlib.Core.Path.{_≡_, refl, sym, _∙_}
 use Rattle.prelude.specs.Pick.{pick}
-use Rattle.utf8.specs.Utf8.{between, tail, second, lowOf, highOf, twoBytes, threeBytes, fourBytes, longLen}
-use Rattle.prelude.proofs.Picks.{picks}
+use Rattle.utf8.specs.Utf8.{twoBytes}
 
 in-range-requires : tie.Need-in-range-requires
 in-range-requires c κs = search needs

@@ -3,11 +3,6 @@
 use borrow.Author.Needs.{needs}
 use Rattle.utf8.proofs.classes.plain_eight.Statement.{statement}
 use Rattle.utf8.proofs.classes.plain_eight.Tie as tie
-use lib.Bits.{bitOr}
-use lib.ListN.{length, getD, drop}
-use lib.Dec.{leb, eqb}
-use mathlib.Core.Path.{_≡_, _∙_, sym}
-use Rattle.utf8.specs.Class.{classOf, plainRun}
 use denote.Ref.{now}
 use Rattle.utf8.proofs.PlainRuns.{eight}
 

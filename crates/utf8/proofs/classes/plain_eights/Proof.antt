@@ -2,14 +2,14 @@
 -- Assumes nothing.
 use Rattle.utf8.proofs.classes.plain_eights.Statement.{statement}
 use Rattle.utf8.proofs.classes.plain_eights.Tie as tie
-use Prim.Native.Nat.{ℕ, _+_, _-_, _*_, _/_, _≤_, _<_}
+use Prim.Native.Nat.{ℕ, _+_, _-_, _*_, _≤_}
 use mathlib.Core.List.{List}
 use mathlib.Core.Path.{_≡_, refl, sym, _∙_}
 use lib.ListN.{length, drop, length-drop}
 use borrow.Author.Tests.{not-true, not-false, leb-false}
 use native.Mathlib.Omega.{arith}
 use denote.Ref.{now}
-use Rattle.utf8.specs.Class.{classOf, plainRun}
+use Rattle.utf8.specs.Class.{plainRun}
 use Rattle.utf8.proofs.PlainRuns.{on, run-within}
 
 record Going (s : List ℕ) (from i : ℕ) : Type 0 where

@@ -15,10 +15,10 @@ use Rattle.lines.specs.Line.{readLine, readStripped, strip, trimmed, leads}
 use Rattle.lines.specs.Records.{lineRecord, Fault, none, refuse, lineFault}
 use Rattle.upload.specs.Calls.{Lent, lent, fresh, keepsRefusal, closing, feedBytes, endFault, finishBy, finishAll, fitLent, Called, zeros, keptAnswer, answerOf, stopState, guarded, feed, finish}
 use Rattle.upload.proofs.Kept.{state-path, lent-path, NonZero, line-nonzero, Ok, ok-fit, ok-byte, ok-bytes, ok-finish}
-use Rattle.replay.specs.Lines.{cut, countLF, records, firstFrom, firstFault, openFault, left, endBy, j8Lines, j8Answer}
-use Rattle.replay.specs.Lists.{Call, feeds, finishes, call, run, began, joined, finished, earlier, defined}
-use Rattle.replay.proofs.Snoc.{buffer-none}
-use Rattle.replay.proofs.Step.{standing, front-put, front-length, Roomy, held-open, fault-none, defined-none, defined-refused, nonzero-at, stays, step}
+use Rattle.j8_lines.specs.Lines.{cut, countLF, records, firstFrom, firstFault, openFault, left, endBy, j8Lines, j8Answer}
+use Rattle.j8_lines.specs.Lists.{Call, feeds, finishes, call, run, began, joined, finished, earlier, defined}
+use Rattle.j8_lines.proofs.Snoc.{buffer-none}
+use Rattle.j8_lines.proofs.Step.{standing, front-put, front-length, Roomy, held-open, fault-none, defined-none, defined-refused, nonzero-at, stays, step}
 
 -- the start
 pub begun : (line out : List ℕ) → lent fresh line out ≡ j8Lines [] false line out

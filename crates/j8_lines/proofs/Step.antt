@@ -17,8 +17,8 @@ use Rattle.prelude.specs.Refusals.{tooLong}
 use Rattle.lines.specs.Records.{lineRecord, Fault, none, refuse, putAt}
 use Rattle.upload.specs.Calls.{Lent, stored, heldLine, appended, byteFault, byteBy, feedByte}
 use Rattle.upload.proofs.Kept.{state-path, lent-path, NonZero, pick-nonzero, line-nonzero, Ok}
-use Rattle.replay.specs.Lines.{cut, records, faultBehind, faultOfByte, FirstFault, orElse, firstFrom, firstFault, front, left, byFirst, j8Lines}
-use Rattle.replay.proofs.Snoc.{cut-lf, cut-byte, count-snoc, records-snoc, buffer-shut, buffer-set, buffer-held, first-snoc, none-end, fault-inside}
+use Rattle.j8_lines.specs.Lines.{cut, records, faultBehind, faultOfByte, FirstFault, orElse, firstFrom, firstFault, front, left, byFirst, j8Lines}
+use Rattle.j8_lines.proofs.Snoc.{cut-lf, cut-byte, count-snoc, records-snoc, buffer-shut, buffer-set, buffer-held, first-snoc, none-end, fault-inside}
 
 -- what is left where the upload isn't ended
 abbrev pub standing : List ℕ → Fault → List ℕ → List ℕ → Lent

@@ -12,7 +12,7 @@ use lib.Seq.{take-append-le, getD-at}
 use Rattle.prelude.specs.Bytes.{LF}
 use Rattle.prelude.specs.Pick.{pick}
 use Rattle.lines.specs.Records.{lineRecord, Fault, none, refuse}
-use Rattle.replay.specs.Lines.{Cut, headed, cut, countLF, records, faultOfByte, FirstFault, orElse, firstFrom, firstFault, lastAt, lineBuffer}
+use Rattle.j8_lines.specs.Lines.{Cut, headed, cut, countLF, records, faultOfByte, FirstFault, orElse, firstFrom, firstFault, lastAt, lineBuffer}
 
 -- the last byte is an LF, or not
 abbrev pub shut : Cut → Cut

@@ -7,7 +7,7 @@ use lib.Dec.{eqb}
 use lib.ListN.{take, drop}
 use Rattle.prelude.specs.Pick.{pick}
 use Rattle.upload.specs.Calls.{Lent, lent, fresh, zeros, Called, feed, finish}
-use Rattle.replay.specs.Lines.{j8Lines, j8Answer}
+use Rattle.j8_lines.specs.Lines.{j8Lines, j8Answer}
 
 pub data Call : Type 0 where
   feeds : List ℕ → Call

@@ -1,24 +1,24 @@
--- What each C function returns and leaves, as its contract gives it, and lists of an upload's calls.
+-- What each C function returns and leaves: the contracts say that it does, and the claims of j8_claims are about the same.
 -- Assumes nothing.
 use Prim.Native.Nat.{ℕ, _/_}
-use mathlib.Core.List.{List, [], _∷_}
+use mathlib.Core.List.{List}
 use lib.ListN.{length}
 use Rattle.strings.specs.Read.{readText, readInto, decodedOf}
 use Rattle.strings_write.specs.Write.{writeString, writtenIn, wroteInto}
 use Rattle.json8.specs.Read.{readOf, parsedOf, tableAfter, storeAfter}
+use Rattle.json8_show.specs.Show.{shownAt}
 use Rattle.trees.specs.Tables.{nodesIn, treeOf}
 use Rattle.json8_write.specs.Write.{wroteTree, treeInto}
 use Rattle.lines_write.specs.Write.{wroteLines, linesInto}
-use Rattle.upload.specs.Calls.{fresh, zeros, Called, feed, finish}
-use Rattle.replay.specs.Lists.{Call, feeds, finishes}
+use Rattle.upload.specs.Calls.{fresh, Called, feed, finish}
 use Rattle.structs.specs.declared.results.J8Result.{J8Result}
 use Rattle.structs.specs.declared.tables.J8Nodes.{J8Nodes}
+use Rattle.structs.specs.declared.tables.J8Shown.{J8Shown}
 use Rattle.structs.specs.declared.uploads.J8Upload.{J8Upload}
-use Rattle.structs.specs.declared.uploads.J8Answer.{J8Answer}
 use Rattle.structs.specs.declared.uploads.J8Fed.{J8Fed}
 use Rattle.structs.specs.Results.{decodedResult, writtenResult, linesResult, tableResult}
-use Rattle.structs.specs.Tables.{nodesResult}
-use Rattle.structs.specs.Uploads.{uploadOf, answerOf, given, fedOf}
+use Rattle.structs.specs.Tables.{nodesResult, shownResult}
+use Rattle.structs.specs.Uploads.{uploadOf, given, fedOf}
 
 -- a result, and the output
 pub record Ran : Type 0 where
@@ -68,22 +68,18 @@ pub record RanCall : Type 0 where
 abbrev pub ranCall : Called → RanCall
 ranCall r = record { fed = fedOf r; line = r .lent .line; out = r .lent .out }
 
--- `j8_upload_feed(upload, piece, line, out)` and `j8_upload_finish(upload, line, out)`
-unfoldable pub callC : J8Upload → List ℕ → List ℕ → Call → RanCall
-callC u line out (feeds piece) = ranCall (feed (given u line out) piece)
-callC u line out finishes = ranCall (finish (given u line out))
+-- `j8_upload_fresh()`
+abbrev pub uploadFresh : J8Upload
+uploadFresh = uploadOf fresh
 
--- "Each call gets the state that the last one returned and the same two buffers as that one left them"
-unfoldable pub runC : RanCall → List Call → RanCall
-runC r [] = r
-runC r (c ∷ cs) = runC (callC (r .fed .upload) (r .line) (r .out) c) cs
+-- `j8_upload_feed(upload, piece, line, out)`
+abbrev pub uploadFeed : J8Upload → List ℕ → List ℕ → List ℕ → RanCall
+uploadFeed u piece line out = ranCall (feed (given u line out) piece)
 
--- before the first call: `j8_upload_fresh()` and the buffers as first lent
-abbrev pub beganC : List ℕ → List ℕ → RanCall
-beganC line out = record { fed = record { upload = uploadOf fresh; answer = answerOf zeros }; line = line; out = out }
+-- `j8_upload_finish(upload, line, out)`
+abbrev pub uploadFinish : J8Upload → List ℕ → List ℕ → RanCall
+uploadFinish u line out = ranCall (finish (given u line out))
 
--- the answers of a list of calls, in order
-unfoldable pub answersC : RanCall → List Call → List J8Answer
-answersC r [] = []
-answersC r (c ∷ cs) =
-    callC (r .fed .upload) (r .line) (r .out) c .fed .answer ∷ answersC (callC (r .fed .upload) (r .line) (r .out) c) cs
+-- `j8_json8_show(table, text, store, node)`
+abbrev pub json8Show : List ℕ → List ℕ → List ℕ → ℕ → J8Shown
+json8Show table text store node = shownResult (shownAt table (length text) (length store) node)

@@ -1,0 +1,3 @@
+pub mod Snoc
+pub mod Step
+pub mod WholeList
