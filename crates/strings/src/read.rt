@@ -185,14 +185,14 @@ fn read_first(s: &[u8], out: &mut [u8]) -> Token
 }
 
 // Reads the J8 string that a text begins with, whatever follows it.
-pub fn read_token(text: &[u8], out: &mut [u8]) -> Token
-    ensures answer { λ r. ⌜ r ≡ tokenOf (readTextToken (length (now (out .entry))) (now (text .entry))) ⌝ }
-    ensures stored { λ r. ⌜ now (out .exit) ≡ readInto (readTextToken (length (now (out .entry))) (now (text .entry))) (now (out .entry)) ⌝ }
+pub fn read_token(s: &[u8], out: &mut [u8]) -> Token
+    ensures answer { λ r. ⌜ r ≡ tokenOf (readTextToken (length (now (out .entry))) (now (s .entry))) ⌝ }
+    ensures stored { λ r. ⌜ now (out .exit) ≡ readInto (readTextToken (length (now (out .entry))) (now (s .entry))) (now (out .entry)) ⌝ }
 {
-    if TEXT_MAX < text.len() {
+    if TEXT_MAX < s.len() {
         return Token::Failed(refusals::TOO_LONG, 0);
     }
-    read_first(text, out)
+    read_first(s, out)
 }
 
 // The general case of a whole text: once to judge it, and once more to store its bytes.
