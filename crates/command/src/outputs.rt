@@ -3,8 +3,8 @@ ghost use Rattle.io.specs.Counts.{Counts};
 use libc::STDERR_FILENO;
 use libc::STDOUT_FILENO;
 use messages::messages::Message;
+use prelude::answers::Written;
 use prelude::slices;
-use strings_write::answers::Written;
 
 // How a run ended: with a refusal's number or 0, or without an answer.
 pub enum Outcome {
@@ -48,7 +48,7 @@ pub fn say(m: Message) {
             let k = within(n, &line);
             io::write_all(STDERR_FILENO, &line[..k]);
         }
-        Written::Full(_) => {}
+        Written::Refused(_) => {}
     }
 }
 

@@ -3,10 +3,10 @@ use crate::outputs;
 use crate::outputs::Outcome;
 use messages::messages::Message;
 use messages::messages::Spot;
+use prelude::answers::Written;
 use prelude::limits::TEXT_MAX;
 use strings::answers::Decoded;
 use strings::read;
-use strings_write::answers::Written;
 use strings_write::write;
 
 fn refused(number: u32, place: usize) -> Outcome {
@@ -22,7 +22,7 @@ pub fn quote(data: &[u8]) -> Outcome {
             let printed = outputs::print(&out, n) && outputs::print(b"\n", 1);
             outputs::ended(printed, 0)
         }
-        Written::Full(number) => refused(number, 0),
+        Written::Refused(number) => refused(number, 0),
     }
 }
 

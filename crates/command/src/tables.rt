@@ -2,7 +2,6 @@
 use crate::outputs;
 use crate::outputs::Outcome;
 use json8::answers::Parsed;
-use json8::answers::WroteTable;
 use json8_read::read;
 use json8_show::show;
 use json8_show::show::Shown;
@@ -11,9 +10,9 @@ use messages::entries;
 use messages::messages::Message;
 use messages::messages::Spot;
 use messages::positions;
+use prelude::answers::Written;
 use prelude::limits::NODE_MAX;
 use prelude::limits::TEXT_MAX;
-use strings_write::answers::Written;
 
 const TABLE_ROOM: usize = 4 * NODE_MAX;
 
@@ -64,8 +63,8 @@ pub fn rewrite(text: &[u8]) -> Outcome {
             let mut out = written_room();
             let wrote = write::write(&table, text, &store, &mut out);
             match wrote {
-                WroteTable::Wrote(n) => written(&out, n),
-                WroteTable::Refused(number) => refused(text, number, 0),
+                Written::Wrote(n) => written(&out, n),
+                Written::Refused(number) => refused(text, number, 0),
             }
         }
     }
@@ -75,7 +74,7 @@ fn list_bytes(node: usize, bytes: &[u8], out: &mut [u8]) -> bool {
     let entry = entries::write(node, bytes, out);
     match entry {
         Written::Wrote(n) => outputs::print(out, n),
-        Written::Full(_) => false,
+        Written::Refused(_) => false,
     }
 }
 

@@ -9,10 +9,10 @@ use lines::records::HEAD;
 use messages::entries;
 use messages::messages::Message;
 use messages::messages::Spot;
+use prelude::answers::Written;
 use prelude::limits::LINE_MAX;
 use prelude::limits::UPLOAD_MAX;
 use prelude::slices::least;
-use strings_write::answers::Written;
 use upload::uploads::Answer;
 use upload::uploads::Upload;
 
@@ -54,7 +54,7 @@ fn put_entry(n: usize, payload: &[u8], at: usize, page: &mut [u8]) -> usize {
     let entry = entries::write(n, payload, &mut page[at..]);
     match entry {
         Written::Wrote(k) => at + least(k, room),
-        Written::Full(_) => at,
+        Written::Refused(_) => at,
     }
 }
 

@@ -16,7 +16,7 @@ use Rattle.structs.specs.declared.tables.J8Nodes.{J8Nodes}
 use Rattle.structs.specs.declared.tables.J8Shown.{J8Shown}
 use Rattle.structs.specs.declared.uploads.J8Upload.{J8Upload}
 use Rattle.structs.specs.declared.uploads.J8Fed.{J8Fed}
-use Rattle.structs.specs.Results.{decodedResult, writtenResult, linesResult, tableResult}
+use Rattle.structs.specs.Results.{decodedResult, writtenResult}
 use Rattle.structs.specs.Tables.{nodesResult, shownResult}
 use Rattle.structs.specs.Uploads.{uploadOf, given, fedOf}
 
@@ -35,13 +35,13 @@ stringRead text out = record { result = decodedResult (decodedOf (readText (leng
 
 -- `j8_lines_write(records, out)`
 abbrev pub linesWrite : List ℕ → List ℕ → Ran
-linesWrite records out = record { result = linesResult (wroteLines (length out) records); out = linesInto records out }
+linesWrite records out = record { result = writtenResult (wroteLines (length out) records); out = linesInto records out }
 
 -- `j8_json8_write(table, text, store, out)`
 abbrev pub json8Write : List ℕ → List ℕ → List ℕ → List ℕ → Ran
 json8Write table text store out =
     record {
-      result = tableResult (wroteTree (length out) (treeOf (nodesIn table) text store));
+      result = writtenResult (wroteTree (length out) (treeOf (nodesIn table) text store));
       out = treeInto (treeOf (nodesIn table) text store) out;
     }
 

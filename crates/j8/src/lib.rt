@@ -28,5 +28,5 @@ pub extern "C" fn j8_lines_write(records: &[u8], out: &mut [u8]) -> J8Result
     ensures answer { λ r. ⌜ r ≡ linesWrite (now (records .entry)) (now (out .entry)) .result ⌝ }
     ensures stored { λ r. ⌜ now (out .exit) ≡ linesWrite (now (records .entry)) (now (out .entry)) .out ⌝ }
 {
-    results::of_lines(lines_write::write::write(records, out))
+    results::of_written(lines_write::write::write(records, out))
 }

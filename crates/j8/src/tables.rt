@@ -34,5 +34,5 @@ pub extern "C" fn j8_json8_write(
     ensures answer { λ r. ⌜ r ≡ json8Write (now (table .entry)) (now (text .entry)) (now (store .entry)) (now (out .entry)) .result ⌝ }
     ensures stored { λ r. ⌜ now (out .exit) ≡ json8Write (now (table .entry)) (now (text .entry)) (now (store .entry)) (now (out .entry)) .out ⌝ }
 {
-    results::of_table(json8_write::write::write(table, text, store, out))
+    results::of_written(json8_write::write::write(table, text, store, out))
 }

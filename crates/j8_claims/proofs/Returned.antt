@@ -23,7 +23,7 @@ use Rattle.j8_lines.specs.Lists.{Call, run, began, joined, finished}
 use Rattle.upload_claims.specs.Claims.{Within, EndedWith}
 use Rattle.upload_claims.proofs.Claims.{written-lines-read-back}
 use Rattle.structs.specs.declared.results.J8Result.{J8Result}
-use Rattle.structs.specs.Results.{done, writtenResult, linesResult, tableResult}
+use Rattle.structs.specs.Results.{done, writtenResult}
 use Rattle.structs.specs.Uploads.{given}
 use Rattle.j8.specs.Runs.{stringWrite, stringRead, linesWrite, json8Write, json8Read, RanCall}
 use Rattle.j8_claims.specs.Lists.{runC, beganC}
@@ -52,7 +52,7 @@ string-returned bytes out into b h k l =
     record { wrote = w; read = rw (w, f, r); same = rw (w, f, r) }
 
 module _ (records text : List ℕ) (e : rightRecords 0 records ≡ true) (h : length (writeQuoted records) ≤ length text) where
-  lines-done : linesResult (wroteLines (length text) records) ≡ done (length (writeQuoted records))
+  lines-done : writtenResult (wroteLines (length text) records) ≡ done (length (writeQuoted records))
   unfolding wroteLines pick
   lines-done = rw (e, le-leb (length (writeQuoted records)) (length text) h)
 
@@ -73,7 +73,7 @@ module _ (records text : List ℕ) (e : rightRecords 0 records ≡ true) (h : le
       ap (λ (r : RanCall). given (r .fed .upload) (r .line) (r .out)) (run-back (began line out) cs) ∙ handed-back (run (began line out) cs) in
       record { wrote = lines-done; read = subst (EndedWith records out) (sym q) (written-lines-read-back records cs line out l b e p f w u r) }
 
-table-done : (t : Tree) (room : ℕ) → length (render t) ≤ room → tableResult (wroteTree room (just t)) ≡ done (length (render t))
+table-done : (t : Tree) (room : ℕ) → length (render t) ≤ room → writtenResult (wroteTree room (just t)) ≡ done (length (render t))
 unfolding pick
 table-done t room h = rw (le-leb (length (render t)) room h)
 

@@ -18,8 +18,8 @@ use Rattle.json8_fit.specs.Fitness.{isFit}
 use Rattle.json8_fit.specs.inner.Steps.{within}
 use Rattle.json8_fit.proofs.Choices.{false-true}
 use Rattle.json8_fit.proofs.Roots.{root-count, root-is}
-use Rattle.json8.specs.declared.answers.WroteTable.{WroteTable}
-use Rattle.json8.specs.declared.answers.WroteTable.the-variants.{Wrote, Refused}
+use Rattle.prelude.specs.declared.answers.Written.{Written}
+use Rattle.prelude.specs.declared.answers.Written.the-variants.{Wrote, Refused}
 use Rattle.json8_write.specs.Write.{wroteTree, treeInto}
 use Rattle.json8_write.specs.inner.Texts.{treeText, bodyText}
 use Rattle.json8_write.proofs.GroupTexts.{root-within, root-text}
@@ -36,13 +36,13 @@ module _ (table text store : List ℕ) (f : isFit (treeOf (nodesIn table) text s
       put-as (ap treeText e ∙ sym (root-text table text store depthMax c ec (sym (ap isFit e) ∙ f))) w
 
 -- what writing answers and leaves
-abbrev Wrote-It : Maybe Tree → List ℕ → WroteTable → List ℕ → Type 0
+abbrev Wrote-It : Maybe Tree → List ℕ → Written → List ℕ → Type 0
 Wrote-It x out r new = (r ≡ wroteTree (length out) x) × (new ≡ treeInto x out)
 
 pub wrote-unfit : (x : Maybe Tree) (out : List ℕ) → isFit x ≡ false → Wrote-It x out (Refused 1) out
 wrote-unfit (just t) out e = never (let z : true ≡ false = e in cc)
 wrote-unfit nothing out e = (refl, refl)
 
-pub wrote-fit : (x : Maybe Tree) (out : List ℕ) {r : WroteTable} {new : List ℕ} → isFit x ≡ true → Whole Wrote (Refused 12) (treeText x) out r new → Wrote-It x out r new
+pub wrote-fit : (x : Maybe Tree) (out : List ℕ) {r : Written} {new : List ℕ} → isFit x ≡ true → Whole Wrote (Refused 12) (treeText x) out r new → Wrote-It x out r new
 wrote-fit (just t) out e w = w
 wrote-fit nothing out e w = false-true e

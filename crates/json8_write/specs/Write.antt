@@ -10,11 +10,11 @@ use Rattle.prelude.specs.Refusals
 use Rattle.strings_write.specs.Write.{wroteInto}
 use Rattle.trees.specs.Trees.{Tree, render}
 use Rattle.trees.specs.Tables.{Maybe, just, nothing}
-use Rattle.json8.specs.declared.answers.WroteTable.{WroteTable}
-use Rattle.json8.specs.declared.answers.WroteTable.the-variants.{Wrote, Refused}
+use Rattle.prelude.specs.declared.answers.Written.{Written}
+use Rattle.prelude.specs.declared.answers.Written.the-variants.{Wrote, Refused}
 
 -- the answer for what a table means, in a room
-abbrev pub wroteTree : ℕ → Maybe Tree → WroteTable
+abbrev pub wroteTree : ℕ → Maybe Tree → Written
 wroteTree room (just t) = pick (leb (length (render t)) room) (Wrote (length (render t))) (Refused noRoom)
 wroteTree room nothing = Refused Refusals.unfit
 

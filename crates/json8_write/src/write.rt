@@ -11,10 +11,10 @@ ghost use Rattle.json8_write.specs.Write.{wroteTree, treeInto};
 ghost use Rattle.json8_write.specs.inner.Texts.{treeText};
 use crate::ample;
 use crate::values;
-use json8::answers::WroteTable;
 use json8::nodes::Sort;
 use json8_fit::fitness;
 use json8_fit::nodes;
+use prelude::answers::Written;
 use prelude::limits::DEPTH_MAX;
 use prelude::refusals;
 use utf8::classes;
@@ -50,22 +50,22 @@ fn pass(
 
 // Writes a table: its text in front of out, or a refusal and out as it was. It is judged first; then one pass over no buffer measures its
 // text, and one stores it. Where the room is known to suffice, nothing is measured.
-pub fn write(table: &[u32], text: &[u8], store: &[u8], out: &mut [u8]) -> WroteTable
+pub fn write(table: &[u32], text: &[u8], store: &[u8], out: &mut [u8]) -> Written
     ensures answer { λ r. ⌜ r ≡ wroteTree (length (now (out .entry))) (treeOf (nodesIn (now (table .entry))) (now (text .entry)) (now (store .entry))) ⌝ }
     ensures stored { λ r. ⌜ now (out .exit) ≡ treeInto (treeOf (nodesIn (now (table .entry))) (now (text .entry)) (now (store .entry))) (now (out .entry)) ⌝ }
 {
     if !fitness::fit(table, text, store) {
-        return WroteTable::Refused(refusals::UNFIT);
+        return Written::Refused(refusals::UNFIT);
     }
     let t = classes::table();
     let room = out.len();
     if ample::room_of(table, nodes::count_at(table, 0)) <= room {
-        return WroteTable::Wrote(pass(&t, table, text, store, room, out));
+        return Written::Wrote(pass(&t, table, text, store, room, out));
     }
     let n = pass(&t, table, text, store, room, &mut out[..0]);
     if room < n {
-        return WroteTable::Refused(refusals::NO_ROOM);
+        return Written::Refused(refusals::NO_ROOM);
     }
     pass(&t, table, text, store, room, out);
-    WroteTable::Wrote(n)
+    Written::Wrote(n)
 }

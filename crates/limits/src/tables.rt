@@ -6,7 +6,7 @@ use crate::nodes;
 use crate::show;
 use crate::texts;
 use json8::answers::Parsed;
-use json8::answers::WroteTable;
+use prelude::answers::Written;
 
 // A table before a call.
 fn filled() -> [u32; fields::TABLE_MAX]
@@ -66,10 +66,10 @@ fn show_in<'a>(table: &[u32], text: &'a [u8], store: &'a [u8], node: usize) {
     show::bytes(json8_show::show::show(table, text, store, node));
 }
 
-fn print_wrote(answer: WroteTable) {
+fn print_wrote(answer: Written) {
     match answer {
-        WroteTable::Wrote(n) => show::three(0, 0, n),
-        WroteTable::Refused(number) => show::three(number as usize, 0, 0),
+        Written::Wrote(n) => show::three(0, 0, n),
+        Written::Refused(number) => show::three(number as usize, 0, 0),
     }
 }
 

@@ -4,10 +4,9 @@ ghost use lib.ListN.{length};
 use crate::fields;
 use crate::show;
 use lines::read::Line;
-use lines_write::write::WroteLines;
+use prelude::answers::Written;
 use strings::answers::Decoded;
 use strings::answers::Token;
-use strings_write::answers::Written;
 
 // A buffer before a call.
 pub fn filled(b: u8) -> [u8; fields::ROOM_MAX]
@@ -43,14 +42,14 @@ fn print_line(answer: Line) {
 fn print_written(answer: Written) {
     match answer {
         Written::Wrote(n) => show::three(0, 0, n),
-        Written::Full(number) => show::three(number as usize, 0, 0),
+        Written::Refused(number) => show::three(number as usize, 0, 0),
     }
 }
 
-fn print_lines(answer: WroteLines) {
+fn print_lines(answer: Written) {
     match answer {
-        WroteLines::Wrote(n) => show::three(0, 0, n),
-        WroteLines::Refused(number) => show::three(number as usize, 0, 0),
+        Written::Wrote(n) => show::three(0, 0, n),
+        Written::Refused(number) => show::three(number as usize, 0, 0),
     }
 }
 

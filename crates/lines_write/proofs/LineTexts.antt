@@ -18,8 +18,8 @@ use Rattle.strings_write.specs.Write.{writeString, wroteInto}
 use Rattle.rooms.specs.inner.Puts.{Put}
 use Rattle.rooms.proofs.Puts.{put-past, put-none, put-as, put-then}
 use Rattle.rooms.proofs.Passes.{Whole}
-use Rattle.lines_write.specs.declared.write.WroteLines.{WroteLines}
-use Rattle.lines_write.specs.declared.write.WroteLines.the-variants.{Wrote, Refused}
+use Rattle.prelude.specs.declared.answers.Written.{Written}
+use Rattle.prelude.specs.declared.answers.Written.the-variants.{Wrote, Refused}
 use Rattle.lines.specs.Line.{kindOf}
 use Rattle.lines.specs.Records.{headSize}
 use Rattle.lines_write.specs.Write.{sizeAt, kindAt, payloadAt, rightRecord, rightRecords, lineAt, linesFrom, wroteLines, linesInto}
@@ -173,7 +173,7 @@ module _ {s : List ℕ} {room : ℕ} {out₀ : List ℕ} {at o : ℕ} {out : Lis
           }
 
 -- what a call answers and leaves
-abbrev Wrote-Lines : List ℕ → List ℕ → WroteLines → List ℕ → Type 0
+abbrev Wrote-Lines : List ℕ → List ℕ → Written → List ℕ → Type 0
 Wrote-Lines s out r new = (r ≡ wroteLines (length out) s) × (new ≡ linesInto s out)
 
 module _ (s out : List ℕ) (b : Bool) (e : b ≡ rightRecords 0 s) where
@@ -181,6 +181,6 @@ module _ (s out : List ℕ) (b : Bool) (e : b ≡ rightRecords 0 s) where
   unfolding wroteLines linesInto
   not-right z = (sym (pick-false _ _ _ (sym e ∙ z)), sym (pick-false _ _ _ (sym e ∙ z)))
 
-  pub all-right : b ≡ true → {r : WroteLines} {new : List ℕ} → Whole Wrote (Refused 12) (linesFrom 0 s) out r new → Wrote-Lines s out r new
+  pub all-right : b ≡ true → {r : Written} {new : List ℕ} → Whole Wrote (Refused 12) (linesFrom 0 s) out r new → Wrote-Lines s out r new
   unfolding wroteLines linesInto wroteInto
   all-right z w = (w .0 ∙ sym (pick-true _ _ _ (sym e ∙ z)), w .1 ∙ sym (pick-true _ _ _ (sym e ∙ z)))

@@ -10,8 +10,8 @@ use Rattle.prelude.specs.Bytes.{LF}
 use Rattle.prelude.specs.Pick.{pick}
 use Rattle.prelude.specs.Refusals.{unfit, noRoom}
 use Rattle.strings_write.specs.Write.{writeString}
-use Rattle.lines_write.specs.declared.write.WroteLines.{WroteLines}
-use Rattle.lines_write.specs.declared.write.WroteLines.the-variants.{Wrote, Refused}
+use Rattle.prelude.specs.declared.answers.Written.{Written}
+use Rattle.prelude.specs.declared.answers.Written.the-variants.{Wrote, Refused}
 use Rattle.lines.specs.Line.{kindOf}
 use Rattle.lines.specs.Records.{headSize}
 
@@ -49,7 +49,7 @@ linesFrom (suc k) (x ∷ r) = linesFrom k r
 abbrev pub writeQuoted : List ℕ → List ℕ
 writeQuoted records = linesFrom 0 records
 
-unfoldable pub wroteLines : ℕ → List ℕ → WroteLines
+unfoldable pub wroteLines : ℕ → List ℕ → Written
 wroteLines room records =
     pick (rightRecords 0 records)
     (pick (leb (length (writeQuoted records)) room) (Wrote (length (writeQuoted records))) (Refused noRoom))

@@ -8,16 +8,11 @@ ghost use Rattle.rooms.specs.inner.Puts.{roomMax, Put};
 ghost use Rattle.lines_write.specs.Write.{rightRecord, rightRecords, lineAt, linesFrom, wroteLines, linesInto};
 use lines::read;
 use lines::records::HEAD;
+use prelude::answers::Written;
 use prelude::refusals;
 use prelude::slices;
 use rooms::parts;
 use utf8::classes;
-
-// The text's length, or the number of the refusal, which stands at 0.
-pub enum WroteLines {
-    Wrote(usize),
-    Refused(u32),
-}
 
 // The two-byte number k places behind a place; what stands past the end is 0.
 fn number_at(s: &[u8], at: usize, k: usize) -> usize
@@ -89,19 +84,19 @@ fn pass(t: &[u8; 256], s: &[u8], room: usize, out: &mut [u8]) -> usize
 
 // Writes the strings of records, each quoted and with an LF behind it: the text in front of out, or a refusal and out as it was.
 // All records are judged first; then one pass over no buffer measures the text, and one stores it.
-pub fn write(records: &[u8], out: &mut [u8]) -> WroteLines
+pub fn write(records: &[u8], out: &mut [u8]) -> Written
     ensures answer { λ r. ⌜ r ≡ wroteLines (length (now (out .entry))) (now (records .entry)) ⌝ }
     ensures stored { λ r. ⌜ now (out .exit) ≡ linesInto (now (records .entry)) (now (out .entry)) ⌝ }
 {
     let t = classes::table();
     if !right_records(&t, records) {
-        return WroteLines::Refused(refusals::UNFIT);
+        return Written::Refused(refusals::UNFIT);
     }
     let room = out.len();
     let n = pass(&t, records, room, &mut out[..0]);
     if room < n {
-        return WroteLines::Refused(refusals::NO_ROOM);
+        return Written::Refused(refusals::NO_ROOM);
     }
     pass(&t, records, room, out);
-    WroteLines::Wrote(n)
+    Written::Wrote(n)
 }

@@ -8,9 +8,9 @@ ghost use Rattle.strings_write.specs.Write.{writtenIn, wroteInto};
 ghost use Rattle.rooms.specs.inner.Puts.{roomMax, Put};
 ghost use Rattle.messages.specs.Messages.{entryText};
 use crate::texts;
+use prelude::answers::Written;
 use prelude::refusals;
 use rooms::parts;
-use strings_write::answers::Written;
 use utf8::classes;
 
 // An entry, as far as room and buffer reach.
@@ -47,7 +47,7 @@ pub fn write(n: usize, s: &[u8], out: &mut [u8]) -> Written
     }
     let k = put_entry(&t, n, s, room, &mut out[..0]);
     if room < k {
-        return Written::Full(refusals::NO_ROOM);
+        return Written::Refused(refusals::NO_ROOM);
     }
     put_entry(&t, n, s, room, out);
     Written::Wrote(k)

@@ -10,9 +10,9 @@ ghost use Rattle.messages.specs.declared.messages.Message.the-variants.{
 ghost use Rattle.messages.specs.Messages.{numberText, lineText, columnText, spotText, placeText, messageText};
 use crate::sentences;
 use crate::texts;
+use prelude::answers::Written;
 use prelude::refusals;
 use rooms::parts;
-use strings_write::answers::Written;
 
 // Where the place of a refusal is counted from: a line of a J8 Lines backup, a JSON8 text, of which the line and the column are told too, or
 // a J8 string.
@@ -151,7 +151,7 @@ pub fn write(m: Message, out: &mut [u8]) -> Written
     let room = out.len();
     let n = put_message(m, room, &mut out[..0]);
     if room < n {
-        return Written::Full(refusals::NO_ROOM);
+        return Written::Refused(refusals::NO_ROOM);
     }
     put_message(m, room, out);
     Written::Wrote(n)

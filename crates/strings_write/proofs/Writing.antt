@@ -27,8 +27,8 @@ use Rattle.notation.proofs.LiteralLaws.{run-fits, run-ends, run-valid, all-lite
 use Rattle.runs.proofs.LiteralRuns.{at-end}
 use Rattle.units.proofs.EscapeStores.{escape-written}
 use Rattle.units.proofs.WrittenUnits.{limit}
-use Rattle.strings_write.specs.declared.answers.Written.{Written}
-use Rattle.strings_write.specs.declared.answers.Written.the-variants.{Wrote, Full}
+use Rattle.prelude.specs.declared.answers.Written.{Written}
+use Rattle.prelude.specs.declared.answers.Written.the-variants.{Wrote, Refused}
 use Rattle.strings_write.specs.Write.{writeUnits, mark, quoted, writeString, writtenIn, wroteInto}
 use Rattle.strings_write.specs.inner.Passes.{Passed}
 use Rattle.strings_write.proofs.WriteLengths.{quoted-length}
@@ -186,7 +186,7 @@ module _ {form : Form} {s : List ℕ} {room : ℕ} {out₀ : List ℕ} {at o : �
 abbrev Wrote-It : List ℕ → List ℕ → Written → List ℕ → Type 0
 Wrote-It text out r new = (r ≡ writtenIn (length out) text) × (new ≡ wroteInto text out)
 
-pub full : (text out : List ℕ) → length out < length text → Wrote-It text out (Full 12) out
+pub full : (text out : List ℕ) → length out < length text → Wrote-It text out (Refused 12) out
 unfolding writtenIn wroteInto pick
 full text out h = simp (lt-leb (length text) (length out) h) (refl, refl)
 
@@ -221,7 +221,7 @@ module _ (text l out : List ℕ) {n : ℕ} {l₀ : List ℕ} (pos : 0 < length t
   unfolding pick
   count-is h = p .answer ∙ rw (le-leb (length text) (length out) h)
 
-  pub too-long : n ≡ 0 → Wrote-It text out (Full 12) (l ++ out)
+  pub too-long : n ≡ 0 → Wrote-It text out (Refused 12) (l ++ out)
   too-long h = let f = full text out (longer h) in (f .0, empty-front l out z ∙ f .1)
 
   pub both-passes : {n2 : ℕ} {new : List ℕ} → (n ≡ 0 → ⊥) → Passed text (length out) n2 (l ++ out) new → Wrote-It text out (Wrote n) new
@@ -260,7 +260,7 @@ module _ (s out : List ℕ) (e : literalRun Json 0 s ≡ length s) where
       r ∙ ap (λ (x : List ℕ). set x (length s + 1) doubleQuote) (q ∙ (λ i. sets (p i) 1 (take-length s i)))
       ∙ sets-append s (doubleQuote ∷ []) (set out 0 doubleQuote) 1 (length s + 1) (omega arith) ∙ ap (sets out 0) (sym (literal-text s e))
 
-  pub literal-full : length out < length s + 2 → Wrote-It (quoted AsJson s) out (Full 12) out
+  pub literal-full : length out < length s + 2 → Wrote-It (quoted AsJson s) out (Refused 12) out
   literal-full h = full (quoted AsJson s) out (omega (arith, text-length))
 
   pub literal-wrote : {o1 o2 o3 : List ℕ} → length s + 2 ≤ length out → o1 ≡ set out 0 doubleQuote → o2 ≡ sets o1 1 (take (length s) s) → o3 ≡ set o2 (length s + 1) doubleQuote

@@ -13,8 +13,8 @@ use Rattle.notation.specs.declared.styles.Form.{Form}
 use Rattle.notation.specs.declared.styles.Form.the-variants.{AsJson, AsBytes}
 use Rattle.notation.specs.Styles.{quote, styleOf}
 use Rattle.units.specs.Written.{written}
-use Rattle.strings_write.specs.declared.answers.Written.{Written}
-use Rattle.strings_write.specs.declared.answers.Written.the-variants.{Wrote, Full}
+use Rattle.prelude.specs.declared.answers.Written.{Written}
+use Rattle.prelude.specs.declared.answers.Written.the-variants.{Wrote, Refused}
 
 -- the units of a byte string; k bytes are skipped
 unfoldable pub writeUnits : Form → ℕ → List ℕ → List ℕ
@@ -41,7 +41,7 @@ writeString s = pick (validUtf8 s) (quoted AsJson s) (writeBytes s)
 
 -- the answer for a text in a room: "Writing refuses only with 12"
 unfoldable pub writtenIn : ℕ → List ℕ → Written
-writtenIn room text = pick (leb (length text) room) (Wrote (length text)) (Full noRoom)
+writtenIn room text = pick (leb (length text) room) (Wrote (length text)) (Refused noRoom)
 
 -- what a buffer holds afterwards: the text in front of what was there, or all as it was
 unfoldable pub wroteInto : List ℕ → List ℕ → List ℕ

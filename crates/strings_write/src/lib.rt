@@ -1,3 +1,2 @@
 // J8 strings, written.
-pub mod answers;
 pub mod write;

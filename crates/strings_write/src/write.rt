@@ -14,12 +14,12 @@ ghost use Rattle.notation.specs.Literals.{literalRun};
 ghost use Rattle.strings_write.specs.Write.{mark, quoted, writeBytes, writeString, writtenIn, wroteInto};
 ghost use Rattle.strings_write.specs.inner.Passes.{Passed};
 ghost use Rattle.bytewise.specs.inner.Bytewise.{Fronted, Onward};
-use crate::answers::Written;
 use bytewise::front;
 use bytewise::rest;
 use notation::styles;
 use notation::styles::Form;
 use notation::styles::Style;
+use prelude::answers::Written;
 use prelude::refusals;
 use prelude::slices;
 use runs::blocks;
@@ -247,7 +247,7 @@ fn write_quoted(t: &[u8; 256], form: Form, s: &[u8], out: &mut [u8]) -> Written
     }
     let n = pass(t, form, s, room, &mut out[..0]);
     if n == 0 {
-        return Written::Full(refusals::NO_ROOM);
+        return Written::Refused(refusals::NO_ROOM);
     }
     pass(t, form, s, room, out);
     Written::Wrote(n)
@@ -261,7 +261,7 @@ fn write_literal(s: &[u8], out: &mut [u8]) -> Written
 {
     let n = s.len();
     if out.len() < n + 2 {
-        return Written::Full(refusals::NO_ROOM);
+        return Written::Refused(refusals::NO_ROOM);
     }
     slices::put(b'"', 0, out);
     slices::copy_run(s, 0, n, 1, out);

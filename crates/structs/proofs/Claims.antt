@@ -10,24 +10,20 @@ use Rattle.prelude.specs.Pick.{pick}
 use Rattle.prelude.proofs.Cases.{split}
 use Rattle.strings.specs.declared.answers.Decoded.{Decoded}
 use Rattle.strings.specs.declared.answers.Decoded.the-variants as strings
-use Rattle.strings_write.specs.declared.answers.Written.{Written}
-use Rattle.strings_write.specs.declared.answers.Written.the-variants as texts
-use Rattle.lines_write.specs.declared.write.WroteLines.{WroteLines}
-use Rattle.lines_write.specs.declared.write.WroteLines.the-variants as lines
+use Rattle.prelude.specs.declared.answers.Written.{Written}
+use Rattle.prelude.specs.declared.answers.Written.the-variants as texts
 use Rattle.json8.specs.declared.answers.Parsed.{Parsed}
 use Rattle.json8.specs.declared.answers.Parsed.the-variants as parsed
 use Rattle.json8_show.specs.declared.show.Shown.{Shown}
 use Rattle.json8_show.specs.declared.show.Shown.the-variants.{InText, InStore, Nowhere}
-use Rattle.json8.specs.declared.answers.WroteTable.{WroteTable}
-use Rattle.json8.specs.declared.answers.WroteTable.the-variants as tables
 use Rattle.structs.specs.declared.results.J8Result.{J8Result}
 use Rattle.structs.specs.declared.tables.J8Nodes.{J8Nodes}
 use Rattle.structs.specs.declared.tables.J8Shown.{J8Shown}
 use Rattle.structs.specs.declared.uploads.J8Fed.{J8Fed}
-use Rattle.structs.specs.Results.{decodedResult, writtenResult, linesResult, tableResult}
+use Rattle.structs.specs.Results.{decodedResult, writtenResult}
 use Rattle.structs.specs.Uploads.{isEnded, endedNumber, stateWith, stateOf, uploadWith, uploadOf}
 use Rattle.structs.specs.Tables.{nodesResult, shownResult}
-use Rattle.structs.specs.Claims.{States-Return, Structs-Return, Fed-Tells-All, DecodedNumbered, WrittenNumbered, LinesNumbered, NodesNumbered, TableNumbered, Results-Tell-All}
+use Rattle.structs.specs.Claims.{States-Return, Structs-Return, Fed-Tells-All, DecodedNumbered, WrittenNumbered, NodesNumbered, Results-Tell-All}
 
 -- whether an upload is ended, there and back
 over-back : (b : Bool) → isEnded (endedNumber b) ≡ b
@@ -65,16 +61,9 @@ decoded-tells (strings.Refused number place) (strings.Refused other q) x y p =
 
 written-tells : (v w : Written) → WrittenNumbered v → WrittenNumbered w → writtenResult v ≡ writtenResult w → v ≡ w
 written-tells (texts.Wrote n) (texts.Wrote m) x y p = ap texts.Wrote (ap (λ (r : J8Result). r .length) p)
-written-tells (texts.Wrote n) (texts.Full number) x y p = absurd (y (sym (ap (λ (r : J8Result). r .number) p)))
-written-tells (texts.Full number) (texts.Wrote n) x y p = absurd (x (ap (λ (r : J8Result). r .number) p))
-written-tells (texts.Full number) (texts.Full other) x y p = ap texts.Full (ap (λ (r : J8Result). r .number) p)
-
--- lines
-lines-tells : (v w : WroteLines) → LinesNumbered v → LinesNumbered w → linesResult v ≡ linesResult w → v ≡ w
-lines-tells (lines.Wrote n) (lines.Wrote m) x y p = ap lines.Wrote (ap (λ (r : J8Result). r .length) p)
-lines-tells (lines.Wrote n) (lines.Refused number) x y p = absurd (y (sym (ap (λ (r : J8Result). r .number) p)))
-lines-tells (lines.Refused number) (lines.Wrote n) x y p = absurd (x (ap (λ (r : J8Result). r .number) p))
-lines-tells (lines.Refused number) (lines.Refused other) x y p = ap lines.Refused (ap (λ (r : J8Result). r .number) p)
+written-tells (texts.Wrote n) (texts.Refused number) x y p = absurd (y (sym (ap (λ (r : J8Result). r .number) p)))
+written-tells (texts.Refused number) (texts.Wrote n) x y p = absurd (x (ap (λ (r : J8Result). r .number) p))
+written-tells (texts.Refused number) (texts.Refused other) x y p = ap texts.Refused (ap (λ (r : J8Result). r .number) p)
 
 -- tables
 nodes-tells : (v w : Parsed) → NodesNumbered v → NodesNumbered w → nodesResult v ≡ nodesResult w → v ≡ w
@@ -85,12 +74,6 @@ nodes-tells (parsed.Refused number place) (parsed.Done n m) x y p = absurd (x (a
 nodes-tells (parsed.Refused number place) (parsed.Refused other q) x y p =
     let a : number ≡ other = ap (λ (r : J8Nodes). r .number) p in
     let b : place ≡ q = ap (λ (r : J8Nodes). r .place) p in λ i. parsed.Refused (a i) (b i)
-
-table-tells : (v w : WroteTable) → TableNumbered v → TableNumbered w → tableResult v ≡ tableResult w → v ≡ w
-table-tells (tables.Wrote n) (tables.Wrote m) x y p = ap tables.Wrote (ap (λ (r : J8Result). r .length) p)
-table-tells (tables.Wrote n) (tables.Refused number) x y p = absurd (y (sym (ap (λ (r : J8Result). r .number) p)))
-table-tells (tables.Refused number) (tables.Wrote n) x y p = absurd (x (ap (λ (r : J8Result). r .number) p))
-table-tells (tables.Refused number) (tables.Refused other) x y p = ap tables.Refused (ap (λ (r : J8Result). r .number) p)
 
 shown-tells : (v w : Shown) → shownResult v ≡ shownResult w → v ≡ w
 shown-tells (InText a b) (InText c d) p =
@@ -106,4 +89,4 @@ shown-tells Nowhere (InText a b) p = let z : _≡_ {A = ℕ} 1 0 = ap (λ (r : J
 shown-tells Nowhere (InStore a b) p = let z : _≡_ {A = ℕ} 1 0 = ap (λ (r : J8Shown). r .number) p in absurd (omega arith)
 
 pub results-tell-all : Results-Tell-All
-results-tell-all = (decoded-tells, written-tells, lines-tells, nodes-tells, table-tells, shown-tells)
+results-tell-all = (decoded-tells, written-tells, nodes-tells, shown-tells)

@@ -6,19 +6,15 @@ use lib.Dec.{eqb}
 use Rattle.prelude.specs.Pick.{pick}
 use Rattle.strings.specs.declared.answers.Decoded.{Decoded}
 use Rattle.strings.specs.declared.answers.Decoded.the-variants as strings
-use Rattle.strings_write.specs.declared.answers.Written.{Written}
-use Rattle.strings_write.specs.declared.answers.Written.the-variants as texts
-use Rattle.lines_write.specs.declared.write.WroteLines.{WroteLines}
-use Rattle.lines_write.specs.declared.write.WroteLines.the-variants as lines
+use Rattle.prelude.specs.declared.answers.Written.{Written}
+use Rattle.prelude.specs.declared.answers.Written.the-variants as texts
 use Rattle.json8.specs.declared.answers.Parsed.{Parsed}
 use Rattle.json8.specs.declared.answers.Parsed.the-variants as parsed
 use Rattle.json8_show.specs.declared.show.Shown.{Shown}
-use Rattle.json8.specs.declared.answers.WroteTable.{WroteTable}
-use Rattle.json8.specs.declared.answers.WroteTable.the-variants as tables
 use Rattle.upload.specs.declared.uploads.Upload.{Upload}
 use Rattle.upload.specs.declared.uploads.Fed.{Fed}
 use Rattle.structs.specs.declared.uploads.J8Upload.{J8Upload}
-use Rattle.structs.specs.Results.{decodedResult, writtenResult, linesResult, tableResult}
+use Rattle.structs.specs.Results.{decodedResult, writtenResult}
 use Rattle.structs.specs.Uploads.{stateOf, uploadWith, uploadOf, fedFrom}
 use Rattle.structs.specs.Tables.{nodesResult, shownResult}
 
@@ -41,26 +37,16 @@ DecodedNumbered (strings.Refused number place) = number ≡ 0 → ⊥
 
 abbrev pub WrittenNumbered : Written → Type 0
 WrittenNumbered (texts.Wrote n) = Unit
-WrittenNumbered (texts.Full number) = number ≡ 0 → ⊥
-
-abbrev pub LinesNumbered : WroteLines → Type 0
-LinesNumbered (lines.Wrote n) = Unit
-LinesNumbered (lines.Refused number) = number ≡ 0 → ⊥
+WrittenNumbered (texts.Refused number) = number ≡ 0 → ⊥
 
 abbrev pub NodesNumbered : Parsed → Type 0
 NodesNumbered (parsed.Done nodes stored) = Unit
 NodesNumbered (parsed.Refused number place) = number ≡ 0 → ⊥
-
-abbrev pub TableNumbered : WroteTable → Type 0
-TableNumbered (tables.Wrote n) = Unit
-TableNumbered (tables.Refused number) = number ≡ 0 → ⊥
 
 -- "number 0: done", and each other number a refusal: one struct, one answer
 abbrev pub Results-Tell-All : Type 0
 Results-Tell-All =
     ((v w : Decoded) → DecodedNumbered v → DecodedNumbered w → decodedResult v ≡ decodedResult w → v ≡ w)
     × ((v w : Written) → WrittenNumbered v → WrittenNumbered w → writtenResult v ≡ writtenResult w → v ≡ w)
-    × ((v w : WroteLines) → LinesNumbered v → LinesNumbered w → linesResult v ≡ linesResult w → v ≡ w)
     × ((v w : Parsed) → NodesNumbered v → NodesNumbered w → nodesResult v ≡ nodesResult w → v ≡ w)
-    × ((v w : WroteTable) → TableNumbered v → TableNumbered w → tableResult v ≡ tableResult w → v ≡ w)
     × ((v w : Shown) → shownResult v ≡ shownResult w → v ≡ w)

@@ -4,12 +4,8 @@
 use Prim.Native.Nat.{ℕ}
 use Rattle.strings.specs.declared.answers.Decoded.{Decoded}
 use Rattle.strings.specs.declared.answers.Decoded.the-variants as strings
-use Rattle.strings_write.specs.declared.answers.Written.{Written}
-use Rattle.strings_write.specs.declared.answers.Written.the-variants as texts
-use Rattle.lines_write.specs.declared.write.WroteLines.{WroteLines}
-use Rattle.lines_write.specs.declared.write.WroteLines.the-variants as lines
-use Rattle.json8.specs.declared.answers.WroteTable.{WroteTable}
-use Rattle.json8.specs.declared.answers.WroteTable.the-variants as tables
+use Rattle.prelude.specs.declared.answers.Written.{Written}
+use Rattle.prelude.specs.declared.answers.Written.the-variants as texts
 use Rattle.structs.specs.declared.results.J8Result.{J8Result}
 
 abbrev pub done : ℕ → J8Result
@@ -23,17 +19,7 @@ abbrev pub decodedResult : Decoded → J8Result
 decodedResult (strings.Done n) = done n
 decodedResult (strings.Refused number place) = refusal number place
 
--- a string written
+-- a string, records as lines or a table written
 abbrev pub writtenResult : Written → J8Result
 writtenResult (texts.Wrote n) = done n
-writtenResult (texts.Full number) = refusal number 0
-
--- records written as lines
-abbrev pub linesResult : WroteLines → J8Result
-linesResult (lines.Wrote n) = done n
-linesResult (lines.Refused number) = refusal number 0
-
--- a table written
-abbrev pub tableResult : WroteTable → J8Result
-tableResult (tables.Wrote n) = done n
-tableResult (tables.Refused number) = refusal number 0
+writtenResult (texts.Refused number) = refusal number 0

@@ -1,10 +1,8 @@
-// `j8_result`: a string read or written, records written as lines, a table written.
+// `j8_result`: a string read; a string, records as lines or a table written.
 ghost use mathlib.Core.Path.{_≡_};
-ghost use Rattle.structs.specs.Results.{done, refusal, decodedResult, writtenResult, linesResult, tableResult};
-use json8::answers::WroteTable;
-use lines_write::write::WroteLines;
+ghost use Rattle.structs.specs.Results.{done, refusal, decodedResult, writtenResult};
+use prelude::answers::Written;
 use strings::answers::Decoded;
-use strings_write::answers::Written;
 
 // `j8_result` of the header.
 #[repr(C)]
@@ -48,24 +46,6 @@ pub fn of_written(answer: Written) -> J8Result
 {
     match answer {
         Written::Wrote(n) => done(n),
-        Written::Full(number) => refusal(number, 0),
-    }
-}
-
-pub fn of_lines(answer: WroteLines) -> J8Result
-    ensures { λ r. ⌜ r ≡ linesResult answer ⌝ }
-{
-    match answer {
-        WroteLines::Wrote(n) => done(n),
-        WroteLines::Refused(number) => refusal(number, 0),
-    }
-}
-
-pub fn of_table(answer: WroteTable) -> J8Result
-    ensures { λ r. ⌜ r ≡ tableResult answer ⌝ }
-{
-    match answer {
-        WroteTable::Wrote(n) => done(n),
-        WroteTable::Refused(number) => refusal(number, 0),
+        Written::Refused(number) => refusal(number, 0),
     }
 }

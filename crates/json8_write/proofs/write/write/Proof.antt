@@ -10,7 +10,7 @@ use borrow.Author.Tests.{not-true, not-false}
 use Rattle.trees.specs.Tables.{nodesIn, treeOf}
 use Rattle.rooms.proofs.Passes.{one-pass, too-long, two-passes}
 use Rattle.json8_fit.proofs.Roots.{root-count}
-use Rattle.json8.specs.declared.answers.WroteTable.the-variants.{Wrote, Refused}
+use Rattle.prelude.specs.declared.answers.Written.the-variants.{Wrote, Refused}
 use Rattle.json8_write.proofs.WholeTables.{wrote-unfit, wrote-fit}
 use Rattle.json8_write.proofs.Roominess.{text-room}
 

@@ -8,7 +8,7 @@ use borrow.Author.Tests.{not-true, not-false}
 use native.Mathlib.Omega.{arith}
 use denote.Ref.{now}
 use Rattle.rooms.proofs.Passes.{too-long, two-passes}
-use Rattle.lines_write.specs.declared.write.WroteLines.the-variants.{Wrote, Refused}
+use Rattle.prelude.specs.declared.answers.Written.the-variants.{Wrote, Refused}
 use Rattle.lines_write.specs.Write.{linesFrom}
 use Rattle.lines_write.proofs.LineTexts.{not-right, all-right}
 

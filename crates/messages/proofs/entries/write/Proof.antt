@@ -5,7 +5,7 @@ use Rattle.messages.proofs.entries.write.Statement.{statement}
 use Rattle.messages.proofs.entries.write.Tie as tie
 use denote.Ref.{now}
 use Rattle.messages.specs.Messages.{entryText}
-use Rattle.strings_write.specs.declared.answers.Written.the-variants.{Wrote, Full}
+use Rattle.prelude.specs.declared.answers.Written.the-variants.{Wrote, Refused}
 use Rattle.strings_write.specs.Write.{writtenIn}
 use Rattle.rooms.proofs.Passes.{one-pass, too-long, two-passes}
 use Rattle.messages.proofs.Lines.{entry-room}
@@ -25,7 +25,7 @@ same-length c = search needs
 returns : tie.Need-returns
 unfolding writtenIn
 returns c =
-    one-pass Wrote (Full 12) (entryText (c .before .before .before .before .before .before .before .before .before .before .args .n) (now (c .before .before .before .before .before .before .before .before .before .before .args .s))) (now (c .before .before .before .before .before .before .before .before .before .before .args .out)) (entry-room (c .before .before .before .before .before .before .before .before .before .before .args .n) (now (c .before .before .before .before .before .before .before .before .before .before .args .s)) _ (c .before .before .before .before .before .before .ample .ensures (c .before .before .before .before .before .if1 .taken))) (c .before .before .put-entry .ensures)
+    one-pass Wrote (Refused 12) (entryText (c .before .before .before .before .before .before .before .before .before .before .args .n) (now (c .before .before .before .before .before .before .before .before .before .before .args .s))) (now (c .before .before .before .before .before .before .before .before .before .before .args .out)) (entry-room (c .before .before .before .before .before .before .before .before .before .before .args .n) (now (c .before .before .before .before .before .before .before .before .before .before .args .s)) _ (c .before .before .before .before .before .before .ample .ensures (c .before .before .before .before .before .if1 .taken))) (c .before .before .put-entry .ensures)
 
 slice-relend-prefix-put-entry : tie.Need-slice-relend-prefix-put-entry
 slice-relend-prefix-put-entry c = search needs
@@ -42,7 +42,7 @@ same-length-2 c = search needs
 returns-2 : tie.Need-returns-2
 unfolding writtenIn
 returns-2 c =
-    too-long Wrote (Full 12) (entryText (c .before .before .before .before .before .before .before .before .before .before .before .args .n) (now (c .before .before .before .before .before .before .before .before .before .before .before .args .s))) (now (c .before .before .before .before .before .before .before .before .before .before .before .args .out)) (c .before .before .before .put-entry2 .last .1 .1 .1 .1 .0) (c .before .before .before .put-entry2 .kept .1 .1 .1 .1 .0) (c .before .before .before .put-entry2 .ensures) (c .if2 .taken)
+    too-long Wrote (Refused 12) (entryText (c .before .before .before .before .before .before .before .before .before .before .before .args .n) (now (c .before .before .before .before .before .before .before .before .before .before .before .args .s))) (now (c .before .before .before .before .before .before .before .before .before .before .before .args .out)) (c .before .before .before .put-entry2 .last .1 .1 .1 .1 .0) (c .before .before .before .put-entry2 .kept .1 .1 .1 .1 .0) (c .before .before .before .put-entry2 .ensures) (c .if2 .taken)
 
 put-entry-requires-3 : tie.Need-put-entry-requires-3
 put-entry-requires-3 c κs = search needs
@@ -53,7 +53,7 @@ same-length-3 c = search needs
 returns-3 : tie.Need-returns-3
 unfolding writtenIn
 returns-3 c =
-    two-passes Wrote (Full 12) (entryText (c .before .before .before .before .before .before .before .before .before .before .before .before .before .before .before .before .args .n) (now (c .before .before .before .before .before .before .before .before .before .before .before .before .before .before .before .before .args .s))) (now (c .before .before .before .before .before .before .before .before .before .before .before .before .before .before .before .before .args .out)) (c .before .before .before .before .before .before .before .before .put-entry2 .last .1 .1 .1 .1 .0) (c .before .before .before .before .before .before .before .before .put-entry2 .kept .1 .1 .1 .1 .0) (c .before .before .before .before .before .before .before .before .put-entry2 .ensures) (c .before .before .before .before .before .if2 .left) (c .before .before .put-entry3 .ensures)
+    two-passes Wrote (Refused 12) (entryText (c .before .before .before .before .before .before .before .before .before .before .before .before .before .before .before .before .args .n) (now (c .before .before .before .before .before .before .before .before .before .before .before .before .before .before .before .before .args .s))) (now (c .before .before .before .before .before .before .before .before .before .before .before .before .before .before .before .before .args .out)) (c .before .before .before .before .before .before .before .before .put-entry2 .last .1 .1 .1 .1 .0) (c .before .before .before .before .before .before .before .before .put-entry2 .kept .1 .1 .1 .1 .0) (c .before .before .before .before .before .before .before .before .put-entry2 .ensures) (c .before .before .before .before .before .if2 .left) (c .before .before .put-entry3 .ensures)
 
 pub write-spec : {M : Type 1} → statement M
 write-spec =

@@ -5,7 +5,7 @@ use Rattle.messages.proofs.messages.write.Statement.{statement}
 use Rattle.messages.proofs.messages.write.Tie as tie
 use denote.Ref.{now}
 use Rattle.messages.specs.Messages.{messageText}
-use Rattle.strings_write.specs.declared.answers.Written.the-variants.{Wrote, Full}
+use Rattle.prelude.specs.declared.answers.Written.the-variants.{Wrote, Refused}
 use Rattle.strings_write.specs.Write.{writtenIn}
 use Rattle.rooms.proofs.Passes.{too-long, two-passes}
 
@@ -24,7 +24,7 @@ same-length c = search needs
 returns : tie.Need-returns
 unfolding writtenIn
 returns c =
-    too-long Wrote (Full 12) (messageText (c .before .before .before .before .before .before .args .m)) (now (c .before .before .before .before .before .before .args .out)) (c .before .before .before .put-message .last .1 .1 .0) (c .before .before .before .put-message .kept .1 .1 .0) (c .before .before .before .put-message .ensures) (c .if1 .taken)
+    too-long Wrote (Refused 12) (messageText (c .before .before .before .before .before .before .args .m)) (now (c .before .before .before .before .before .before .args .out)) (c .before .before .before .put-message .last .1 .1 .0) (c .before .before .before .put-message .kept .1 .1 .0) (c .before .before .before .put-message .ensures) (c .if1 .taken)
 
 put-message-requires-2 : tie.Need-put-message-requires-2
 put-message-requires-2 c κs = search needs
@@ -35,7 +35,7 @@ same-length-2 c = search needs
 returns-2 : tie.Need-returns-2
 unfolding writtenIn
 returns-2 c =
-    two-passes Wrote (Full 12) (messageText (c .before .before .before .before .before .before .before .before .before .before .args .m)) (now (c .before .before .before .before .before .before .before .before .before .before .args .out)) (c .before .before .before .before .before .before .before .put-message .last .1 .1 .0) (c .before .before .before .before .before .before .before .put-message .kept .1 .1 .0) (c .before .before .before .before .before .before .before .put-message .ensures) (c .before .before .before .before .if1 .left) (c .before .before .put-message2 .ensures)
+    two-passes Wrote (Refused 12) (messageText (c .before .before .before .before .before .before .before .before .before .before .args .m)) (now (c .before .before .before .before .before .before .before .before .before .before .args .out)) (c .before .before .before .before .before .before .before .put-message .last .1 .1 .0) (c .before .before .before .before .before .before .before .put-message .kept .1 .1 .0) (c .before .before .before .before .before .before .before .put-message .ensures) (c .before .before .before .before .if1 .left) (c .before .before .put-message2 .ensures)
 
 pub write-spec : {M : Type 1} → statement M
 write-spec =
