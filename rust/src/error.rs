@@ -126,6 +126,34 @@ impl TryFrom<u32> for Refusal {
     }
 }
 
+/// What is unfit of a value that shall be written.
+#[derive(Clone, Copy, Debug, PartialEq, Eq, Hash)]
+#[non_exhaustive]
+pub enum Unfit {
+    /// It is over [`DEPTH_MAX`](crate::DEPTH_MAX) brackets deep.
+    TooDeep,
+    /// It has over [`NODES_MAX`](crate::NODES_MAX) nodes, keys with them.
+    TooManyNodes,
+    /// A number's text is none.
+    Number,
+}
+
+impl Unfit {
+    const fn sentence(self) -> &'static str {
+        match self {
+            Unfit::TooDeep => "the value is over 32 brackets deep",
+            Unfit::TooManyNodes => "the value has over 1,024 nodes",
+            Unfit::Number => "the text of a number is none",
+        }
+    }
+}
+
+impl fmt::Display for Unfit {
+    fn fmt(&self, f: &mut fmt::Formatter<'_>) -> fmt::Result {
+        f.write_str(self.sentence())
+    }
+}
+
 /// A refused call: why, and where.
 ///
 /// ```
@@ -138,6 +166,7 @@ impl TryFrom<u32> for Refusal {
 /// );
 /// ```
 #[derive(Clone, Copy, Debug, PartialEq, Eq, Hash)]
+#[non_exhaustive]
 pub struct Error {
     /// Why.
     pub refusal: Refusal,
@@ -147,9 +176,32 @@ pub struct Error {
     /// The byte where the fault stands, from 0: in the line as received, blanks
     /// with it, or in the text.
     pub place: usize,
+    /// What is unfit of a [`Value`](crate::Value) that shall be written, if
+    /// [`Refusal::Unfit`] is about one.
+    pub unfit: Option<Unfit>,
 }
 
 impl Error {
+    /// A refusal of a text at a byte.
+    #[must_use]
+    pub const fn new(refusal: Refusal, place: usize) -> Error {
+        Error {
+            refusal,
+            line: None,
+            place,
+            unfit: None,
+        }
+    }
+
+    /// The same in a line of an upload, from 1.
+    #[must_use]
+    pub const fn in_line(self, line: usize) -> Error {
+        Error {
+            line: Some(line),
+            ..self
+        }
+    }
+
     /// The refusal's number.
     pub const fn number(&self) -> u32 {
         self.refusal.number()
@@ -162,6 +214,7 @@ impl Error {
                 refusal,
                 line: (line > 0).then_some(line),
                 place,
+                unfit: None,
             }),
             Err(0) => Ok(()),
             // The archive's numbers are the header's, and a state that is kept
@@ -187,7 +240,11 @@ impl fmt::Display for Error {
             } => {}
             Error { place, .. } => write!(f, " at byte {place}")?,
         }
-        write!(f, ": {}", self.refusal.sentence(self.line.is_some()))
+        let sentence = match self.unfit {
+            Some(unfit) => unfit.sentence(),
+            None => self.refusal.sentence(self.line.is_some()),
+        };
+        write!(f, ": {sentence}")
     }
 }
 

@@ -135,6 +135,7 @@ fn read(text: &[u8], table: &mut [u32], store: &mut [u8]) -> Result<(usize, usiz
 /// assert_eq!(j8::show_string(&table, b"u'abc'", b"", 0), Some(b"abc".as_slice()));
 /// assert_eq!(j8::show_string(&table, b"u'a", b"", 0), None);
 /// ```
+#[must_use]
 pub fn show_string<'a>(
     table: &[u32],
     text: &'a [u8],
@@ -168,6 +169,9 @@ pub fn show_string<'a>(
 /// assert_eq!(strings, [b"a".as_slice(), b"x", b"b\n"]);
 /// # Ok::<(), j8::Error>(())
 /// ```
+///
+/// Two are equal if their buffers are; what they say is compared by
+/// [`Node::to_value`].
 // Only a reader makes one, so its table is as the reader promises: at least one
 // node, kinds from 0 to 8, subtrees nested exactly.
 #[derive(Clone, Copy, PartialEq, Eq)]
@@ -200,6 +204,7 @@ impl<'a> Nodes<'a> {
     }
 
     /// The node of the value itself.
+    #[must_use]
     pub fn root(&self) -> Node<'a> {
         self.at(0)
     }
@@ -232,6 +237,15 @@ impl fmt::Debug for Nodes<'_> {
     }
 }
 
+impl<'a> IntoIterator for &Nodes<'a> {
+    type Item = Node<'a>;
+    type IntoIter = Iter<'a>;
+
+    fn into_iter(self) -> Iter<'a> {
+        self.iter()
+    }
+}
+
 impl<'a> IntoIterator for Nodes<'a> {
     type Item = Node<'a>;
     type IntoIter = Iter<'a>;
@@ -255,7 +269,7 @@ impl<'a> IntoIterator for Nodes<'a> {
 /// }
 /// # Ok::<(), j8::Error>(())
 /// ```
-#[derive(Clone, Copy, PartialEq, Eq)]
+#[derive(Clone, Copy)]
 pub struct Node<'a> {
     nodes: Nodes<'a>,
     index: usize,
@@ -358,6 +372,16 @@ impl<'a> Node<'a> {
     }
 }
 
+/// The same node of the same nodes. What two nodes say is compared by
+/// [`to_value`](Node::to_value).
+impl PartialEq for Node<'_> {
+    fn eq(&self, other: &Node<'_>) -> bool {
+        self.index == other.index && std::ptr::eq(self.nodes.table, other.nodes.table)
+    }
+}
+
+impl Eq for Node<'_> {}
+
 /// Its index and its numbers.
 impl fmt::Debug for Node<'_> {
     fn fmt(&self, f: &mut fmt::Formatter<'_>) -> fmt::Result {
@@ -444,7 +468,7 @@ impl FusedIterator for Iter<'_> {}
 /// assert_eq!(pin.as_str(), Some("4"));
 /// # Ok::<(), j8::Error>(())
 /// ```
-#[derive(Clone, PartialEq, Eq)]
+#[derive(Clone)]
 pub struct Json8 {
     text: Vec<u8>,
     table: Vec<u32>,
@@ -471,6 +495,7 @@ impl Json8 {
     }
 
     /// Its nodes.
+    #[must_use]
     pub fn nodes(&self) -> Nodes<'_> {
         Nodes {
             text: &self.text,
@@ -480,11 +505,13 @@ impl Json8 {
     }
 
     /// The node of the value itself.
+    #[must_use]
     pub fn root(&self) -> Node<'_> {
         self.nodes().root()
     }
 
     /// The text, as it was handed in.
+    #[must_use]
     pub fn into_text(self) -> Vec<u8> {
         self.text
     }

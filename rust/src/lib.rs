@@ -66,7 +66,7 @@ mod upload;
 #[allow(unsafe_code)]
 pub mod raw;
 
-pub use error::{Error, Refusal};
+pub use error::{Error, Refusal, Unfit};
 pub use json8::{
     read_json8, show_string, write_json8, write_json8_room, write_json8_to_vec, Children, Iter,
     Json8, Kind, Node, Nodes, Pairs, Table, Value, DEPTH_MAX, NODES_MAX, NODE_ROOM, TABLE_ROOM,

@@ -10,6 +10,7 @@ pub const TEXT_MAX: usize = 32_768;
 ///
 /// # Panics
 /// If no `usize` can hold it.
+#[must_use]
 pub const fn write_room(length: usize) -> usize {
     match length.checked_mul(6) {
         Some(room) if room <= usize::MAX - 2 => room + 2,
@@ -76,6 +77,7 @@ pub fn read_to_vec(text: &[u8]) -> Result<Vec<u8>, Error> {
 ///
 /// # Panics
 /// If no vector can hold [`write_room`] bytes.
+#[must_use]
 pub fn write_to_vec(data: &[u8]) -> Vec<u8> {
     // Most names are plain, so a third more than that is tried first.
     let mut out = vec![0; data.len() + data.len() / 3 + 8];

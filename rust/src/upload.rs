@@ -78,6 +78,7 @@ impl TryFrom<raw::j8_upload> for UploadState {
                 refusal: Refusal::try_from(number)?,
                 line: (state.line > 0).then_some(state.line),
                 place: state.place,
+                unfit: None,
             }),
         };
         Ok(UploadState {

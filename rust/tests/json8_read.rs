@@ -256,11 +256,7 @@ fn the_greatest_rooms() {
     assert_eq!(last.as_bytes(), Some(nodes.store()));
 
     let (mut table, mut store) = (vec![0; j8::TABLE_ROOM], vec![0; stored]);
-    let error = |refusal| Error {
-        refusal,
-        line: None,
-        place: 0,
-    };
+    let error = |refusal| Error::new(refusal, 0);
     for (numbers, bytes) in [(j8::TABLE_ROOM - 1, stored), (j8::TABLE_ROOM, stored - 1)] {
         assert_eq!(
             j8::read_json8(&text, &mut table[..numbers], &mut store[..bytes]),

@@ -7,9 +7,10 @@ mod written;
 
 use cases::{bytes, each_case};
 use j8::raw::j8_result;
-use j8::{Error, Json8, Refusal, Table, Value};
+use j8::{Error, Json8, Refusal, Table, Unfit, Value};
 use j8_inputs::trees::Parts;
 use j8_inputs::Lent;
+use std::hash::{DefaultHasher, Hash, Hasher};
 use written::{done, library, reference, refused};
 
 // --------------------------------------------------------- json8_write.txt
@@ -90,11 +91,7 @@ fn a_backup_is_written_back() {
     assert_eq!(backup.write(&mut out), Ok(WRITTEN.len()));
     assert_eq!(out, [WRITTEN.as_bytes(), &[0xaa; 3]].concat());
 
-    let no_room = Error {
-        refusal: Refusal::NoRoom,
-        line: None,
-        place: 0,
-    };
+    let no_room = Error::new(Refusal::NoRoom, 0);
     out.fill(0xaa);
     assert_eq!(backup.write(&mut out[..WRITTEN.len() - 1]), Err(no_room));
     assert!(out.iter().all(|&b| b == 0xaa));
@@ -171,11 +168,7 @@ fn values_are_written() {
 
 #[test]
 fn unfit_values() {
-    let unfit = Error {
-        refusal: Refusal::Unfit,
-        line: None,
-        place: 0,
-    };
+    let unfit = Error::new(Refusal::Unfit, 0);
     assert_eq!(
         unfit.to_string(),
         "refusal 1: a lent buffer, state, record or node table is unfit"
@@ -183,10 +176,21 @@ fn unfit_values() {
     let mut out = [0xaa; 64];
     for token in ["", "01", "1.", "+1", "NaN", "0x1", " 1", "1e", "-"] {
         let value = Value::List(vec![text("a"), number(token)]);
-        assert_eq!(Table::new(&value).write(&mut out), Err(unfit), "{token}");
-        assert_eq!(value.write_to_vec(), Err(unfit), "{token}");
+        let error = Table::new(&value).write(&mut out).unwrap_err();
+        assert_eq!(
+            (error.refusal, error.unfit),
+            (Refusal::Unfit, Some(Unfit::Number)),
+            "{token}"
+        );
+        assert_eq!(error.to_string(), "refusal 1: the text of a number is none");
+        assert_eq!(value.write_to_vec(), Err(error), "{token}");
     }
     assert_eq!(out, [0xaa; 64]);
+    // Of a table that no value made nothing more is known.
+    assert_eq!(
+        j8::write_json8(&[9, 1, 0, 0], b"", b"", &mut out),
+        Err(unfit)
+    );
 }
 
 // ----------------------------------------------------------------- limits
@@ -262,4 +266,126 @@ fn empty_slices() {
     assert_eq!(library(&parts, &mut [0; 2]), done(2));
     parts.table = vec![6, 1, 0, 1];
     assert_eq!(library(&parts, &mut []), refused(1));
+}
+
+/// So deep that a function which calls itself would run out of stack.
+fn abyss(levels: usize, pairs: bool) -> Value {
+    (0..levels).fold(Value::Null, |inner, _| match pairs {
+        false => Value::List(vec![inner, Value::Bool(true)]),
+        true => Value::Dict(vec![(b"k".to_vec(), inner)]),
+    })
+}
+
+#[test]
+fn a_value_of_any_depth_is_no_danger() {
+    for pairs in [false, true] {
+        let value = abyss(100_000, pairs);
+        let error = value.write_to_vec().unwrap_err();
+        assert_eq!(
+            (error.refusal, error.unfit),
+            (Refusal::Unfit, Some(Unfit::TooDeep))
+        );
+        assert_eq!(
+            error.to_string(),
+            "refusal 1: the value is over 32 brackets deep"
+        );
+        assert_eq!(Table::new(&value).write(&mut [0; 64]).unwrap_err(), error);
+
+        // Cloned, compared, hashed, shown and dropped, on a stack as a thread's is at least.
+        let other = value.clone();
+        assert!(value == other);
+        assert!(value != abyss(99_999, pairs));
+        assert_eq!(hash_of(&value), hash_of(&other));
+        assert_eq!(format!("{value:?}").matches("..").count(), 1);
+    }
+}
+
+fn hash_of(value: &Value) -> u64 {
+    let mut hasher = DefaultHasher::new();
+    value.hash(&mut hasher);
+    hasher.finish()
+}
+
+#[test]
+fn what_is_unfit_of_a_value_is_told() {
+    let told = |value: Value| value.write_to_vec().map_err(|error| error.unfit);
+    assert_eq!(told(nest(33)), Err(Some(Unfit::TooDeep)));
+    assert_eq!(told(Value::List(vec![nest(32)])), Err(Some(Unfit::TooDeep)));
+    assert!(told(nest(32)).is_ok());
+    assert_eq!(
+        told(Value::List(vec![Value::Null; 1_024])),
+        Err(Some(Unfit::TooManyNodes))
+    );
+    assert!(told(Value::List(vec![Value::Null; 1_023])).is_ok());
+    for token in ["", "01", "1.", "-", "+1", "1e", "0x1", "Infinity", "1 "] {
+        assert_eq!(
+            told(Value::Number(token.to_string())),
+            Err(Some(Unfit::Number)),
+            "{token}"
+        );
+    }
+    // Too deep is told before too many, and that before a bad number.
+    let both = Value::List(vec![nest(32), Value::List(vec![number("01"); 1_024])]);
+    assert_eq!(told(both), Err(Some(Unfit::TooDeep)));
+    assert_eq!(
+        told(Value::List(vec![number("01"); 1_024])),
+        Err(Some(Unfit::TooManyNodes))
+    );
+    // A room that is too short is no matter of the value.
+    let error = Table::new(&Value::Null).write(&mut [0; 3]).unwrap_err();
+    assert_eq!((error.refusal, error.unfit), (Refusal::NoRoom, None));
+}
+
+#[test]
+fn values_are_made_and_compared_by_what_they_hold() {
+    let value = Value::from(vec![
+        (b"tray".to_vec(), Value::from(2_u64)),
+        (b"offset".to_vec(), Value::from(-3_i64)),
+        (b"name".to_vec(), Value::from("Front desk")),
+        (b"folder".to_vec(), Value::from(b"caf\xe9".as_slice())),
+        (
+            b"flags".to_vec(),
+            Value::from(vec![Value::from(true), Value::default()]),
+        ),
+    ]);
+    let text =
+        br#"{"tray":2,"offset":-3,"name":"Front desk","folder":b'caf\ye9',"flags":[true,null]}"#;
+    assert_eq!(value.write_to_vec().unwrap(), text);
+    assert_eq!(
+        value,
+        Json8::read(text.as_slice()).unwrap().root().to_value()
+    );
+    assert_eq!(value, value.clone());
+    assert_eq!(
+        format!("{:?}", Value::from(vec![Value::from("a")])),
+        "List([String([97])])"
+    );
+
+    // Order, keys, kinds and lengths all count.
+    let list =
+        |members: &[u64]| Value::from(members.iter().map(|n| Value::from(*n)).collect::<Vec<_>>());
+    let dict = |key: &str| Value::from(vec![(key.as_bytes().to_vec(), Value::Null)]);
+    let all = [
+        Value::Null,
+        Value::from(false),
+        Value::from(true),
+        Value::from(1_u64),
+        Value::from("1"),
+        Value::from("2"),
+        list(&[]),
+        list(&[1]),
+        list(&[2]),
+        list(&[1, 2]),
+        list(&[2, 1]),
+        Value::from(vec![list(&[1])]),
+        dict("a"),
+        dict("b"),
+        Value::from(Vec::<(Vec<u8>, Value)>::new()),
+    ];
+    for (i, a) in all.iter().enumerate() {
+        for (j, b) in all.iter().enumerate() {
+            assert_eq!(a == b, i == j, "{a:?} and {b:?}");
+            assert!(i == j || hash_of(a) != hash_of(b), "{a:?} and {b:?}");
+        }
+    }
 }

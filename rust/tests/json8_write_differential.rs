@@ -7,7 +7,7 @@
 mod written;
 
 use j8::raw::j8_result;
-use j8::{Json8, Table, Value};
+use j8::{Json8, Table, Unfit, Value};
 use j8_inputs::made::{self, text};
 use j8_inputs::random::{self, Random};
 use j8_inputs::trees::{self, form, meaning, size, sized, sound, Damage, Parts, DAMAGES};
@@ -232,13 +232,21 @@ fn values_come_back() {
         let table = Table::new(&value);
         let (nodes, depth) = size(&value);
         let what = format!("case {back}");
-        assert_eq!(table.numbers().len(), 4 * nodes, "{what}");
+        if depth <= j8::DEPTH_MAX {
+            assert_eq!(table.numbers().len(), 4 * nodes, "{what}");
+        }
 
         let text = match table.write_to_vec() {
             Ok(text) => text,
             Err(refusal) => {
                 assert_eq!((refusal.number(), refusal.place), (1, 0), "{what}");
                 assert!(nodes > 1_024 || depth > 32, "{what}: {value:?}");
+                let why = if depth > 32 {
+                    Unfit::TooDeep
+                } else {
+                    Unfit::TooManyNodes
+                };
+                assert_eq!(refusal.unfit, Some(why), "{what}");
                 see(&mut seen, if nodes > 1_024 { "wide" } else { "deep" });
                 continue;
             }

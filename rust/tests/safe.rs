@@ -4,11 +4,7 @@ use j8::{Error, Refusal};
 use std::collections::BTreeSet;
 
 fn error(refusal: Refusal, place: usize) -> Error {
-    Error {
-        refusal,
-        line: None,
-        place,
-    }
+    Error::new(refusal, place)
 }
 
 #[test]
@@ -122,10 +118,7 @@ fn errors_say_what_and_where() {
         assert!(said.ends_with(&format!(": {refusal}")), "{said}");
         sentences.insert(refusal.to_string());
 
-        let in_line = Error {
-            line: Some(7),
-            ..plain
-        };
+        let in_line = plain.in_line(7);
         let start = format!("refusal {number} in line 7 at byte 5: ");
         assert!(in_line.to_string().starts_with(&start), "{in_line}");
     }

@@ -299,11 +299,8 @@ const ITS_RECORDS: [Record; 3] = [
 ];
 
 fn error(refusal: Refusal, line: Option<usize>, place: usize) -> Error {
-    Error {
-        refusal,
-        line,
-        place,
-    }
+    let plain = Error::new(refusal, place);
+    line.map_or(plain, |line| plain.in_line(line))
 }
 
 #[test]

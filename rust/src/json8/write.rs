@@ -9,6 +9,7 @@ use crate::{raw, Error, Refusal};
 ///
 /// # Panics
 /// If no `usize` can hold it.
+#[must_use]
 pub const fn write_json8_room(length: usize) -> usize {
     match length.checked_mul(2) {
         Some(room) => room,
@@ -106,6 +107,7 @@ impl Nodes<'_> {
     }
 
     /// Writes the nodes as a JSON8 text into a vector of its own.
+    #[must_use]
     pub fn write_to_vec(&self) -> Vec<u8> {
         write_json8_to_vec(self.table, self.text, self.store).expect("what was read is fit")
     }
@@ -139,6 +141,7 @@ impl Json8 {
     /// assert_eq!(j8::Json8::read(text.as_slice())?.write_to_vec(), text);
     /// # Ok::<(), j8::Error>(())
     /// ```
+    #[must_use]
     pub fn write_to_vec(&self) -> Vec<u8> {
         self.nodes().write_to_vec()
     }

@@ -21,7 +21,10 @@ fn fields(row: &str) -> Vec<String> {
             last.push(letter);
         }
     }
-    let end = parts.iter().position(|part| part.starts_with('#')).unwrap_or(parts.len());
+    let end = parts
+        .iter()
+        .position(|part| part.starts_with('#'))
+        .unwrap_or(parts.len());
     parts.truncate(end);
     parts
 }
@@ -40,9 +43,10 @@ fn parts(field: &str) -> Vec<(String, usize)> {
     }
     list.into_iter()
         .map(|part| match part.rfind('*') {
-            Some(at) if part[at + 1..].parse::<usize>().is_ok() && !part.ends_with('|') => {
-                (part[..at].to_string(), part[at + 1..].parse().expect("a count"))
-            }
+            Some(at) if part[at + 1..].parse::<usize>().is_ok() && !part.ends_with('|') => (
+                part[..at].to_string(),
+                part[at + 1..].parse().expect("a count"),
+            ),
             _ => (part, 1),
         })
         .collect()
@@ -103,7 +107,8 @@ fn nodes(table: &[u32]) -> String {
     let mut out = String::new();
     let mut more = 0;
     for (i, &number) in table.iter().enumerate() {
-        let goes_on = i >= 8 && number.wrapping_sub(table[i - 4]) == table[i - 4].wrapping_sub(table[i - 8]);
+        let goes_on =
+            i >= 8 && number.wrapping_sub(table[i - 4]) == table[i - 4].wrapping_sub(table[i - 8]);
         if goes_on {
             more += 1;
             continue;
@@ -156,7 +161,10 @@ fn token_read(text: &[u8], room: usize) -> String {
 fn line_read(line: &[u8], room: usize) -> String {
     let mut record = vec![0xaa; room + lines::RECORD_HEAD];
     let answer = match line.len() > lines::LINE_MAX {
-        true => Err(Refusal { number: 2, place: lines::LINE_MAX }),
+        true => Err(Refusal {
+            number: 2,
+            place: lines::LINE_MAX,
+        }),
         false => lines::read_line(line, &mut record),
     };
     let (head, payload) = record.split_at(lines::RECORD_HEAD);
@@ -177,9 +185,21 @@ fn upload(held: usize, room: usize, calls: &str) -> String {
             None => state.finish(&line, &mut out),
         };
         state = next;
-        answers.push(format!("{},{},{}", answer.number, answer.line, answer.place));
+        answers.push(format!(
+            "{},{},{}",
+            answer.number, answer.line, answer.place
+        ));
     }
-    let Upload { taken, lfs, held, used, ended, refusal, line: number, place } = state;
+    let Upload {
+        taken,
+        lfs,
+        held,
+        used,
+        ended,
+        refusal,
+        line: number,
+        place,
+    } = state;
     format!(
         "{} {taken},{lfs},{held},{used},{},{refusal},{number},{place} {} {}",
         answers.join(";"),
@@ -202,7 +222,10 @@ fn json8_show(table: &[u32], text: &[u8], store: &[u8], node: usize) -> String {
     match json8::show(table, text, store, node) {
         Some(shown) => {
             let buffer = if shown.stored { store } else { text };
-            format!("0 {}", runs(&buffer[shown.place..shown.place + shown.length]))
+            format!(
+                "0 {}",
+                runs(&buffer[shown.place..shown.place + shown.length])
+            )
         }
         None => "1 -".to_string(),
     }
@@ -234,8 +257,18 @@ fn answer(row: &str) -> String {
         "line_read" => line_read(&bytes(field(1)), number(2)),
         "upload" => upload(number(1), number(2), field(3)),
         "json8_read" => json8_read(&bytes(field(1)), number(2), number(3)),
-        "json8_show" => json8_show(&numbers(field(1)), &bytes(field(2)), &bytes(field(3)), number(4)),
-        "json8_write" => json8_write(&numbers(field(1)), &bytes(field(2)), &bytes(field(3)), number(4)),
+        "json8_show" => json8_show(
+            &numbers(field(1)),
+            &bytes(field(2)),
+            &bytes(field(3)),
+            number(4),
+        ),
+        "json8_write" => json8_write(
+            &numbers(field(1)),
+            &bytes(field(2)),
+            &bytes(field(3)),
+            number(4),
+        ),
         call => panic!("no such call: {call}"),
     }
 }
