@@ -1,13 +1,26 @@
-# make test: the gate. make demo: the main job on samples. make archive: target/staticlib/libj8.a for C and Rust. make command: the command j8.
-# make install PREFIX=..: command, archive, header and j8.pc. make stack, make size: what the functions take. make bench: their speed beside others.
-# make axioms: what the proofs rest on. make compare, make load, make faults, make limits: docs/TESTING.md.
-.PHONY: test demo archive command examples install uninstall stack size axioms compare load faults limits bench clean
+# `make` alone prints what there is to make.
+.PHONY: help test demo archive command examples install uninstall stack size axioms compare load faults limits bench clean
+# Two runs of rt would share target/.
+.NOTPARALLEL:
 
-VERSION = $(shell sed -n 's/^.define J8_VERSION "\(.*\)"$$/\1/p' include/j8.h)
+# Where `make install` puts things; a folder that stands for / while a package is put together.
 PREFIX = /usr/local
-# A folder that stands for / while a package is put together.
 DESTDIR =
+export PREFIX DESTDIR
 STRICT = -O2 -Wall -Wextra -Werror -pedantic -Iinclude
+
+help:
+	@echo "make demo        the main job, on samples"
+	@echo "make test        the gate: every proof, wrong edit, test and example; 25 minutes on two cores"
+	@echo "make archive     target/staticlib/libj8.a, for C and Rust"
+	@echo "make command     the command j8, target/bin/command"
+	@echo "make install     command, archive, header and j8.pc to PREFIX ($(PREFIX)), below DESTDIR; make uninstall takes them away"
+	@echo "make examples    the programs of examples/c"
+	@echo "make stack size  what the functions take"
+	@echo "make bench       their speed beside others: docs/BENCHMARKS.md"
+	@echo "make axioms      what the proofs rest on"
+	@echo "make compare load faults limits   longer tests: docs/TESTING.md"
+	@echo "make clean       removes all that was built"
 
 test:
 	bash .ci/run
@@ -15,16 +28,13 @@ test:
 archive: target/staticlib/libj8.a
 
 target/staticlib/libj8.a: crates.txt $(shell find crates -type f)
-	@echo "Proving the library and writing $@: some minutes the first time, six of processor time."
-	@mkdir -p target
-	@rt staticlib j8 >target/archive.log 2>&1 || { cat target/archive.log; exit 1; }
+	@bash tools/prove.sh target/archive.log rt staticlib j8
 
 command: target/bin/command
 
 target/bin/command: crates.txt $(shell find crates -type f)
-	@echo "Proving the command and writing $@: some minutes the first time, seven of processor time."
-	@mkdir -p target
-	@rt check command >target/command.log 2>&1 || { cat target/command.log; exit 1; }
+	@bash tools/prove.sh target/command.log rt check command
+	@touch $@
 
 demo: command
 	@bash samples/demo.sh target/bin/command
@@ -37,21 +47,11 @@ examples: archive
 	done
 	@echo "built: target/examples/upload, target/examples/restore"
 
-root = $(DESTDIR)$(abspath $(PREFIX))
-
-# put MODE FILE FOLDER: copies it to the folder below the prefix, and says so.
-put = install -d "$(root)/$(3)" && install -m $(1) $(2) "$(root)/$(3)/" && echo "installed: $(root)/$(3)/$(notdir $(2))"
-
 install: archive command
-	@cp target/bin/command target/j8
-	@$(call put,755,target/j8,bin)
-	@sed -e 's|@PREFIX@|$(abspath $(PREFIX))|' -e 's|@VERSION@|$(VERSION)|' j8.pc.in >target/j8.pc
-	@$(call put,644,target/staticlib/libj8.a,lib)
-	@$(call put,644,include/j8.h,include)
-	@$(call put,644,target/j8.pc,lib/pkgconfig)
+	@bash tools/install.sh
 
 uninstall:
-	rm -f "$(root)/bin/j8" "$(root)/lib/libj8.a" "$(root)/include/j8.h" "$(root)/lib/pkgconfig/j8.pc"
+	@bash tools/install.sh remove
 
 # What each function takes of the stack, held to what j8.h says. memcpy and memset are bound at the start, so that the dynamic linker isn't measured.
 stack: archive
@@ -70,8 +70,7 @@ size: archive
 
 # Proves what has changed, and prints what each crate's proof rests on.
 axioms:
-	@mkdir -p target
-	@rt check >target/check.log 2>&1 || { cat target/check.log; exit 1; }
+	@bash tools/prove.sh target/check.log rt check
 	@bash .ci/axioms
 
 # Every function beside the reference, J8_SECONDS for each entry (20), from J8_SEED (1), J8_JOBS at once (the cores).
