@@ -2,7 +2,8 @@
  * j8.h - J8 Notation strings, lines and JSON8 for printer backups.
  *
  * C99 and C++. Link with libj8.a; `pkg-config --cflags --libs j8` says how. The
- * archive needs nothing but memcpy and memset.
+ * archive is for x86-64 (any, SSE2 suffices), with the calling convention of
+ * Linux, and needs nothing but memcpy and memset.
  *
  *   strings   j8_string_read, j8_string_write
  *   lines     j8_upload_fresh, j8_upload_feed, j8_upload_finish: a text that
@@ -41,8 +42,15 @@
 #include <stddef.h>
 #include <stdint.h>
 
+#if SIZE_MAX != 0xffffffffffffffff
+#error "libj8.a was built for a size_t of 64 bits"
+#endif
+
 /* The version of this header and of the archive beside it. */
 #define J8_VERSION "0.1.0"
+#define J8_VERSION_MAJOR 0
+#define J8_VERSION_MINOR 1
+#define J8_VERSION_PATCH 0
 
 #ifdef __cplusplus
 extern "C" {

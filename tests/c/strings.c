@@ -221,9 +221,18 @@ static int round_trips(void)
     return 1;
 }
 
+/* The version by its numbers is the version by its text. */
+static int version(void)
+{
+    char text[32];
+
+    sprintf(text, "%d.%d.%d", J8_VERSION_MAJOR, J8_VERSION_MINOR, J8_VERSION_PATCH);
+    return check(strcmp(text, J8_VERSION) == 0, "version");
+}
+
 int main(void)
 {
-    if (!examples() || !forms() || !nulls() || !cap() || !round_trips()) {
+    if (!version() || !examples() || !forms() || !nulls() || !cap() || !round_trips()) {
         return 1;
     }
     printf("c: %lu checks passed\n", checks);
