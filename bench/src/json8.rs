@@ -89,7 +89,7 @@ impl Text {
     }
 }
 
-/// Reads all texts, one behind another.
+/// Reads all texts, one behind another; the compiler knows none of them.
 fn in_turn(texts: &'static [Text], mut read: impl FnMut(&Text) + 'static) -> Call {
     Box::new(move || {
         for text in black_box(texts) {
@@ -133,7 +133,7 @@ pub fn case(plan: Plan) -> Case {
             OURS,
             in_turn(texts, move |text| {
                 black_box(ours(
-                    black_box(text.bytes()),
+                    text.bytes(),
                     black_box(&mut table),
                     black_box(&mut store),
                 ));
@@ -142,7 +142,7 @@ pub fn case(plan: Plan) -> Case {
         (
             "Value",
             in_turn(texts, |text| {
-                let _ = black_box(serde_json::from_slice::<Value>(black_box(text.bytes())));
+                let _ = black_box(serde_json::from_slice::<Value>(text.bytes()));
             }),
         ),
     ];
@@ -150,23 +150,21 @@ pub fn case(plan: Plan) -> Case {
         calls.push((
             name,
             in_turn(texts, move |text| {
-                black_box(black_box(text).read_by(peer, false));
+                black_box(text.read_by(peer, false));
             }),
         ));
     }
     calls.push((
         "IgnoredAny",
         in_turn(texts, |text| {
-            let _ = black_box(serde_json::from_slice::<IgnoredAny>(black_box(
-                text.bytes(),
-            )));
+            let _ = black_box(serde_json::from_slice::<IgnoredAny>(text.bytes()));
         }),
     ));
     calls.push((
         "reference",
         in_turn(texts, move |text| {
             let _ = black_box(j8_reference::json8::read(
-                black_box(text.bytes()),
+                text.bytes(),
                 black_box(&mut their_table),
                 black_box(&mut their_store),
             ));
