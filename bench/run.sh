@@ -1,7 +1,8 @@
 #!/usr/bin/env bash
 # The whole benchmark: builds of several code layouts, their times, the instructions, and from these docs/BENCHMARKS.md and docs/plots.
-# J8_ROUNDS: rounds for each layout (120). J8_LAYOUTS: how many (12).
+# J8_ROUNDS: rounds for each layout (120). J8_LAYOUTS: how many (12). J8_DOCS: another folder for document and plots.
 set -eu
+docs=$(realpath -m "${J8_DOCS:-$(dirname "$0")/../docs}")
 cd "$(dirname "$0")"
 
 rounds=${J8_ROUNDS:-120}
@@ -44,4 +45,4 @@ GLIBC_TUNABLES=$loops valgrind --tool=callgrind --toggle-collect=j8_bench_counte
   echo "passes	$passes"
   echo "layouts	$layouts"
 } >>$run/facts.tsv
-$run/bench-0 report $run ../docs
+$run/bench-0 report $run "$docs"

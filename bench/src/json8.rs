@@ -2,91 +2,16 @@
 //! reference, serde_json and the C and C++ peers.
 
 use super::race::{keep, Call, Case, Plan, OURS};
+use super::texts::{kind, texts_of, LIMIT};
 use serde::de::IgnoredAny;
 use serde_json::Value;
 use std::hint::black_box;
 
-pub const SIZES: [usize; 3] = [1_024, 8_192, 32_768];
+/// Of the kinds that aren't dense.
+pub const SIZES: [usize; 3] = [1_024, 8_192, LIMIT];
 
-pub const KIND_NAMES: [&str; 4] = [KINDS[0].name, KINDS[1].name, KINDS[2].name, KINDS[3].name];
-
-/// What a text is made of: its head, its tail, and an entry of each number.
-struct Kind {
-    name: &'static str,
-    head: &'static str,
-    tail: &'static str,
-    entry: fn(usize) -> String,
-}
-
-/// Entries have 32 bytes a node or more, so that the longest text stays within
-/// 1,024 nodes.
-const KINDS: [Kind; 4] = [
-    Kind {
-        name: "settings",
-        head: "{\n  \"model\": \"Office 2400\"",
-        tail: "\n}\n",
-        entry: |number| {
-            let value = match number % 5 {
-                0 => "true",
-                1 => "15",
-                2 => "null",
-                3 => "\"automatic\"",
-                _ => "0.75",
-            };
-            format!(",\n  \"network.wireless.interface_{number:04}.power_saving_timeout\": {value}")
-        },
-    },
-    Kind {
-        name: "strings",
-        head: "{\n  \"folders\": [\n    null",
-        tail: "\n  ]\n}\n",
-        entry: |number| {
-            format!(
-                ",\n    {{\"name\": \"Marketing-Invoices_{number:04} of the second floor\", \
-                 \"path\": \"scans/2024/Marketing-Invoices_{number:04}/Incoming/Letters-and-Bills/\
-                 Checked/Paid\", \"note\": \"Zoë Müller looks after this folder every Monday \
-                 morning; 東京 office has a copy\"}}"
-            )
-        },
-    },
-    Kind {
-        name: "escapes",
-        head: "{\n  \"folders\": [\n    null",
-        tail: "\n  ]\n}\n",
-        entry: |number| {
-            format!(
-                ",\n    {{\"name\": \"Marketing \\\"Invoices\\\" {number:04}\\tof the \\u0032nd \
-                 floor\", \"path\": \"scans\\\\2024\\\\Marketing-Invoices_{number:04}\\\\Incoming\
-                 \\\\Letters-and-Bills\\\\Paid\", \"note\": \"Zo\\u00eb M\\u00fcller looks after \
-                 this folder\\nevery Monday \\ud83e\\udd26 morning\"}}"
-            )
-        },
-    },
-    Kind {
-        name: "numbers",
-        head: "{\n  \"calibration\": [\n    0",
-        tail: "\n  ]\n}\n",
-        entry: |number| {
-            // Fifteen digits, which every reader of doubles takes by its short way.
-            let (sign, whole) = (["", "-"][number % 2], 1_000 + number % 9_000);
-            let exponent = number % 20;
-            format!(",\n            {sign}{whole}.67890123{number:03}e-{exponent:02}")
-        },
-    },
-];
-
-fn backup(kind: &Kind, size: usize) -> Vec<u8> {
-    let mut text = kind.head.to_string();
-    for number in 0.. {
-        let entry = (kind.entry)(number);
-        if text.len() + entry.len() + kind.tail.len() > size {
-            break;
-        }
-        text += &entry;
-    }
-    text += kind.tail;
-    text.into_bytes()
-}
+/// A dense text has a node in so many bytes or less; so 7 KiB have over 512.
+const NODE_BYTES: usize = 11;
 
 /// The nodes of a tree, keys with them.
 fn nodes_of(value: &Value) -> usize {
@@ -141,40 +66,74 @@ fn ours(text: &[u8], table: &mut [u32], store: &mut [u8]) -> j8::raw::j8_nodes {
 /// The peers' names, in their order.
 const PEER_NAMES: [&str; 5] = ["yajl", "cJSON", "RapidJSON", "RapidJSON+UTF-8", "simdjson"];
 
-pub fn text_of(plan: Plan) -> Vec<u8> {
-    let kind = KINDS.iter().find(|kind| kind.name == plan.kind);
-    backup(kind.expect("a kind of text"), plan.size)
+/// A text, with the bytes behind it that simdjson asks for.
+struct Text {
+    padded: Vec<u8>,
+    length: usize,
+}
+
+impl Text {
+    fn new(text: Vec<u8>) -> Text {
+        let length = text.len();
+        let padded = [text, vec![0; BEHIND]].concat();
+        Text { padded, length }
+    }
+
+    fn bytes(&self) -> &[u8] {
+        &self.padded[..self.length]
+    }
+
+    fn read_by(&self, peer: Peer, count: bool) -> usize {
+        // SAFETY: the bytes behind the text may be read too.
+        unsafe { peer(self.padded.as_ptr(), self.length, count) }
+    }
+}
+
+/// Reads all texts, one behind another; the compiler knows none of them.
+fn in_turn(texts: &'static [Text], mut read: impl FnMut(&Text) + 'static) -> Call {
+    Box::new(move || {
+        for text in black_box(texts) {
+            read(text);
+        }
+    })
 }
 
 pub fn case(plan: Plan) -> Case {
-    let text = keep(text_of(plan)).as_slice();
-    let padded = keep([text, &[0; BEHIND]].concat());
-    let (mut table, mut store) = (vec![0; j8::TABLE_ROOM], vec![0; text.len()]);
+    let texts = keep(
+        texts_of(plan)
+            .into_iter()
+            .map(Text::new)
+            .collect::<Vec<_>>(),
+    )
+    .as_slice();
+    let bytes = texts.iter().map(|text| text.length).sum();
+    let (mut table, mut store) = (vec![0; j8::TABLE_ROOM], vec![0; plan.size]);
     let (mut their_table, mut their_store) = (table.clone(), store.clone());
 
-    // All must take the text, and see the same nodes.
-    let got = ours(text, &mut table, &mut store);
-    assert_eq!(got.number, 0);
-    let filled = j8_reference::json8::read(text, &mut their_table, &mut their_store)
-        .expect("the reference takes the text");
-    assert_eq!((filled.nodes, filled.stored), (got.nodes, got.stored));
-    assert!(table == their_table && store == their_store);
-    let value: Value = serde_json::from_slice(text).expect("the text is JSON");
-    assert_eq!(nodes_of(&value), got.nodes);
-    for peer in PEERS {
-        // SAFETY: the bytes behind the text may be read too.
-        assert_eq!(
-            unsafe { peer(padded.as_ptr(), text.len(), true) },
-            got.nodes
-        );
+    // All must take the texts, and see the same nodes.
+    let mut nodes = 0;
+    for text in texts {
+        let got = ours(text.bytes(), &mut table, &mut store);
+        assert_eq!(got.number, 0);
+        let filled = j8_reference::json8::read(text.bytes(), &mut their_table, &mut their_store)
+            .expect("the reference takes the text");
+        assert_eq!((filled.nodes, filled.stored), (got.nodes, got.stored));
+        assert!(table == their_table && store == their_store);
+        let value: Value = serde_json::from_slice(text.bytes()).expect("the text is JSON");
+        assert_eq!(nodes_of(&value), got.nodes);
+        for peer in PEERS {
+            assert_eq!(text.read_by(peer, true), got.nodes);
+        }
+        nodes += got.nodes;
     }
+    assert!(!kind(plan.kind).dense() || bytes <= NODE_BYTES * nodes);
 
     let mut calls: Vec<(&'static str, Call)> = vec![
         (
             OURS,
-            Box::new(move || {
+            in_turn(texts, move |text| {
                 black_box(ours(
-                    black_box(text),
+                    text.bytes(),
                     black_box(&mut table),
                     black_box(&mut store),
                 ));
@@ -182,31 +141,30 @@ pub fn case(plan: Plan) -> Case {
         ),
         (
             "Value",
-            Box::new(move || {
-                let _ = black_box(serde_json::from_slice::<Value>(black_box(text)));
+            in_turn(texts, |text| {
+                let _ = black_box(serde_json::from_slice::<Value>(text.bytes()));
             }),
         ),
     ];
     for (name, peer) in PEER_NAMES.into_iter().zip(PEERS) {
         calls.push((
             name,
-            Box::new(move || {
-                // SAFETY: as above.
-                black_box(unsafe { peer(black_box(padded).as_ptr(), text.len(), false) });
+            in_turn(texts, move |text| {
+                black_box(text.read_by(peer, false));
             }),
         ));
     }
     calls.push((
         "IgnoredAny",
-        Box::new(move || {
-            let _ = black_box(serde_json::from_slice::<IgnoredAny>(black_box(text)));
+        in_turn(texts, |text| {
+            let _ = black_box(serde_json::from_slice::<IgnoredAny>(text.bytes()));
         }),
     ));
     calls.push((
         "reference",
-        Box::new(move || {
+        in_turn(texts, move |text| {
             let _ = black_box(j8_reference::json8::read(
-                black_box(text),
+                text.bytes(),
                 black_box(&mut their_table),
                 black_box(&mut their_store),
             ));
@@ -214,7 +172,7 @@ pub fn case(plan: Plan) -> Case {
     ));
     Case {
         plan,
-        bytes: text.len(),
+        bytes,
         contestants: calls,
     }
 }

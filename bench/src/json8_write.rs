@@ -1,8 +1,8 @@
 //! Writing the tables of the reader's settings backups, beside the reference,
 //! serde_json and the C and C++ peers.
 
-use super::json8::text_of;
 use super::race::{keep, Call, Case, Plan, OURS};
+use super::texts::texts_of;
 use serde_json::Value;
 use std::ffi::{c_char, c_void, CStr};
 use std::hint::black_box;
@@ -120,7 +120,7 @@ fn reference(nodes: j8::Nodes, out: &mut [u8]) -> usize {
 const PEER_NAMES: [&str; 3] = ["RapidJSON", "RapidJSON+UTF-8", "cJSON"];
 
 pub fn case(plan: Plan) -> Case {
-    let text = keep(text_of(plan)).as_slice();
+    let text = keep(texts_of(plan))[0].as_slice();
     let nodes = keep(j8::Json8::read(text).expect("our reader takes the text")).nodes();
     let value: Value = serde_json::from_slice(text).expect("the text is JSON");
     // Six for each node and byte suffice for any table, so nobody has to measure.

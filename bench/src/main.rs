@@ -7,13 +7,21 @@ mod plot;
 mod race;
 mod report;
 mod strings;
+mod texts;
 mod upload;
 
 use race::{race, race_case, Call, Case, Plan, OURS};
 use std::path::Path;
 
 /// The tables, by the words that name them on the command line.
-const JOBS: [&str; 5] = ["read", "write", "upload", "json8", "json8_write"];
+const JOBS: [&str; 6] = [
+    "read",
+    "write",
+    "upload",
+    "json8",
+    "json8_dense",
+    "json8_write",
+];
 
 /// Calls before the counted ones, so that memory which is kept is there.
 const WARM_CALLS: usize = 3;
@@ -25,11 +33,11 @@ const COUNTED_CALLS: usize = 4;
 /// Bytes that a pass shifts the heap by: no divisor of a page.
 const HEAP_SHIFT: usize = 1_360;
 
-fn kinds(job: &str) -> [&'static str; 4] {
+fn kinds(job: &str) -> Vec<&'static str> {
     match job {
-        "read" | "write" => strings::KINDS,
-        "upload" => upload::KINDS,
-        _ => json8::KIND_NAMES,
+        "read" | "write" => strings::KINDS.to_vec(),
+        "upload" => upload::KINDS.to_vec(),
+        _ => texts::names(job == "json8_dense"),
     }
 }
 
@@ -37,59 +45,78 @@ fn case(plan: Plan) -> Case {
     match plan.job {
         "read" | "write" => strings::case(plan),
         "upload" => upload::case(plan),
-        "json8" => json8::case(plan),
+        "json8" | "json8_dense" => json8::case(plan),
         _ => json8_write::case(plan),
+    }
+}
+
+/// Plans of a job and kind, by size, piece and texts.
+fn plans_of(
+    job: &'static str,
+    kind: &'static str,
+    rows: impl IntoIterator<Item = (usize, usize, usize)>,
+) -> Vec<Plan> {
+    let plan = |(size, piece, texts)| Plan {
+        job,
+        kind,
+        size,
+        piece,
+        texts,
+    };
+    rows.into_iter().map(plan).collect()
+}
+
+/// The rows of a kind in a job's table.
+fn rows(job: &'static str, kind: &'static str) -> Vec<Plan> {
+    match job {
+        "read" | "write" => plans_of(job, kind, strings::SIZES.map(|size| (size, 0, 1))),
+        "upload" => plans_of(
+            job,
+            kind,
+            upload::PIECES.map(|(piece, size)| (size, piece, 1)),
+        ),
+        "json8_dense" => {
+            let rows = texts::kind(kind).rows();
+            plans_of(job, kind, rows.map(|(texts, size)| (size, 0, texts)))
+        }
+        _ => plans_of(job, kind, json8::SIZES.map(|size| (size, 0, 1))),
     }
 }
 
 /// The rows of a job's table.
 fn plans(job: &'static str) -> Vec<Plan> {
-    let sizes: Vec<(usize, usize)> = match job {
-        "read" | "write" => strings::SIZES.map(|size| (size, 0)).to_vec(),
-        "upload" => upload::PIECES.map(|(piece, size)| (size, piece)).to_vec(),
-        _ => json8::SIZES.map(|size| (size, 0)).to_vec(),
-    };
-    all(job, &sizes)
+    let rows_of = |kind| rows(job, kind);
+    kinds(job).into_iter().flat_map(rows_of).collect()
 }
 
-/// The sizes of a job's curve, each twice the one before it, up to the limit.
-fn curve_sizes(job: &str) -> Vec<(usize, usize)> {
+/// The sizes of a kind's curve, up to the limit: each twice the one before it, or
+/// of dense texts a KiB more, so that a step at any number of nodes shows.
+fn curve(job: &'static str, kind: &'static str) -> Vec<Plan> {
     let (least, limit, piece) = match job {
         "read" | "write" => (16, strings::LIMIT, 0),
         "upload" => (4_096, j8::UPLOAD_MAX, upload::PACKET),
-        _ => (1_024, 32_768, 0),
+        _ => (1_024, texts::kind(kind).most, 0),
     };
-    let doubled = std::iter::successors(Some(least), |size| Some(2 * size));
-    doubled
-        .take_while(|size| *size <= limit)
-        .map(|size| (size, piece))
-        .collect()
+    let next = |size: &usize| match job {
+        "json8_dense" => Some(size + 1_024),
+        _ => Some(2 * size),
+    };
+    let sizes = std::iter::successors(Some(least), next).take_while(|size| *size <= limit);
+    plans_of(job, kind, sizes.map(|size| (size, piece, 1)))
 }
 
-fn all(job: &'static str, sizes: &[(usize, usize)]) -> Vec<Plan> {
-    let mut plans = Vec::new();
-    for kind in kinds(job) {
-        for &(size, piece) in sizes {
-            plans.push(Plan {
-                job,
-                kind,
-                size,
-                piece,
-            });
-        }
-    }
-    plans
-}
-
-/// The rows whose instructions are counted: 1 KiB and more; of uploads packets, of
-/// a short and of the longest text.
+/// The rows whose instructions are counted: one text of 1 KiB and more; of uploads
+/// packets, of a short and of the longest text.
 fn counted_plans() -> Vec<Plan> {
-    let uploads = [16_384, j8::UPLOAD_MAX].map(|size| (size, upload::PACKET));
+    let uploads = [16_384, j8::UPLOAD_MAX].map(|size| (size, upload::PACKET, 1));
+    let counted = |plan: &Plan| plan.size >= 1_024 && plan.texts == 1;
     let mut rows = Vec::new();
     for job in JOBS {
         match job {
-            "upload" => rows.extend(all(job, &uploads)),
-            _ => rows.extend(plans(job).into_iter().filter(|plan| plan.size >= 1_024)),
+            "upload" => kinds(job)
+                .into_iter()
+                .for_each(|kind| rows.extend(plans_of(job, kind, uploads))),
+            _ => rows.extend(plans(job).into_iter().filter(counted)),
         }
     }
     rows
@@ -118,8 +145,8 @@ fn tables(wanted: &[String]) {
                 println!();
                 println!("{job}: ns a call, ns a byte of the text, and how many times as long the others take");
                 print!(
-                    "{:<12} {:>7} {:>6}  {:>9} {:>7} ",
-                    "kind", "bytes", "piece", OURS, "a byte"
+                    "{:<13} {:>7} {:>6} {:>6} {:>9} {:>7} ",
+                    "kind", "bytes", "piece", "texts", OURS, "a byte"
                 );
                 for (name, _) in &case.contestants[1..] {
                     print!(" {name:>10}");
@@ -127,10 +154,11 @@ fn tables(wanted: &[String]) {
                 println!();
             }
             print!(
-                "{:<12} {:>7} {:>6}  {:>9.1} {:>7.3} ",
+                "{:<13} {:>7} {:>6} {:>6} {:>9.1} {:>7.3} ",
                 plan.kind,
                 case.bytes,
                 plan.piece,
+                plan.texts,
                 least[0],
                 least[0] / case.bytes as f64
             );
@@ -148,8 +176,9 @@ fn line(series: &str, plan: Plan, bytes: usize, name: &str, value: f64) {
         kind,
         size,
         piece,
+        texts,
     } = plan;
-    println!("{series}\t{job}\t{kind}\t{size}\t{piece}\t{bytes}\t{name}\t{value}");
+    println!("{series}\t{job}\t{kind}\t{size}\t{piece}\t{texts}\t{bytes}\t{name}\t{value}");
 }
 
 /// All times of this build, a line each, for the report. Each pass has its heap
@@ -167,12 +196,7 @@ fn measure(pass: usize) {
         }
         // A curve's sizes run against each other.
         for kind in kinds(job) {
-            let curve = all(job, &curve_sizes(job));
-            let mut cases: Vec<Case> = curve
-                .into_iter()
-                .filter(|plan| plan.kind == kind)
-                .map(case)
-                .collect();
+            let mut cases: Vec<Case> = curve(job, kind).into_iter().map(case).collect();
             let mut ours: Vec<&mut Call> = cases
                 .iter_mut()
                 .map(|case| &mut case.contestants[0].1)

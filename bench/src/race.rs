@@ -14,6 +14,8 @@ pub struct Plan {
     pub size: usize,
     /// The bytes of a piece of an upload, and 0 elsewhere.
     pub piece: usize,
+    /// How many texts of this size a call reads, one behind another.
+    pub texts: usize,
 }
 
 pub type Call = Box<dyn FnMut()>;

@@ -23,7 +23,19 @@ struct Job {
     marks: &'static [(&'static str, f64, bool)],
 }
 
-const JOBS: [Job; 5] = [
+/// The peers that read JSON8.
+const READERS: &[&str] = &[
+    "Value",
+    "cJSON",
+    "yajl",
+    "RapidJSON",
+    "RapidJSON+UTF-8",
+    "simdjson",
+    "IgnoredAny",
+    "reference",
+];
+
+const JOBS: [Job; 6] = [
     Job {
         word: "read",
         title: "Strings, read",
@@ -53,21 +65,20 @@ const JOBS: [Job; 5] = [
         title: "JSON8, read",
         rows: "size",
         plotted: "a row: kind and size of the text",
-        peers: &[
-            "Value",
-            "cJSON",
-            "yajl",
-            "RapidJSON",
-            "RapidJSON+UTF-8",
-            "simdjson",
-            "IgnoredAny",
-            "reference",
-        ],
+        peers: READERS,
         marks: &[
             ("Value", 1.0, true),
             ("cJSON", 1.0, true),
             ("yajl", 1.0, true),
         ],
+    },
+    Job {
+        word: "json8_dense",
+        title: "JSON8, dense texts read",
+        rows: "size",
+        plotted: "a row: kind and size of the text, or of each text in turn",
+        peers: READERS,
+        marks: &[("RapidJSON", 1.5, false), ("yajl", 1.5, false)],
     },
     Job {
         word: "json8_write",
@@ -86,8 +97,14 @@ const JOBS: [Job; 5] = [
     },
 ];
 
-/// A row of a table: kind, size and piece.
-type Key = (String, usize, usize);
+/// A row of a table, as its plan has it.
+#[derive(PartialEq)]
+struct Key {
+    kind: String,
+    size: usize,
+    piece: usize,
+    texts: usize,
+}
 
 /// The figures of a row: its text's bytes, and the contestants' by their names.
 #[derive(Default)]
@@ -103,9 +120,14 @@ type Rows = Vec<(Key, Figures)>;
 fn fields(line: &str) -> (String, String, Key, usize, String, f64) {
     let f: Vec<&str> = line.split('\t').collect();
     let number = |index: usize| f[index].parse::<usize>().expect("a number");
-    let key = (f[2].to_string(), number(3), number(4));
-    let value = f[7].parse().expect("a number");
-    (f[0].into(), f[1].into(), key, number(5), f[6].into(), value)
+    let key = Key {
+        kind: f[2].to_string(),
+        size: number(3),
+        piece: number(4),
+        texts: number(5),
+    };
+    let value = f[8].parse().expect("a number");
+    (f[0].into(), f[1].into(), key, number(6), f[7].into(), value)
 }
 
 /// All lines of a series, by job; the least of the passes for each layout.
@@ -174,7 +196,7 @@ fn range(figures: &Figures, peer: &str) -> Option<Range> {
 /// How many layouts meet all marks of a row; none if it has no mark.
 fn met(job: &Job, key: &Key, figures: &Figures) -> Option<(usize, usize)> {
     // Uploads are held to their marks in packets.
-    if job.word == "upload" && key.2 != PACKET {
+    if job.word == "upload" && key.piece != PACKET {
         return None;
     }
     let mut all: Option<Vec<bool>> = None;
@@ -229,11 +251,18 @@ fn span(range: Range) -> String {
     )
 }
 
-fn row_name(job: &Job, key: &Key) -> String {
-    match job.word {
-        "upload" => format!("{}, pieces of {}", key.0, bytes(key.2)),
-        _ => format!("{}, {}", key.0, bytes(key.1)),
+/// What a table's second column says of a row.
+fn row_size(key: &Key) -> String {
+    match key {
+        key if key.piece > 0 => bytes(key.piece),
+        key if key.texts > 1 => format!("{} × {}", key.texts, bytes(key.size)),
+        key => bytes(key.size),
     }
+}
+
+fn row_name(key: &Key) -> String {
+    let of = if key.piece > 0 { "pieces of " } else { "" };
+    format!("{}, {of}{}", key.kind, row_size(key))
 }
 
 // ----------------------------------------------------------------- tables
@@ -262,10 +291,9 @@ fn ratio_table(out: &mut String, job: &Job, rows: &Rows) {
     for (key, figures) in rows {
         let each = |times: &Vec<f64>| times.iter().map(|t| t / figures.bytes as f64).collect();
         let own = Range::of(each(&figures.values[OURS]));
-        let size = if job.word == "upload" { key.2 } else { key.1 };
         let mut cells = vec![
-            key.0.clone(),
-            bytes(size),
+            key.kind.clone(),
+            row_size(key),
             format!(
                 "{} ({}–{})",
                 short(own.median),
@@ -291,7 +319,7 @@ fn ratio_plot(job: &Job, rows: &Rows) -> String {
     let lines: Vec<Row> = rows
         .iter()
         .map(|(key, figures)| Row {
-            name: row_name(job, key),
+            name: row_name(key),
             values: peers.iter().map(|peer| range(figures, peer)).collect(),
         })
         .collect();
@@ -318,7 +346,7 @@ fn spread_table(out: &mut String, tables: &BTreeMap<String, Rows>) {
             for (key, figures) in rows {
                 if let Some(times) = figures.values.get(*name) {
                     let range = Range::of(times.clone());
-                    moved.push((range.greatest / range.least, row_name(job, key)));
+                    moved.push((range.greatest / range.least, row_name(key)));
                 }
             }
             moved.sort_by(|a, b| a.0.total_cmp(&b.0));
@@ -350,7 +378,7 @@ fn count_tables(out: &mut String, counted: &BTreeMap<String, Rows>) {
         columns.extend(job.peers.iter().map(|peer| shown_name(peer)));
         head(out, &columns);
         for (key, figures) in rows {
-            let mut cells = vec![key.0.clone(), bytes(key.1)];
+            let mut cells = vec![key.kind.clone(), bytes(key.size)];
             for name in [OURS].iter().chain(job.peers) {
                 let each = figures
                     .values
@@ -365,9 +393,9 @@ fn count_tables(out: &mut String, counted: &BTreeMap<String, Rows>) {
 
 fn kinds_of(rows: &Rows) -> Vec<&str> {
     let mut kinds: Vec<&str> = Vec::new();
-    for ((kind, ..), _) in rows {
-        if !kinds.contains(&kind.as_str()) {
-            kinds.push(kind);
+    for (key, _) in rows {
+        if !kinds.contains(&key.kind.as_str()) {
+            kinds.push(&key.kind);
         }
     }
     kinds
@@ -380,7 +408,7 @@ fn cost(figures: &Figures) -> f64 {
 
 fn curve_table(out: &mut String, job: &Job, rows: &Rows) {
     let kinds = kinds_of(rows);
-    let mut sizes: Vec<usize> = rows.iter().map(|((_, size, _), _)| *size).collect();
+    let mut sizes: Vec<usize> = rows.iter().map(|(key, _)| key.size).collect();
     sizes.sort();
     sizes.dedup();
     let _ = writeln!(out, "\n{}:\n", job.title);
@@ -390,7 +418,7 @@ fn curve_table(out: &mut String, job: &Job, rows: &Rows) {
     for size in sizes {
         let mut cells = vec![bytes(size)];
         for kind in &kinds {
-            let row = rows.iter().find(|((k, s, _), _)| k == kind && *s == size);
+            let row = rows.iter().find(|(k, _)| k.kind == *kind && k.size == size);
             cells.push(row.map_or("-".into(), |(_, figures)| short(cost(figures))));
         }
         let _ = writeln!(out, "| {} |", cells.join(" | "));
@@ -401,7 +429,7 @@ fn curve_plot(title: &str, jobs: &[(&str, &Rows)]) -> String {
     let mut curves = Vec::new();
     for (prefix, rows) in jobs {
         for kind in kinds_of(rows) {
-            let of = rows.iter().filter(|((k, ..), _)| k == kind);
+            let of = rows.iter().filter(|(key, _)| key.kind == kind);
             curves.push(Curve {
                 name: format!("{prefix}{kind}"),
                 points: of.map(|(_, f)| (f.bytes as f64, cost(f))).collect(),
@@ -523,7 +551,7 @@ fn marks(out: &mut String, tables: &BTreeMap<String, Rows>) {
             missed.push(format!(
                 "- {}, {}: {}; met in {good} of {all} layouts",
                 job.title,
-                row_name(job, key),
+                row_name(key),
                 against.join(", ")
             ));
         }
@@ -611,33 +639,28 @@ pub fn write(folder: &Path, docs: &Path) {
     count_tables(&mut out, &counted);
     out.push_str(&fill(curve_text));
     let of = |word: &str| &curves[word];
-    save(
-        "cost_strings.svg",
-        curve_plot(
-            "Strings: cost a byte by size",
-            &[("read: ", of("read")), ("written: ", of("write"))],
+    let plotted = [
+        (
+            "strings",
+            "Strings",
+            vec![("read: ", of("read")), ("written: ", of("write"))],
         ),
-    );
-    save(
-        "cost_uploads.svg",
-        curve_plot("Uploads: cost a byte by size", &[("", of("upload"))]),
-    );
-    save(
-        "cost_json8.svg",
-        curve_plot(
-            "JSON8: cost a byte by size",
-            &[("read: ", of("json8")), ("written: ", of("json8_write"))],
+        ("uploads", "Uploads", vec![("", of("upload"))]),
+        (
+            "json8",
+            "JSON8",
+            vec![("read: ", of("json8")), ("written: ", of("json8_write"))],
         ),
-    );
-    for (name, title) in [
-        ("strings", "Strings"),
-        ("uploads", "Uploads"),
-        ("json8", "JSON8"),
-    ] {
-        let _ = writeln!(
-            out,
-            "\n![{title}: cost a byte by size](plots/cost_{name}.svg)"
-        );
+        (
+            "json8_dense",
+            "JSON8, dense texts read",
+            vec![("", of("json8_dense"))],
+        ),
+    ];
+    for (name, title, jobs) in plotted {
+        let title = format!("{title}: cost a byte by size");
+        save(&format!("cost_{name}.svg"), curve_plot(&title, &jobs));
+        let _ = writeln!(out, "\n![{title}](plots/cost_{name}.svg)");
     }
     for job in &JOBS {
         curve_table(&mut out, job, of(job.word));
@@ -651,5 +674,5 @@ pub fn write(folder: &Path, docs: &Path) {
         out = out.replace("\n\n\n", "\n\n");
     }
     fs::write(docs.join("BENCHMARKS.md"), out).expect("the document is saved");
-    println!("written: docs/BENCHMARKS.md and docs/plots");
+    println!("written: BENCHMARKS.md and plots in {}", docs.display());
 }
