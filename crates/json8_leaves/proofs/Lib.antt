@@ -1,3 +1,4 @@
 pub mod Joined
+pub mod SmallKinds
 pub mod Single
 pub mod Choices

@@ -1,145 +1,173 @@
 // Strings, and keys, which are strings or words.
 ghost use mathlib.Core.List.{List};
 ghost use mathlib.Core.Path.{_≡_};
-ghost use Prim.Native.Nat.{_+_, _<_};
-ghost use lib.ListN.{drop};
+ghost use Prim.Native.Nat.{ℕ, _+_, _-_, _<_, _≤_};
+ghost use lib.ListN.{length, getD, drop};
 ghost use Rattle.utf8.specs.Class.{IsTable};
-ghost use Rattle.notation.specs.Literals.{literalRun};
-ghost use Rattle.notation.specs.Marks.{opens, opening};
-ghost use Rattle.strings.specs.Read.{readToken, tokenOf};
+ghost use Rattle.prelude.specs.Limits.{textMax, nodeMax};
+ghost use Rattle.string_tokens.specs.inner.Quotes.{PlainToken};
 ghost use Rattle.json8.specs.Nodes.{limited};
-ghost use Rattle.prelude.specs.Limits.{nodeMax};
 ghost use Rattle.json8.specs.Leaves.{string, key};
-ghost use Rattle.json8_leaves.specs.inner.Told.{Place, Told, StoredAt};
-ghost use Rattle.json8.specs.inner.Slashes.{Slashed};
+ghost use Rattle.json8_leaves.specs.inner.Told.{Place, Told, scalar, ShortLeaf, shortKind};
 use crate::leaves;
 use crate::nodes;
 use crate::nodes::Out;
-use notation::marks;
-use notation::marks::Mark;
-use notation::styles;
-use notation::styles::Style;
 use prelude::limits::NODE_MAX;
 use prelude::refusals;
-use prelude::slices;
-use runs::literals;
-use strings::answers::Token;
-use strings::read;
+use string_tokens::answers::Quoted;
+use string_tokens::quoted;
+use tokens::numbers;
 use tokens::starts;
 use tokens::starts::Start;
 use tokens::words;
 
-// The string that a text begins with, behind its mark of k bytes and a first run of literal characters; its bytes behind the store's
-// first m, as far as there is room.
-fn token_at(
-    t: &[u8; 256],
-    s: &[u8],
-    k: usize,
-    first: usize,
-    style: Style,
-    m: usize,
-    store: &mut [u8],
-) -> Token
-    requires { ⌜ IsTable (now t) × (opening (now s) ≡ opens style k) × (first ≡ k + literalRun style 0 (drop k (now s))) ⌝ }
-    ensures is { λ r. ⌜ r ≡ tokenOf (readToken (now (s .entry))) ⌝ }
-    ensures stored { λ r. ⌜ StoredAt m (readToken (now (s .entry))) (now (store .entry)) (now (store .exit)) ⌝ }
+// A string of so many bytes in double quotes, without a backslash.
+pub fn short_string(len: usize, at: usize, n: usize, notes: &mut [u64; NODE_MAX]) -> Out
+    requires { ⌜ (2 ≤ len) × (at + len ≤ textMax) × (n ≤ nodeMax) ⌝ }
+    ensures { λ r. ⌜ ((text : List ℕ) (m : ℕ) → length text ≤ textMax → PlainToken (drop at text) 1 (len - 1) → Told text (limited string at n m (drop at text)) at n m r (now (notes .entry)) (now (notes .exit))) ⌝ }
 {
-    let b = slices::least(m, store.len());
-    read::units_from(t, s, k, first, style, &mut store[b..])
-}
-
-// A string with an escape, or a refusal: its first run of literal characters ends at e.
-fn escaped_node(
-    t: &[u8; 256],
-    text: &[u8],
-    at: usize,
-    k: usize,
-    e: usize,
-    style: Style,
-    n: usize,
-    m: usize,
-    table: &mut [u32],
-    store: &mut [u8],
-) -> Out
-    requires { ⌜ IsTable (now t) × Place (now text) at n m × (n < nodeMax) × Slashed (drop at (now text)) × (opening (drop at (now text)) ≡ opens style k) × (e ≡ at + k + literalRun style 0 (drop (at + k) (now text))) ⌝ }
-    ensures { λ r. ⌜ Told (string at n m (drop at (now (text .entry)))) at n m r (now (table .entry)) (now (table .exit)) (now (store .entry)) (now (store .exit)) ⌝ }
-{
-    let token = token_at(t, &text[at..], k, e - at, style, m, store);
-    match token {
-        Token::Ended(len, count) => {
-            nodes::put_node(n, 6, 1, m, count, table);
-            Out::Got(at + len, n + 1, m + count, 0)
-        }
-        Token::Failed(number, place) => Out::Refused(number, at + place),
+    if NODE_MAX <= n {
+        return Out::Refused(refusals::TOO_MANY, at);
     }
+    nodes::note(n, 5, 1, at + 1, len - 2, notes);
+    Out::Got(at + len, n + 1)
 }
 
-// A string behind its mark of k bytes: without an escape it is one run of literal characters, which stays in the text.
-fn marked_node(
-    t: &[u8; 256],
-    text: &[u8],
-    at: usize,
-    k: usize,
-    style: Style,
-    n: usize,
-    m: usize,
-    table: &mut [u32],
-    store: &mut [u8],
-) -> Out
-    requires { ⌜ IsTable (now t) × Place (now text) at n m × (n < nodeMax) × (opening (drop at (now text)) ≡ opens style k) ⌝ }
-    ensures { λ r. ⌜ Told (string at n m (drop at (now (text .entry)))) at n m r (now (table .entry)) (now (table .exit)) (now (store .entry)) (now (store .exit)) ⌝ }
-{
-    let from = at + k;
-    let e = literals::inner_run(t, text, from, style);
-    if slices::byte_at(text, e, 0) == styles::quote_of(style) {
-        nodes::put_node(n, 5, 1, from, e - from, table);
-        return Out::Got(e + 1, n + 1, m, 0);
-    }
-    escaped_node(t, text, at, k, e, style, n, m, table, store)
-}
-
+// The string at a place: its reader is handed the text from the mark on.
 pub fn string_node(
     t: &[u8; 256],
     text: &[u8],
     at: usize,
     n: usize,
-    m: usize,
-    table: &mut [u32],
-    store: &mut [u8],
+    notes: &mut [u64; NODE_MAX],
 ) -> Out
-    requires { ⌜ IsTable (now t) × Place (now text) at n m ⌝ }
-    ensures { λ r. ⌜ Told (limited string at n m (drop at (now (text .entry)))) at n m r (now (table .entry)) (now (table .exit)) (now (store .entry)) (now (store .exit)) ⌝ }
+    requires { ⌜ IsTable (now t) × Place (now text) at n ⌝ }
+    ensures { λ r. ⌜ ((m : ℕ) → Told (now (text .entry)) (limited string at n m (drop at (now (text .entry)))) at n m r (now (notes .entry)) (now (notes .exit))) ⌝ }
 {
     if NODE_MAX <= n {
         return Out::Refused(refusals::TOO_MANY, at);
     }
-    let mark = marks::mark_at(&text[at..]);
-    match mark {
-        Mark::Opens(style, k) => marked_node(t, text, at, k, style, n, m, table, store),
-        Mark::Unopened => Out::Refused(refusals::NO_OPENING, at),
+    let token = quoted::quoted(t, &text[at..]);
+    match token {
+        Quoted::Plain(k, e) => {
+            nodes::note(n, 5, 1, at + k, e - k, notes);
+            Out::Got(at + e + 1, n + 1)
+        }
+        Quoted::Slashed(end, count) => {
+            nodes::note(n, 6, 1, at, count, notes);
+            Out::Got(at + end, n + 1)
+        }
+        Quoted::Faulty(number, place) => Out::Refused(number, at + place),
     }
 }
 
-pub fn key_node(
-    t: &[u8; 256],
-    text: &[u8],
-    at: usize,
-    n: usize,
-    m: usize,
-    table: &mut [u32],
-    store: &mut [u8],
-) -> Out
-    requires { ⌜ IsTable (now t) × Place (now text) at n m ⌝ }
-    ensures { λ r. ⌜ Told (key at n m (drop at (now (text .entry)))) at n m r (now (table .entry)) (now (table .exit)) (now (store .entry)) (now (store .exit)) ⌝ }
+// A key, by what begins at a place.
+fn any_key(t: &[u8; 256], text: &[u8], at: usize, n: usize, notes: &mut [u64; NODE_MAX]) -> Out
+    requires { ⌜ IsTable (now t) × Place (now text) at n ⌝ }
+    ensures { λ r. ⌜ ((m : ℕ) → Told (now (text .entry)) (key at n m (drop at (now (text .entry)))) at n m r (now (notes .entry)) (now (notes .exit))) ⌝ }
 {
     let start = starts::start_at(text, at);
     match start {
         Start::Ended => Out::Refused(refusals::CUT_OFF, at),
-        Start::String => string_node(t, text, at, n, m, table, store),
-        Start::Word => leaves::plain_node(text, at, n, m, 5, words::word_len(text, at), table),
+        Start::String => string_node(t, text, at, n, notes),
+        Start::Word => leaves::plain_node(5, words::word_len(text, at), at, n, notes),
         Start::Number => Out::Refused(refusals::MISPLACED, at),
         Start::List => Out::Refused(refusals::MISPLACED, at),
         Start::Dict => Out::Refused(refusals::MISPLACED, at),
         Start::Nothing => Out::Refused(refusals::MISPLACED, at),
     }
+}
+
+// A key, which begins with the byte x.
+pub fn key_node(
+    t: &[u8; 256],
+    text: &[u8],
+    at: usize,
+    x: u8,
+    n: usize,
+    notes: &mut [u64; NODE_MAX],
+) -> Out
+    requires { ⌜ IsTable (now t) × Place (now text) at n × (x ≡ getD (drop at (now text)) 0 0) ⌝ }
+    ensures { λ r. ⌜ ((m : ℕ) → Told (now (text .entry)) (key at n m (drop at (now (text .entry)))) at n m r (now (notes .entry)) (now (notes .exit))) ⌝ }
+{
+    if x == b'"' {
+        let len = quoted::short(&text[at..]);
+        if len != 0 {
+            return short_string(len, at, n, notes);
+        }
+        return string_node(t, text, at, n, notes);
+    }
+    any_key(t, text, at, n, notes)
+}
+
+// A value that is no list or dict, by what begins at a place.
+fn any_scalar(t: &[u8; 256], text: &[u8], at: usize, n: usize, notes: &mut [u64; NODE_MAX]) -> Out
+    requires { ⌜ IsTable (now t) × Place (now text) at n ⌝ }
+    ensures { λ r. ⌜ ((m : ℕ) → Told (now (text .entry)) (scalar at n m (drop at (now (text .entry)))) at n m r (now (notes .entry)) (now (notes .exit))) ⌝ }
+{
+    let start = starts::start_at(text, at);
+    match start {
+        Start::Ended => Out::Refused(refusals::CUT_OFF, at),
+        Start::String => string_node(t, text, at, n, notes),
+        Start::Word => leaves::word_node(text, at, n, notes),
+        Start::Number => leaves::number_node(text, at, n, notes),
+        Start::List => Out::Refused(refusals::MISPLACED, at),
+        Start::Dict => Out::Refused(refusals::MISPLACED, at),
+        Start::Nothing => Out::Refused(refusals::MISPLACED, at),
+    }
+}
+
+// The length of a leaf that few bytes tell and that begins with the byte x: a short string without a backslash, a short whole number or a
+// value's name; 0 where another stands.
+fn short_len(text: &[u8], at: usize, x: u8) -> usize
+    requires { ⌜ (at ≤ length (now text)) × (x ≡ getD (drop at (now text)) 0 0) ⌝ }
+    ensures { λ r. ⌜ (0 < r → ShortLeaf (drop at (now (text .entry))) x r) ⌝ }
+{
+    if x == b'"' {
+        return quoted::short(&text[at..]);
+    }
+    if words::is_digit(x) {
+        return numbers::short(text, at, x);
+    }
+    words::name_len(text, at, x)
+}
+
+// The kind of such a leaf that is no string.
+fn short_kind(x: u8) -> u64
+    ensures { λ r. ⌜ (r ≡ shortKind x) × (r ≤ 3) ⌝ }
+{
+    if words::is_digit(x) {
+        return 3;
+    }
+    leaves::name_kind(x)
+}
+
+// The node of such a leaf. One way out for all of them: a place and a count, which stay in registers.
+fn short_node(x: u8, len: usize, at: usize, n: usize, notes: &mut [u64; NODE_MAX]) -> Out
+    requires { ⌜ (x ≡ 0x22 → 2 ≤ len) × (at + len ≤ textMax) × (n ≤ nodeMax) ⌝ }
+    ensures { λ r. ⌜ ((text : List ℕ) (m : ℕ) → length text ≤ textMax → at + len ≤ length text → x ≡ getD (drop at text) 0 0 → ShortLeaf (drop at text) x len → Told text (scalar at n m (drop at text)) at n m r (now (notes .entry)) (now (notes .exit))) ⌝ }
+{
+    if x == b'"' {
+        return short_string(len, at, n, notes);
+    }
+    leaves::plain_node(short_kind(x), len, at, n, notes)
+}
+
+// A value that is no list or dict and begins with the byte x.
+pub fn scalar_node(
+    t: &[u8; 256],
+    text: &[u8],
+    at: usize,
+    x: u8,
+    n: usize,
+    notes: &mut [u64; NODE_MAX],
+) -> Out
+    requires { ⌜ IsTable (now t) × Place (now text) at n × (x ≡ getD (drop at (now text)) 0 0) ⌝ }
+    ensures { λ r. ⌜ ((m : ℕ) → Told (now (text .entry)) (scalar at n m (drop at (now (text .entry)))) at n m r (now (notes .entry)) (now (notes .exit))) ⌝ }
+{
+    let len = short_len(text, at, x);
+    if len != 0 {
+        return short_node(x, len, at, n, notes);
+    }
+    any_scalar(t, text, at, n, notes)
 }

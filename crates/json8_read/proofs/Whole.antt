@@ -1,17 +1,18 @@
--- A whole text: the first pass, over a table and a store of its own, tells what is read; that is copied, or a second pass stores it, and
--- it has room.
+-- A whole text: the pass tells what is read, and it is spread where there is room.
 -- Assumes nothing.
-use mathlib.Core.Path.{_≡_, refl, sym, ap, _∙_}
+use mathlib.Core.Path.{_≡_, refl, ap, subst, _∙_}
+use mathlib.Core.Bool.{true, false}
 use mathlib.Core.List.{List, [], _∷_, _++_}
-use Prim.Native.Nat.{ℕ, _*_, _/_, _≤_, _<_}
+use Prim.Native.Nat.{ℕ, _/_, _≤_, _<_}
 use native.Mathlib.Omega.{arith}
-use borrow.Author.Tests.{lt-ltb, le-ltb}
+use borrow.Author.Tests.{lt-ltb, le-ltb, ltb-true, ltb-false}
+use lib.Dec.{ltb}
 use lib.ListN.{length, take, drop, drop-of-length-le}
 use lib.Seq.{sets, length-sets, drop-cons}
 use Rattle.prelude.specs.Pick.{pick}
+use Rattle.prelude.specs.Limits.{textMax, nodeMax, depthMax}
 use Rattle.prelude.proofs.Cases.{never}
 use Rattle.prelude.proofs.Stores.{sets-over}
-use Rattle.prelude.specs.Limits.{textMax, depthMax}
 use Rattle.json8.specs.declared.answers.Parsed.{Parsed}
 use Rattle.json8.specs.declared.answers.Parsed.the-variants.{Done, Refused as Denied}
 use Rattle.json8_leaves.specs.declared.nodes.Out.{Out}
@@ -20,107 +21,135 @@ use Rattle.json8.specs.Nodes.{Node, Read, got, refused, Reader, seq, flat}
 use Rattle.json8.specs.Leaves.{spaces}
 use Rattle.json8.specs.Values.{value}
 use Rattle.json8.specs.Read.{textEnd, readAll, readOf, parsedOf, tableAfter, storeAfter}
-use Rattle.json8_leaves.specs.inner.Told.{Place, Took, Told, ToldBy, Answered}
-use Rattle.json8_leaves.proofs.Joined.{took, stopped, flat-length}
+use Rattle.json8.proofs.Fair.{Fair, read-fair}
+use Rattle.json8_leaves.specs.inner.Told.{Place, notes, nodesOf, bytesOf, Took, Told}
+use Rattle.json8_leaves.proofs.Joined.{took, stopped, notes-length, nodes-length}
+use Rattle.json8_read.specs.inner.Spread.{nodesIn, sizes, AllFit}
+use Rattle.json8_read.proofs.Spreading.{flat-length, notes-back, sizes-are}
 
-pub from-start : (text : List ℕ) → length text ≤ textMax → Place text 0 0 0
-from-start text h = record { short = h; inside = omega arith; few = omega arith; less = omega arith }
+pub from-start : (text : List ℕ) → length text ≤ textMax → Place text 0 0
+from-start text h = record { short = h; inside = omega arith; few = omega arith }
 
 abbrev pub behind-value : Reader
 behind-value = seq spaces textEnd
 
-pub all-told : (text : List ℕ) (r : Out) (t t' s s' : List ℕ) → Told (seq spaces (seq (value depthMax) behind-value) 0 0 0 (drop 0 text)) 0 0 0 r t t' s s'
-    → Told (readAll text) 0 0 0 r t t' s s'
+pub all-told : (text : List ℕ) (r : Out) (t t' : List ℕ) → Told text (seq spaces (seq (value depthMax) behind-value) 0 0 0 (drop 0 text)) 0 0 0 r t t'
+    → Told text (readAll text) 0 0 0 r t t'
 unfolding readAll
-all-told text r t t' s s' x = x
+all-told text r t t' x = x
 
 pub finish-more : (text : List ℕ) (x n m : ℕ) → x < length text → textEnd x n m (drop x text) ≡ refused 11 x
 unfolding textEnd
 finish-more text x n m h = rw (drop-cons text x 0 h)
 
-pub finish-done : (text : List ℕ) (x n m : ℕ) (t s : List ℕ) → length text ≤ x → Took (textEnd x n m (drop x text)) x n m x n m 0 t t s s
-unfolding textEnd flat
-finish-done text x n m t s h =
-    record { len = 0; ns = []; bs = []; same = rw (drop-of-length-le text h); place = omega arith; nodes = omega arith; bytes = omega arith; table = refl; stored = refl }
+pub finish-done : (text : List ℕ) (x n m : ℕ) (t : List ℕ) → length text ≤ x → Took text (textEnd x n m (drop x text)) x n m x n 0 t t
+unfolding textEnd notes nodesOf bytesOf
+finish-done text x n m t h =
+    record { len = 0; vs = []; same = rw (drop-of-length-le text h); place = omega arith; nodes = omega arith; table = refl; sound = tt }
 
 take-front : (xs ys : List ℕ) → take (length xs) (xs ++ ys) ≡ xs
 take-front [] ys = refl
 take-front (x ∷ xs) ys = ap (λ (l : List ℕ). x ∷ l) (take-front xs ys)
 
-front-of : (xs l l' : List ℕ) (n : ℕ) → l' ≡ sets l 0 xs → n ≡ length xs → length xs ≤ length l' → take n l' ≡ xs
-front-of xs l l' n e f g =
-    let z : length xs ≤ length l = omega (arith, g, ap length e ∙ length-sets l 0 xs) in rw (f, e, sets-over xs l z) (take-front xs _)
+front-of : (xs l l' : List ℕ) (n : ℕ) → l' ≡ sets l 0 xs → n ≡ length xs → length xs ≤ length l → take n l' ≡ xs
+front-of xs l l' n e f g = rw (f, e, sets-over xs l g) (take-front xs _)
+
+-- whether the store is too short, by the text's length or the sum of what nodes take
+pub long-enough : (l r x : ℕ) → l ≤ r → (false ≡ true → r < x) × (false ≡ false → x ≤ l → x ≤ r)
+long-enough l r x h = (λ e. never cc, λ e g. omega arith)
+
+pub by-sum : (l r x k : ℕ) → k ≡ x → (ltb r k ≡ true → r < x) × (ltb r k ≡ false → x ≤ l → x ≤ r)
+by-sum l r x k h = (λ e. omega (arith, ltb-true r k e), λ e g. omega (arith, ltb-false r k e))
 
 module _ (text t s : List ℕ) where
+  -- what reading a text answers, and what the caller's table and store hold afterwards
+  abbrev pub Answered : Parsed → List ℕ → List ℕ → Type 0
+  Answered r t' s' =
+      (r ≡ parsedOf (readOf (length t / 4) (length s) text)) × ((t' ≡ tableAfter (readOf (length t / 4) (length s) text) t)
+      × (s' ≡ storeAfter (readOf (length t / 4) (length s) text) s))
+
   answered : (v : Read) {r : Parsed} {t' s' : List ℕ} → readOf (length t / 4) (length s) text ≡ v → r ≡ parsedOf v → t' ≡ tableAfter v t → s' ≡ storeAfter v s
-      → Answered text t s r t' s'
+      → Answered r t' s'
   answered v e a b c = rw e (a, (b, c))
 
-  pub too-long : textMax < length text → Answered text t s (Denied 2 0) t s
+  pub too-long : textMax < length text → Answered (Denied 2 0) t s
   unfolding readOf pick
   too-long h = answered (refused 2 0) (rw (lt-ltb textMax (length text) h)) refl refl refl
 
-  -- a first pass, over a table and a store of its own
-  module _ (h : length text ≤ textMax) (l k l' k' : List ℕ) (r : Out) (x : Told (readAll text) 0 0 0 r l l' k k') where
-    pub first-refused : (number q : ℕ) → r ≡ Refused number q → Answered text t s (Denied number q) t s
+  -- the pass, over notes l
+  module _ (h : length text ≤ textMax) (l l' : List ℕ) (r : Out) (x : Told text (readAll text) 0 0 0 r l l') where
+    pub pass-refused : (number q : ℕ) → r ≡ Refused number q → Answered (Denied number q) t s
     unfolding readOf pick
-    first-refused number q e = answered (refused number q) (rw (le-ltb textMax (length text) h, stopped x e)) refl refl refl
+    pass-refused number q e = answered (refused number q) (rw (le-ltb textMax (length text) h, stopped x e)) refl refl refl
 
-    module _ (p i j tag : ℕ) (e : r ≡ Got p i j tag) where
-      w : Took (readAll text) 0 0 0 p i j tag l l' k k'
+    module _ (k : length l ≡ nodeMax) (p i : ℕ) (e : r ≡ Got p i) where
+      w : Took text (readAll text) 0 0 0 p i 0 l l'
       w = took x e
 
-      pub tight-table : length t / 4 < i → Answered text t s (Denied 12 0) t s
+      abbrev ns : List Node
+      ns = nodesOf 0 (w .vs)
+
+      abbrev bs : List ℕ
+      bs = bytesOf text (w .vs)
+
+      count : i ≡ length ns
+      count = omega (arith, w .nodes, nodes-length 0 (w .vs))
+
+      fair : Fair 1 0 0 text (got (w .len) 0 ns bs)
+      fair = subst (Fair 1 0 0 text) (w .same) (read-fair text)
+
+      pub few : i ≤ nodeMax
+      few = omega (arith, fair .2, count)
+
+      pub within : i ≤ length l'
+      within = omega (arith, few, k, ap length (w .table), length-sets l 0 (notes (w .vs)))
+
+      noted-are : nodesIn (take i l') ≡ w .vs
+      noted-are =
+          ap nodesIn (front-of (notes (w .vs)) l l' i (w .table) (omega (arith, w .nodes, notes-length (w .vs))) (omega (arith, notes-length (w .vs), w .nodes, few, k)))
+          ∙ notes-back text (w .vs) (w .sound)
+
+      sizes-be : sizes (nodesIn (take i l')) ≡ length bs
+      sizes-be = ap sizes noted-are ∙ sizes-are text (w .vs) (w .sound)
+
+      pub tight-table : length t / 4 < i → Answered (Denied 12 0) t s
       unfolding readOf pick
       tight-table g =
-          let f : length t / 4 < length (w .ns) = omega (arith, w .nodes, g) in
-          answered (refused 12 0) (rw (le-ltb textMax (length text) h, w .same, lt-ltb (length t / 4) (length (w .ns)) f)) refl refl refl
+          let f : length t / 4 < length ns = omega (arith, count, g) in
+          answered (refused 12 0) (rw (le-ltb textMax (length text) h, w .same, lt-ltb (length t / 4) (length ns) f)) refl refl refl
 
       module _ (g : i ≤ length t / 4) where
-        fits : length (w .ns) ≤ length t / 4
-        fits = omega (arith, w .nodes, g)
+        fits : length ns ≤ length t / 4
+        fits = omega (arith, count, g)
 
-        pub tight-store : length s < j → Answered text t s (Denied 12 0) t s
+        pub tight-store : length s < sizes (nodesIn (take i l')) → Answered (Denied 12 0) t s
         unfolding readOf pick
         tight-store y =
-            let f : length s < length (w .bs) = omega (arith, w .bytes, y) in
+            let f : length s < length bs = omega (arith, sizes-be, y) in
             answered (refused 12 0)
-            (rw (le-ltb textMax (length text) h, w .same, le-ltb (length t / 4) (length (w .ns)) fits, lt-ltb (length s) (length (w .bs)) f)) refl refl refl
+            (rw (le-ltb textMax (length text) h, w .same, le-ltb (length t / 4) (length ns) fits, lt-ltb (length s) (length bs) f)) refl refl refl
 
-        module _ (y : j ≤ length s) where
-          bytes-fit : length (w .bs) ≤ length s
-          bytes-fit = omega (arith, w .bytes, y)
+        module _ (y : sizes (nodesIn (take i l')) ≤ length text → sizes (nodesIn (take i l')) ≤ length s) where
+          bytes-fit : length bs ≤ length s
+          bytes-fit = let z = y (omega (arith, sizes-be, fair .3, fair .1)) in omega (arith, sizes-be, z)
 
-          -- what was read, stored in both
-          stored : (t' s' : List ℕ) → t' ≡ sets t 0 (flat (w .ns)) → s' ≡ sets s 0 (w .bs) → Answered text t s (Done i j) t' s'
+          pub all-fit : AllFit text (nodesIn (take i l')) t s
+          all-fit =
+              rw noted-are (record {
+                sound = w .sound;
+                nodes = omega (arith, w .nodes, g);
+                bytes = bytes-fit;
+                short = omega (arith, fair .3, fair .1, h);
+              })
+
+          pub spread-done : (j : ℕ) (t' s' : List ℕ) → (j ≡ length (bytesOf text (nodesIn (take i l'))))
+              × ((t' ≡ sets t 0 (flat (nodesOf 0 (nodesIn (take i l'))))) × (s' ≡ sets s 0 (bytesOf text (nodesIn (take i l'))))) → Answered (Done i j) t' s'
           unfolding readOf pick
-          stored t' s' a b =
-              let c : i ≡ length (w .ns) = omega (arith, w .nodes) in
-              let d : j ≡ length (w .bs) = omega (arith, w .bytes) in
-              let f : length (flat (w .ns)) ≤ length t = omega (arith, flat-length (w .ns), fits) in
-              answered (got (w .len) tag (w .ns) (w .bs))
-              (rw (le-ltb textMax (length text) h, w .same, le-ltb (length t / 4) (length (w .ns)) fits, le-ltb (length s) (length (w .bs)) bytes-fit))
-              (ap (λ (y : ℕ). Done y j) c ∙ ap (Done (length (w .ns))) d) (a ∙ sets-over (flat (w .ns)) t f) (b ∙ sets-over (w .bs) s bytes-fit)
-
-          -- the pass had room for all, which was copied
-          pub copied : 4 * i ≤ length l' → j ≤ length k' → (t' s' : List ℕ) → t' ≡ sets t 0 (take (4 * i) l') → s' ≡ sets s 0 (take j k')
-              → Answered text t s (Done i j) t' s'
-          copied u v t' s' a b =
-              let c : 4 * i ≡ length (flat (w .ns)) = omega (arith, flat-length (w .ns), w .nodes) in
-              let d : j ≡ length (w .bs) = omega (arith, w .bytes) in
-              stored t' s' (a ∙ ap (sets t 0) (front-of (flat (w .ns)) l l' (4 * i) (w .table) c (omega arith)))
-              (b ∙ ap (sets s 0) (front-of (w .bs) k k' j (w .stored) d (omega arith)))
-
-          both : (o : Out) (t' s' : List ℕ) → Told (readAll text) 0 0 0 o t t' s s' → (t' ≡ sets t 0 (flat (w .ns))) × (s' ≡ sets s 0 (w .bs))
-          both o t' s' y = go o (y .so)
-            where
-              go : (o : Out) → ToldBy (readAll text) 0 0 0 o t t' s s' → (t' ≡ sets t 0 (flat (w .ns))) × (s' ≡ sets s 0 (w .bs))
-              go (Refused number q) z = let a = sym z ∙ w .same in never cc
-              go (Got q c d u) z =
-                  let a : got (z .len) u (z .ns) (z .bs) ≡ got (w .len) tag (w .ns) (w .bs) = sym (z .same) ∙ w .same in
-                  let b : z .ns ≡ w .ns = cc in
-                  let f : z .bs ≡ w .bs = cc in
-                  (z .table ∙ ap (λ (y : List Node). sets t 0 (flat y)) b, z .stored ∙ ap (sets s 0) f)
-
-          pub second-done : (o : Out) (t' s' : List ℕ) → Told (readAll text) 0 0 0 o t t' s s' → Answered text t s (Done i j) t' s'
-          second-done o t' s' z = let (a, b) = both o t' s' z in stored t' s' a b
+          spread-done j t' s' (a, (b, c)) =
+              let d : j ≡ length bs = a ∙ ap (λ (v : List Node). length (bytesOf text v)) noted-are in
+              let f : length (flat ns) ≤ length t = omega (arith, flat-length ns, fits) in
+              answered (got (w .len) 0 ns bs)
+              (rw (le-ltb textMax (length text) h, w .same, le-ltb (length t / 4) (length ns) fits, le-ltb (length s) (length bs) bytes-fit))
+              (ap (λ (y : ℕ). Done y j) count ∙ ap (Done (length ns)) d)
+              (b ∙ ap (λ (v : List Node). sets t 0 (flat (nodesOf 0 v))) noted-are ∙ sets-over (flat ns) t f)
+              (c ∙ ap (λ (v : List Node). sets s 0 (bytesOf text v)) noted-are ∙ sets-over bs s bytes-fit)

@@ -1,3 +1,3 @@
 // JSON8: a text read to a node table.
 pub mod read;
-mod values;
+mod spread;

@@ -1,47 +1,49 @@
 // Reading a whole text.
+ghost use mathlib.Core.Bool.{true, false};
 ghost use mathlib.Core.Path.{_≡_};
-ghost use Prim.Native.Nat.{_/_, _≤_};
-ghost use lib.ListN.{length};
+ghost use Prim.Native.Nat.{_/_, _≤_, _<_};
+ghost use lib.ListN.{length, take};
 ghost use Rattle.utf8.specs.Class.{IsTable};
-ghost use Rattle.prelude.specs.Limits.{textMax};
+ghost use Rattle.prelude.specs.Limits.{textMax, nodeMax};
 ghost use Rattle.json8.specs.Read.{readAll, readOf, parsedOf, tableAfter, storeAfter};
-ghost use Rattle.json8_leaves.specs.inner.Told.{Told, Answered};
-use crate::values;
+ghost use Rattle.json8_leaves.specs.inner.Told.{Told};
+ghost use Rattle.json8_read.specs.inner.Spread.{nodesIn, sizes};
+use crate::spread;
 use json8::answers::Parsed;
 use json8_leaves::leaves;
-use json8_leaves::nodes;
 use json8_leaves::nodes::Out;
 use json8_leaves::nodes::Step;
+use json8_values::values;
 use prelude::limits::DEPTH_MAX;
+use prelude::limits::NODE_MAX;
 use prelude::limits::TEXT_MAX;
 use prelude::refusals;
-use prelude::slices;
 use utf8::classes;
 
-// One pass over a text: it stores as far as there is room.
-fn pass(t: &[u8; 256], text: &[u8], table: &mut [u32], store: &mut [u8]) -> Out
+// One pass over a text: it notes the nodes.
+fn pass(t: &[u8; 256], text: &[u8], notes: &mut [u64; NODE_MAX]) -> Out
     requires { ⌜ IsTable (now t) × (length (now text) ≤ textMax) ⌝ }
-    ensures { λ r. ⌜ Told (readAll (now (text .entry))) 0 0 0 r (now (table .entry)) (now (table .exit)) (now (store .entry)) (now (store .exit)) ⌝ }
+    ensures { λ r. ⌜ Told (now (text .entry)) (readAll (now (text .entry))) 0 0 0 r (now (notes .entry)) (now (notes .exit)) ⌝ }
 {
-    match leaves::blank(t, text, 0) {
+    match leaves::next(t, text, 0) {
         Step::Stop(number, q) => {
             return Out::Refused(number, q);
         }
-        Step::At(p, _) => {
-            match values::value_node(t, text, p, DEPTH_MAX, 0, 0, table, store) {
+        Step::At(p, x) => {
+            match values::value_node(t, text, p, x, DEPTH_MAX, 0, notes) {
                 Out::Refused(number, q) => {
                     return Out::Refused(number, q);
                 }
-                Out::Got(q, i, j, _) => {
-                    match leaves::blank(t, text, q) {
-                        Step::Stop(number, x) => {
-                            return Out::Refused(number, x);
+                Out::Got(q, i) => {
+                    match leaves::mark(t, text, q) {
+                        Step::Stop(number, z) => {
+                            return Out::Refused(number, z);
                         }
-                        Step::At(x, _) => {
-                            if x < text.len() {
-                                return Out::Refused(refusals::TRAILING, x);
+                        Step::At(z, _) => {
+                            if z < text.len() {
+                                return Out::Refused(refusals::TRAILING, z);
                             }
-                            return Out::Got(x, i, j, 0);
+                            return Out::Got(z, i);
                         }
                     }
                 }
@@ -50,61 +52,16 @@ fn pass(t: &[u8; 256], text: &[u8], table: &mut [u32], store: &mut [u8]) -> Out
     }
 }
 
-// A pass over a table and a store of its own judges the text, so that a refused one leaves the caller's as they were. What they have room
-// for is copied; else a second pass stores it.
-fn read_within(
-    text: &[u8],
-    judged: &mut [u32],
-    decoded: &mut [u8],
-    table: &mut [u32],
-    store: &mut [u8],
-) -> Parsed
-    requires { ⌜ length (now text) ≤ textMax ⌝ }
-    ensures { λ r. ⌜ Answered (now (text .entry)) (now (table .entry)) (now (store .entry)) r (now (table .exit)) (now (store .exit)) ⌝ }
+// Whether the bytes of the first n nodes, of a text of so many bytes, find no room. A store as long as the text has room for all.
+fn is_tight(bytes: usize, room: usize, n: usize, notes: &[u64; NODE_MAX]) -> bool
+    requires { ⌜ (n ≤ nodeMax) × (n ≤ length (now notes)) ⌝ }
+    ensures tight { λ r. ⌜ (r ≡ true → room < sizes (nodesIn (take n (now (notes .entry))))) ⌝ }
+    ensures wide { λ r. ⌜ (r ≡ false → sizes (nodesIn (take n (now (notes .entry)))) ≤ bytes → sizes (nodesIn (take n (now (notes .entry)))) ≤ room) ⌝ }
 {
-    let t = classes::table();
-    match pass(&t, text, judged, decoded) {
-        Out::Refused(number, q) => {
-            return Parsed::Refused(number, q);
-        }
-        Out::Got(_, i, j, _) => {
-            if table.len() / 4 < i {
-                return Parsed::Refused(refusals::NO_ROOM, 0);
-            }
-            if store.len() < j {
-                return Parsed::Refused(refusals::NO_ROOM, 0);
-            }
-            if 4 * i <= judged.len() {
-                if j <= decoded.len() {
-                    nodes::copy(4 * i, judged, table);
-                    slices::copy_run(decoded, 0, j, 0, store);
-                    return Parsed::Done(i, j);
-                }
-            }
-            pass(&t, text, table, store);
-            return Parsed::Done(i, j);
-        }
+    if bytes <= room {
+        return false;
     }
-}
-
-// Room for half the nodes and a quarter of the bytes that a text may hold: more takes time to make, which a short text would feel.
-fn read_short(text: &[u8], table: &mut [u32], store: &mut [u8]) -> Parsed
-    requires { ⌜ length (now text) ≤ textMax ⌝ }
-    ensures { λ r. ⌜ Answered (now (text .entry)) (now (table .entry)) (now (store .entry)) r (now (table .exit)) (now (store .exit)) ⌝ }
-{
-    let mut judged = [0u32; 2048];
-    let mut decoded = [0u8; 8192];
-    read_within(text, &mut judged, &mut decoded, table, store)
-}
-
-// Room for all that a text may hold.
-fn read_long(text: &[u8], table: &mut [u32], store: &mut [u8]) -> Parsed
-    requires { ⌜ length (now text) ≤ textMax ⌝ }
-    ensures { λ r. ⌜ Answered (now (text .entry)) (now (table .entry)) (now (store .entry)) r (now (table .exit)) (now (store .exit)) ⌝ }
-{
-    let mut judged = [0u32; 4096];
-    let mut decoded = [0u8; TEXT_MAX];
-    read_within(text, &mut judged, &mut decoded, table, store)
+    room < spread::stored(n, notes)
 }
 
 // Reads a JSON8 text: its nodes in front of the table and the bytes of its strings with escapes in front of the store, or a refusal
@@ -117,8 +74,21 @@ pub fn read(text: &[u8], table: &mut [u32], store: &mut [u8]) -> Parsed
     if TEXT_MAX < text.len() {
         return Parsed::Refused(refusals::TOO_LONG, 0);
     }
-    if text.len() <= 8192 {
-        return read_short(text, table, store);
+    let t = classes::table();
+    let mut notes = [0u64; NODE_MAX];
+    match pass(&t, text, &mut notes) {
+        Out::Refused(number, q) => {
+            return Parsed::Refused(number, q);
+        }
+        Out::Got(_, i) => {
+            if table.len() / 4 < i {
+                return Parsed::Refused(refusals::NO_ROOM, 0);
+            }
+            if is_tight(text.len(), store.len(), i, &notes) {
+                return Parsed::Refused(refusals::NO_ROOM, 0);
+            }
+            let j = spread::spread(&t, text, i, &notes, table, store);
+            return Parsed::Done(i, j);
+        }
     }
-    read_long(text, table, store)
 }

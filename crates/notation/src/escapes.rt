@@ -93,7 +93,7 @@ fn coded(n: usize, v: u32) -> Unit
 }
 
 // The escaped low half at a place, 0 where none stands.
-fn low_half(s: &[u8], at: usize) -> u32
+pub fn low_half(s: &[u8], at: usize) -> u32
     requires { ⌜ at ≤ length (now s) ⌝ }
     ensures is { λ r. ⌜ r ≡ lowHalf (drop at (now (s .entry))) ⌝ }
     ensures half { λ r. ⌜ (r ≤ 0xdfff) × (0 < r → 0xdc00 ≤ r) ⌝ }

@@ -45,7 +45,7 @@ fn room_for(n: usize, o: usize, length: usize) -> usize
 }
 
 // Stores up to four bytes, each if there is room for it. They are stored one by one: a copy would cost a call.
-fn put_few(few: Few, o: usize, out: &mut [u8])
+pub fn put_few(few: Few, o: usize, out: &mut [u8])
     requires { ⌜ few .count ≤ 4 ⌝ }
     ensures { λ r. ⌜ now (out .exit) ≡ sets (now (out .entry)) o (fewOf few) ⌝ }
 {
@@ -153,7 +153,7 @@ fn read_units(t: &[u8; 256], s: &[u8], from: usize, style: Style, out: &mut [u8]
 
 // The string that a text begins with, whatever follows its closing quote. It stores as far as there is room, a refused text's bytes before
 // the fault too: lend it a part without room until the text is known to be right.
-fn token(t: &[u8; 256], s: &[u8], out: &mut [u8]) -> Token
+pub(crate) fn token(t: &[u8; 256], s: &[u8], out: &mut [u8]) -> Token
     requires { ⌜ IsTable (now t) ⌝ }
     ensures is { λ r. ⌜ r ≡ tokenOf (readToken (now (s .entry))) ⌝ }
     ensures stored { λ r. ⌜ now (out .exit) ≡ sets (now (out .entry)) 0 (tokenBytes (now (s .entry))) ⌝ }

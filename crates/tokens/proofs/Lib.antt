@@ -4,3 +4,4 @@ pub mod Spelling
 pub mod Grammar
 pub mod First
 pub mod Progress
+pub mod Shorts

@@ -7,6 +7,7 @@ ghost use Prim.Native.Nat.{_+_, _≤_, _<_};
 ghost use lib.ListN.{length, getD, drop};
 ghost use Rattle.tokens.specs.Words.{isDigit, runOf};
 ghost use Rattle.tokens.specs.Numbers.{isE, isSign, isNumber, inExp, expDigits, behindE, behindFrac, inFrac, behindPoint, behindInt, int, numberKind, ends, numberFrom, numberAt};
+ghost use Rattle.tokens.specs.declared.numbers.Number.the-variants.{Legal};
 ghost use Rattle.tokens.specs.inner.Parts.{Leads};
 use crate::words;
 use prelude::slices;
@@ -202,4 +203,24 @@ pub fn number_at(s: &[u8], from: usize) -> Number
         Number::Legal(kind, end) => Number::Legal(kind, end - from),
         Number::Malformed => Number::Malformed,
     }
+}
+
+// The length of a number at a place that is up to seven digits and begins with the digit x; 0 where another stands.
+pub fn short(s: &[u8], from: usize, x: u8) -> usize
+    requires { ⌜ (from ≤ length (now s)) × (x ≡ getD (drop from (now s)) 0 0) × (isDigit x ≡ true) ⌝ }
+    ensures { λ r. ⌜ (0 < r → Legal 3 r ≡ numberAt (drop from (now (s .entry)))) ⌝ }
+{
+    if s.len() - from < 8 {
+        return 0;
+    }
+    let k = eights::place(eights::others(eights::eight(s, from)));
+    if is_number(slices::byte_at(s, from, k)) {
+        return 0;
+    }
+    if x == b'0' {
+        if k != 1 {
+            return 0;
+        }
+    }
+    k
 }

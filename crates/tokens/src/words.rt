@@ -1,8 +1,11 @@
 // Words, and the values that they name.
+ghost use mathlib.Core.Bool.{true};
 ghost use mathlib.Core.Path.{_≡_};
-ghost use Prim.Native.Nat.{_≤_};
-ghost use lib.ListN.{length, drop};
-ghost use Rattle.tokens.specs.Words.{isLetter, isDigit, isWord, wordOf, sameBytes, wordValue};
+ghost use Prim.Native.Nat.{_<_, _≤_};
+ghost use lib.ListN.{length, getD, drop};
+ghost use Rattle.tokens.specs.Words.{isLetter, isDigit, isWord, runOf, wordOf, sameBytes, wordValue};
+ghost use Rattle.tokens.specs.inner.Parts.{Spelt, Named};
+use prelude::slices;
 use utf8::chars;
 
 // The kind of the value that a word names; or a word that names none.
@@ -23,7 +26,7 @@ pub(crate) fn is_letter(x: u8) -> bool
     x == b'_'
 }
 
-pub(crate) fn is_digit(x: u8) -> bool
+pub fn is_digit(x: u8) -> bool
     ensures { λ r. ⌜ r ≡ isDigit x ⌝ }
 {
     chars::in_range(b'0', b'9', x)
@@ -86,4 +89,48 @@ pub fn value_of(word: &[u8]) -> Word
         return Word::Value(2);
     }
     Word::Other
+}
+
+// Whether these three bytes stand k bytes behind a place, and a word ends with them.
+fn spells(s: &[u8], at: usize, k: usize, a: u8, b: u8, c: u8) -> bool
+    requires { ⌜ k ≤ 2 ⌝ }
+    ensures { λ r. ⌜ (r ≡ true → Spelt (drop at (now (s .entry))) k a b c) ⌝ }
+{
+    if slices::byte_at(s, at, k) != a {
+        return false;
+    }
+    if slices::byte_at(s, at, k + 1) != b {
+        return false;
+    }
+    if slices::byte_at(s, at, k + 2) != c {
+        return false;
+    }
+    !is_word(slices::byte_at(s, at, k + 3))
+}
+
+// The length of the word at a place, which begins with the byte x, where it names a value; 0 where it doesn't.
+pub fn name_len(s: &[u8], at: usize, x: u8) -> usize
+    requires { ⌜ x ≡ getD (drop at (now s)) 0 0 ⌝ }
+    ensures { λ r. ⌜ (0 < r → Named (drop at (now (s .entry))) x r) ⌝ }
+{
+    if x == b't' {
+        if spells(s, at, 1, b'r', b'u', b'e') {
+            return 4;
+        }
+        return 0;
+    }
+    if x == b'n' {
+        if spells(s, at, 1, b'u', b'l', b'l') {
+            return 4;
+        }
+        return 0;
+    }
+    if x == b'f' {
+        if slices::byte_at(s, at, 1) == b'a' {
+            if spells(s, at, 2, b'l', b's', b'e') {
+                return 5;
+            }
+        }
+    }
+    0
 }

@@ -1,108 +1,74 @@
--- By what begins here (Choices).
--- Assumes nothing.
 use borrow.Author.Needs.{needs}
 use Rattle.json8_leaves.proofs.quoted.key_node.Statement.{statement}
 use Rattle.json8_leaves.proofs.quoted.key_node.Tie as tie
-use Prim.Native.Nat.{_+_, _≤_}
+use Rattle.json8_leaves.proofs.quoted.key_node.Reads as reads
+use Rattle.json8_leaves.proofs.quoted.key_node.Lts as lts
+use Rattle.json8_leaves.proofs.quoted.any_key.Reads as any-key-reads
+use Rattle.json8_leaves.proofs.quoted.short_string.Reads as short-string-reads
+use Rattle.json8_leaves.proofs.quoted.string_node.Reads as string-node-reads
+use Rattle.string_tokens.proofs.quoted.short.Reads as short-reads
 use native.Mathlib.Omega.{arith}
-use lib.ListN.{length}
+use mathlib.Core.Path.{refl, sym, _∙_}
 use denote.Ref.{now}
-use Rattle.json8_leaves.proofs.Single.{word-in}
-use Rattle.json8_leaves.proofs.Choices.{key-ended, key-string, key-word, key-number, key-list, key-dict, key-nothing}
+use Rattle.tokens.specs.declared.starts.Start.the-variants.{String as StringStart}
+use Rattle.json8_leaves.proofs.Single.{plain-inside}
+use Rattle.json8_leaves.proofs.Choices.{quote-start, key-string, short-rest, quote-rest}
 
-start-at-requires : tie.Need-start-at-requires
-start-at-requires c κs = search needs
+-- src/quoted.rt:94:33
+sub-short : tie.Need-sub-short
+sub-short c = search needs
 
-enum-told : tie.Need-enum-told
-enum-told c = search needs
+-- src/quoted.rt:94:33
+part-short-start : tie.Need-part-short-start
+part-short-start c = search needs
 
-enum-told-2 : tie.Need-enum-told-2
-enum-told-2 c = search needs
+-- src/quoted.rt:94:33
+part-short-end : tie.Need-part-short-end
+part-short-end c = search needs
 
+-- src/quoted.rt:94:13
+short-requires : tie.Need-short-requires
+short-requires c κs =
+    quote-rest (now (c .before .before .before .args .text)) (c .before .before .before .args .at) (sym (c .before .before .before .pre .2) ∙ c .before .if1 .taken)
+
+-- src/quoted.rt:96:13
+short-string-requires : tie.Need-short-string-requires
+short-string-requires c κs =
+    let i = plain-inside (now (c .before .before .before .before .before .before .args .text)) (c .before .before .before .before .before .before .args .at) _ _ (short-rest (now (c .before .before .before .before .before .before .args .text)) (c .before .before .before .before .before .before .args .at) _ (c .before .before .short .ensures) (c .before .if2 .taken)) in (omega (arith, i .1, c .before .if2 .taken), omega (arith, i .0, i .1, c .before .before .before .before .before .before .pre .1 .short), c .before .before .before .before .before .before .pre .1 .few)
+
+-- src/quoted.rt:96:13
+returns : tie.Need-returns
+returns c =
+    key-string (now (c .before .before .before .before .before .before .before .args .text)) (c .before .before .before .before .before .before .before .args .at) _ StringStart (sym (quote-start _ _ (c .before .before .before .before .before .before .before .pre .2) (c .before .before .before .before .before .if1 .taken))) _ _ _ refl (λ m. c .short-string .ensures (now (c .before .before .before .before .before .before .before .args .text)) m (c .before .before .before .before .before .before .before .pre .1 .short) (short-rest (now (c .before .before .before .before .before .before .before .args .text)) (c .before .before .before .before .before .before .before .args .at) _ (c .before .before .before .short .ensures) (c .before .before .if2 .taken)))
+
+-- src/quoted.rt:98:9
 string-node-requires : tie.Need-string-node-requires
 string-node-requires c κs = search needs
 
-enum-told-3 : tie.Need-enum-told-3
-enum-told-3 c = search needs
-
-word-len-requires : tie.Need-word-len-requires
-word-len-requires c κs = search needs
-
-plain-node-requires : tie.Need-plain-node-requires
-plain-node-requires c κs =
-    let h : c .before .before .before .before .before .before .before .before .args .at + c .before .word-len .result ≤ length (now (c .before .before .before .before .before .before .before .before .args .text)) = word-in _ _ _ (c .before .word-len .ensures) (c .before .before .before .before .before .before .before .before .pre .1 .inside) in (c .before .before .before .before .before .before .before .before .pre .1, omega (arith, h, c .before .before .before .before .before .before .before .before .pre .1 .short))
-
-enum-told-4 : tie.Need-enum-told-4
-enum-told-4 c = search needs
-
-enum-told-5 : tie.Need-enum-told-5
-enum-told-5 c = search needs
-
-enum-told-6 : tie.Need-enum-told-6
-enum-told-6 c = search needs
-
-enum-told-7 : tie.Need-enum-told-7
-enum-told-7 c = search needs
-
-returns : tie.Need-returns
-returns c =
-    search key-ended
-
-same-length : tie.Need-same-length
-same-length c = search needs
-
-same-length-2 : tie.Need-same-length-2
-same-length-2 c = search needs
-
+-- src/quoted.rt:98:9
 returns-2 : tie.Need-returns-2
 returns-2 c =
-    search key-string
+    key-string (now (c .before .before .before .before .before .before .before .args .text)) (c .before .before .before .before .before .before .before .args .at) _ StringStart (sym (quote-start _ _ (c .before .before .before .before .before .before .before .pre .2) (c .before .before .before .before .before .if1 .taken))) _ _ _ refl (c .string-node .ensures)
 
-same-length-3 : tie.Need-same-length-3
-same-length-3 c = search needs
+-- src/quoted.rt:100:5
+any-key-requires : tie.Need-any-key-requires
+any-key-requires c κs = search needs
 
+-- src/quoted.rt:82:1
 returns-3 : tie.Need-returns-3
-returns-3 c =
-    search key-word
-
-returns-4 : tie.Need-returns-4
-returns-4 c =
-    search key-number
-
-returns-5 : tie.Need-returns-5
-returns-5 c =
-    search key-list
-
-returns-6 : tie.Need-returns-6
-returns-6 c =
-    search key-dict
-
-returns-7 : tie.Need-returns-7
-returns-7 c =
-    search key-nothing
+returns-3 c = search needs
 
 pub key-node-spec : {M : Type 1} → statement M
 key-node-spec =
     tie.close
     (tie.spec
-    start-at-requires
-    enum-told
-    enum-told-2
-    string-node-requires
-    enum-told-3
-    word-len-requires
-    plain-node-requires
-    enum-told-4
-    enum-told-5
-    enum-told-6
-    enum-told-7
+    sub-short
+    part-short-start
+    part-short-end
+    short-requires
+    short-string-requires
     returns
-    same-length
-    same-length-2
+    string-node-requires
     returns-2
-    same-length-3
-    returns-3
-    returns-4
-    returns-5
-    returns-6
-    returns-7)
+    any-key-requires
+    returns-3)

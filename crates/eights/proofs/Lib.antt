@@ -1,0 +1,4 @@
+pub mod Lanes
+pub mod Marks
+pub mod Places
+pub mod Stores
