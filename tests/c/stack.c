@@ -113,7 +113,7 @@ static entry entries[] = {
     { "j8_upload_feed", upload_feed, 2048, 0 },
     { "j8_upload_finish", upload_finish, 2048, 0 },
     { "j8_lines_write", lines_write, 1024, 0 },
-    { "j8_json8_read", json8_read, 71680, 0 },
+    { "j8_json8_read", json8_read, 16384, 0 },
     { "j8_json8_write", json8_write, 12288, 0 },
     { "j8_json8_show", json8_show, 1024, 0 },
 };

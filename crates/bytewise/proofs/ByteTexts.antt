@@ -136,25 +136,7 @@ pub control-text : (b : ℕ) → b < 32 → escapeByte AsJson b ≡ byteText b
 unfolding byteText pick
 control-text b h = rw (lt-ltb b 32 h)
 
--- eight bytes stored one by one
-pub eight-stored : (s out : List ℕ) (at o : ℕ) → at + 8 ≤ length s
-    → set (set (set (set (set (set (set (set out o (getD s at 0)) (o + 1) (getD s (at + 1) 0)) (o + 2) (getD s (at + 2) 0)) (o + 3) (getD s (at + 3) 0)) (o + 4) (getD s (at + 4) 0)) (o + 5) (getD s (at + 5) 0)) (o + 6) (getD s (at + 6) 0)) (o + 7) (getD s (at + 7) 0)
-    ≡ sets out o (take 8 (drop at s))
-eight-stored s out at o h =
-    ap (λ (x : List ℕ). set x (o + 7) (getD s (at + 7) 0)) (
-    ap (λ (x : List ℕ). set x (o + 6) (getD s (at + 6) 0)) (
-    ap (λ (x : List ℕ). set x (o + 5) (getD s (at + 5) 0)) (
-    ap (λ (x : List ℕ). set x (o + 4) (getD s (at + 4) 0)) (
-    ap (λ (x : List ℕ). set x (o + 3) (getD s (at + 3) 0)) (
-    ap (λ (x : List ℕ). set x (o + 2) (getD s (at + 2) 0)) (
-    ap (λ (x : List ℕ). set x (o + 1) (getD s (at + 1) 0)) (one ∙ refl)
-    ∙ copied s out at o 1 (omega arith)) ∙ copied s out at o 2 (omega arith)) ∙ copied s out at o 3 (omega arith)) ∙ copied s out at o 4 (omega arith))
-    ∙ copied s out at o 5 (omega arith)) ∙ copied s out at o 6 (omega arith)) ∙ copied s out at o 7 (omega arith)
-  where
-    one : set out o (getD s at 0) ≡ sets out o (take 1 (drop at s))
-    one = rw (drop-cons s at 0 (omega arith)) refl
-
--- the same of four
+-- four bytes stored one by one
 pub four-stored : (s out : List ℕ) (at o : ℕ) → at + 4 ≤ length s
     → set (set (set (set out o (getD s at 0)) (o + 1) (getD s (at + 1) 0)) (o + 2) (getD s (at + 2) 0)) (o + 3) (getD s (at + 3) 0)
     ≡ sets out o (take 4 (drop at s))

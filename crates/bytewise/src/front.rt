@@ -4,18 +4,32 @@ ghost use mathlib.Core.Path.{_≡_};
 ghost use lib.ListN.{length, take, drop};
 ghost use lib.Seq.{sets};
 ghost use Rattle.bytewise.specs.inner.Bytewise.{Fronted, Onward, owedAt};
-use crate::copies;
 use runs::blocks;
 use runs::threes;
 use utf8::chars;
+
+// Stores four bytes of s. All are read first, so that they are stored at once.
+fn copy_four(s: &[u8], at: usize, o: usize, out: &mut [u8])
+    requires { ⌜ (at + 4 ≤ length (now s)) × (o + 4 ≤ length (now out)) ⌝ }
+    ensures { λ r. ⌜ now (out .exit) ≡ sets (now (out .entry)) o (take 4 (drop at (now (s .entry)))) ⌝ }
+{
+    let b0 = s[at];
+    let b1 = s[at + 1];
+    let b2 = s[at + 2];
+    let b3 = s[at + 3];
+    out[o] = b0;
+    out[o + 1] = b1;
+    out[o + 2] = b2;
+    out[o + 3] = b3;
+}
 
 // Sixteen bytes behind a quote.
 fn put_sixteen(s: &[u8], at: usize, out: &mut [u8])
     requires { ⌜ (at + 16 ≤ length (now s)) × (at + 17 ≤ length (now out)) ⌝ }
     ensures { λ r. ⌜ now (out .exit) ≡ sets (now (out .entry)) (at + 1) (take 16 (drop at (now (s .entry)))) ⌝ }
 {
-    copies::copy_eight(s, at, at + 1, out);
-    copies::copy_eight(s, at + 8, at + 9, out);
+    eights::copy(s, at, at + 1, out);
+    eights::copy(s, at + 8, at + 9, out);
 }
 
 // Whole blocks of ASCII.
@@ -62,8 +76,8 @@ fn put_two_fours(s: &[u8], out: &mut [u8]) -> usize
     if blocks::any_odd(b'"', s, 0, 4) | blocks::any_odd(b'"', s, p, 4) {
         return 0;
     }
-    copies::copy_four(s, 0, 1, out);
-    copies::copy_four(s, p, p + 1, out);
+    copy_four(s, 0, 1, out);
+    copy_four(s, p, p + 1, out);
     s.len()
 }
 
@@ -76,8 +90,8 @@ fn put_two_eights(s: &[u8], out: &mut [u8]) -> usize
     if blocks::any_odd(b'"', s, 0, 8) | blocks::any_odd(b'"', s, p, 8) {
         return 0;
     }
-    copies::copy_eight(s, 0, 1, out);
-    copies::copy_eight(s, p, p + 1, out);
+    eights::copy(s, 0, 1, out);
+    eights::copy(s, p, p + 1, out);
     s.len()
 }
 

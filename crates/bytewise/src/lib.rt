@@ -1,4 +1,3 @@
 // Data written in `""` byte by byte where the room is known to suffice: what stands as it is, and what has an escape.
-pub mod copies;
 pub mod front;
 pub mod rest;

@@ -9,7 +9,6 @@ ghost use lib.Seq.{sets};
 ghost use Rattle.prelude.specs.Pick.{pick};
 ghost use Rattle.utf8.specs.Class.{IsTable};
 ghost use Rattle.bytewise.specs.inner.Bytewise.{byteText, NoControl, Unmarked, Texted};
-use crate::copies;
 use notation::styles::Form;
 use units::written;
 use utf8::classes;
@@ -162,7 +161,7 @@ pub fn put_rest(t: &[u8; 256], s: &[u8], from: usize, start: usize, out: &mut [u
             at += 8;
             continue;
         }
-        copies::copy_eight(s, at, o, out);
+        eights::copy(s, at, o, out);
         at += 8;
         o += 8;
     }

@@ -1,13 +1,12 @@
 -- The zeros below the lowest set bit of bytes that are 0 or 128 each tell the first that isn't 0.
 -- Assumes nothing.
 use mathlib.Core.Path.{_≡_, refl, sym, ap, ap₂, _∙_, subst}
-use mathlib.Core.Logic.{_⊎_, inl, inr}
-use mathlib.Core.Bool.{Bool, true, false}
+use mathlib.Core.Bool.{Bool, false}
 use Prim.Native.Nat.{ℕ, zero, suc, _+_, _*_, _/_, _%_, _^_, _<_, _≤_}
 use native.Mathlib.Omega.{arith}
 use lib.Count.{trailingZeros, under, trailing-le}
 use lib.Pow.{pow-add}
-use native.Mathlib.Nat.{mul-assoc, mul-comm}
+use native.Mathlib.Nat.{mul-assoc}
 use Rattle.prelude.proofs.Cases.{split}
 use Rattle.eights.specs.inner.Words.{word, bit, First}
 

@@ -23,8 +23,7 @@ use Rattle.tokens.specs.declared.numbers.Number.{Number}
 use Rattle.tokens.specs.declared.numbers.Number.the-variants.{Legal, Malformed}
 use Rattle.tokens.specs.declared.starts.Start.{Start}
 use Rattle.tokens.specs.declared.starts.Start.the-variants.{Ended, String as StringStart, Word as WordStart, Number as NumberStart, List as ListStart, Dict, Nothing}
-use Rattle.tokens.specs.declared.starts.Mark.{Mark}
-use Rattle.tokens.specs.declared.starts.Mark.the-variants.{Close, Separator, Fault}
+use Rattle.tokens.specs.Starts.{Behind, closes, separates, lacks}
 use Rattle.tokens.specs.Blanks.{blanks}
 use Rattle.tokens.specs.Words.{isWord, wordOf, wordValue}
 use Rattle.tokens.specs.Numbers.{numberToken, numberAt}
@@ -78,15 +77,15 @@ unfolding spaces
 spaces-fair p n m s h = passed-fair p n s (blanks s) h (blanks-passed s)
 
 -- a mark where a byte stands isn't one that is cut off
-abbrev Stands : Mark → Type 0
-Stands Close = Unit
-Stands Separator = Unit
-Stands (Fault number) = number ≡ cutOff → ⊥
+abbrev Stands : Behind → Type 0
+Stands closes = Unit
+Stands separates = Unit
+Stands (lacks number) = number ≡ cutOff → ⊥
 
-mark-fair : (p n x : ℕ) (r : List ℕ) (k : Mark) → n ≤ nodeMax → Stands k → Fair 1 p n (x ∷ r) (marked p k)
-mark-fair p n x r Close h f = (omega arith, omega arith, omega arith, omega arith)
-mark-fair p n x r Separator h f = (omega arith, omega arith, omega arith, omega arith)
-mark-fair p n x r (Fault number) h f = (omega arith, λ c. absurd (f c))
+mark-fair : (p n x : ℕ) (r : List ℕ) (k : Behind) → n ≤ nodeMax → Stands k → Fair 1 p n (x ∷ r) (marked p k)
+mark-fair p n x r closes h f = (omega arith, omega arith, omega arith, omega arith)
+mark-fair p n x r separates h f = (omega arith, omega arith, omega arith, omega arith)
+mark-fair p n x r (lacks number) h f = (omega arith, λ c. absurd (f c))
 
 pub colon-fair : FairBy 1 colon
 unfolding colon colonAt

@@ -19,8 +19,7 @@ use Rattle.tokens.specs.declared.numbers.Number.{Number}
 use Rattle.tokens.specs.declared.numbers.Number.the-variants.{Legal, Malformed}
 use Rattle.tokens.specs.declared.starts.Start.{Start}
 use Rattle.tokens.specs.declared.starts.Start.the-variants.{Ended, String as StringStart, Word as WordStart, Number as NumberStart, List as ListStart, Dict, Nothing}
-use Rattle.tokens.specs.declared.starts.Mark.{Mark}
-use Rattle.tokens.specs.declared.starts.Mark.the-variants.{Close, Separator, Fault}
+use Rattle.tokens.specs.Starts.{Behind, closes, separates, lacks}
 use Rattle.tokens.specs.Blanks.{blanks}
 use Rattle.tokens.specs.Words.{wordOf, wordValue}
 use Rattle.tokens.specs.Numbers.{numberAt}
@@ -36,10 +35,10 @@ unfoldable pub spaces : Reader
 spaces p n m s = passed p (blanks s)
 
 -- a mark; the tag is 1 for the closing bracket, 2 for a comma or a colon
-abbrev pub marked : ℕ → Mark → Read
-marked p Close = got 1 1 [] []
-marked p Separator = got 1 2 [] []
-marked p (Fault number) = refused number p
+abbrev pub marked : ℕ → Behind → Read
+marked p closes = got 1 1 [] []
+marked p separates = got 1 2 [] []
+marked p (lacks number) = refused number p
 
 unfoldable pub colon : Reader
 colon p n m s = marked p (colonAt s)

@@ -7,8 +7,8 @@ use Prim.Native.Nat.{ℕ, _+_, _-_, _≤_, _<_}
 use native.Mathlib.Omega.{arith}
 use borrow.Author.Tests.{ne-eqb, eqb-true, eqb-false, lt-leb, leb-true}
 use lib.Dec.{eqb, leb}
-use lib.ListN.{length, getD, take, drop, length-drop}
-use Rattle.prelude.specs.Limits.{textMax, nodeMax}
+use lib.ListN.{length, getD, take, drop}
+use Rattle.prelude.specs.Limits.{textMax}
 use Rattle.prelude.specs.Pick.{pick}
 use Rattle.prelude.proofs.Cases.{split, never, and-left, and-right}
 use Rattle.notation.specs.Marks.{opening}
@@ -22,7 +22,7 @@ use Rattle.tokens.specs.Numbers.{numberAt}
 use Rattle.tokens.specs.Starts.{isOpening, startOf}
 use Rattle.tokens.specs.inner.Parts.{nameKind, Named}
 use Rattle.tokens.proofs.First.{rest}
-use Rattle.json8.specs.Nodes.{Read, refused, Reader, limited}
+use Rattle.json8.specs.Nodes.{Read, Reader, limited}
 use Rattle.json8.specs.Leaves.{string, plain, wordRead, word, numberRead, number, keyBy, key}
 use Rattle.json8.specs.Values.{valueBy, valueOf}
 use Rattle.json8_leaves.specs.declared.nodes.Out.{Out}

@@ -1,12 +1,11 @@
 -- One token, or what stands between two: what the code's leaves answer is what the definition's leaf reads, way by way.
 -- Assumes nothing.
 use mathlib.Core.Path.{_≡_, refl, sym, ap, _∙_, subst}
-use mathlib.Core.Bool.{true, false}
+use mathlib.Core.Bool.{false}
 use mathlib.Core.List.{List, [], _∷_, append-nil}
 use Prim.Native.Nat.{ℕ, _+_, _-_, _≤_, _<_}
 use native.Mathlib.Omega.{arith}
 use borrow.Author.Tests.{ne-eqb, eq-eqb}
-use lib.Dec.{eqb}
 use lib.ListN.{length, getD, set, take, drop, length-drop, drop-of-length-le}
 use lib.Seq.{getD-drop, drop-cons, drop-drop}
 use Rattle.prelude.specs.Pick.{pick}
@@ -29,7 +28,7 @@ use Rattle.tokens.specs.declared.words.Word.{Word}
 use Rattle.tokens.specs.declared.words.Word.the-variants.{Value, Other}
 use Rattle.tokens.specs.declared.numbers.Number.{Number}
 use Rattle.tokens.specs.declared.numbers.Number.the-variants.{Legal, Malformed}
-use Rattle.tokens.specs.declared.starts.Mark.the-variants.{Separator, Fault}
+use Rattle.tokens.specs.Starts.{separates, lacks}
 use Rattle.tokens.specs.Words.{isWord, wordOf, wordValue}
 use Rattle.tokens.specs.Numbers.{numberAt}
 use Rattle.tokens.proofs.Runs.{run-le, run-take}
@@ -111,12 +110,12 @@ module _ (text : List ℕ) (at : ℕ) where
   absent-other h = rw (drop-cons text at 0 h)
 
 -- the colon
-colon-absent : (s : List ℕ) (x : ℕ) → x ≡ getD s 0 0 → (x ≡ 0x3a → ⊥) → colonAt s ≡ Fault (absent s)
+colon-absent : (s : List ℕ) (x : ℕ) → x ≡ getD s 0 0 → (x ≡ 0x3a → ⊥) → colonAt s ≡ lacks (absent s)
 unfolding colonAt pick
 colon-absent [] x e h = refl
 colon-absent (y ∷ r) x e h = rw (sym e, ne-eqb x 0x3a h)
 
-colon-here : (s : List ℕ) (x : ℕ) → x ≡ getD s 0 0 → x ≡ 0x3a → colonAt s ≡ Separator
+colon-here : (s : List ℕ) (x : ℕ) → x ≡ getD s 0 0 → x ≡ 0x3a → colonAt s ≡ separates
 unfolding colonAt pick
 colon-here [] x e h = absurd (omega arith)
 colon-here (y ∷ r) x e h = rw (sym e, h)

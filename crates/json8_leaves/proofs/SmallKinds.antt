@@ -1,7 +1,6 @@
 -- A word's value has a kind up to 2, and a number one up to 4: by the grammar's parts, none of which answers another.
 -- Assumes nothing.
-use mathlib.Core.Path.{_≡_, refl, sym, ap, _∙_, subst}
-use mathlib.Core.Bool.{true, false}
+use mathlib.Core.Path.{_≡_}
 use mathlib.Core.List.{List, [], _∷_}
 use Prim.Native.Nat.{ℕ, zero, suc, _+_, _≤_}
 use native.Mathlib.Omega.{arith}
@@ -11,7 +10,7 @@ use Rattle.prelude.specs.Pick.{pick}
 use Rattle.prelude.proofs.Cases.{split, never}
 use Rattle.prelude.proofs.Picks.{pick-case}
 use Rattle.tokens.specs.declared.words.Word.the-variants.{Value, Other}
-use Rattle.tokens.specs.declared.numbers.Number.the-variants.{Legal, Malformed}
+use Rattle.tokens.specs.declared.numbers.Number.the-variants.{Legal}
 use Rattle.tokens.specs.Words.{isDigit, sameBytes, nullWord, falseWord, trueWord, wordValue}
 use Rattle.tokens.specs.Numbers.{isE, isSign, inExp, expDigits, behindE, behindFrac, inFrac, behindPoint, behindInt, inInt, int, numberKind, numberToken, legal, numberFrom, numberAt}
 

@@ -97,7 +97,13 @@ pub fn around_colon(t: &[u8; 256], text: &[u8], at: usize) -> Step
 }
 
 // The node of a token that is its own text.
-pub fn plain_node(kind: u64, len: usize, at: usize, n: usize, notes: &mut [u64; NODE_MAX]) -> Out
+pub(crate) fn plain_node(
+    kind: u64,
+    len: usize,
+    at: usize,
+    n: usize,
+    notes: &mut [u64; NODE_MAX],
+) -> Out
     requires { ⌜ (kind ≤ 5) × (len ≤ textMax) × (at ≤ textMax) × (n ≤ nodeMax) ⌝ }
     ensures { λ r. ⌜ ((text : List ℕ) (m : ℕ) → at + len ≤ length text → Told text (limited (plain kind len) at n m (drop at text)) at n m r (now (notes .entry)) (now (notes .exit))) ⌝ }
 {
@@ -109,7 +115,7 @@ pub fn plain_node(kind: u64, len: usize, at: usize, n: usize, notes: &mut [u64; 
 }
 
 // The kind of the value whose name begins with the byte x.
-pub fn name_kind(x: u8) -> u64
+pub(crate) fn name_kind(x: u8) -> u64
     ensures { λ r. ⌜ (r ≡ nameKind x) × (r ≤ 2) ⌝ }
 {
     if x == b't' {
@@ -127,7 +133,7 @@ fn wide(kind: u32) -> u64
     kind as u64
 }
 
-pub fn word_node(text: &[u8], at: usize, n: usize, notes: &mut [u64; NODE_MAX]) -> Out
+pub(crate) fn word_node(text: &[u8], at: usize, n: usize, notes: &mut [u64; NODE_MAX]) -> Out
     requires { ⌜ Place (now text) at n ⌝ }
     ensures { λ r. ⌜ ((m : ℕ) → Told (now (text .entry)) (word at n m (drop at (now (text .entry)))) at n m r (now (notes .entry)) (now (notes .exit))) ⌝ }
 {
@@ -139,7 +145,7 @@ pub fn word_node(text: &[u8], at: usize, n: usize, notes: &mut [u64; NODE_MAX]) 
     }
 }
 
-pub fn number_node(text: &[u8], at: usize, n: usize, notes: &mut [u64; NODE_MAX]) -> Out
+pub(crate) fn number_node(text: &[u8], at: usize, n: usize, notes: &mut [u64; NODE_MAX]) -> Out
     requires { ⌜ Place (now text) at n ⌝ }
     ensures { λ r. ⌜ ((m : ℕ) → Told (now (text .entry)) (number at n m (drop at (now (text .entry)))) at n m r (now (notes .entry)) (now (notes .exit))) ⌝ }
 {

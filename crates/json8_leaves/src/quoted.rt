@@ -22,7 +22,7 @@ use tokens::starts::Start;
 use tokens::words;
 
 // A string of so many bytes in double quotes, without a backslash.
-pub fn short_string(len: usize, at: usize, n: usize, notes: &mut [u64; NODE_MAX]) -> Out
+fn short_string(len: usize, at: usize, n: usize, notes: &mut [u64; NODE_MAX]) -> Out
     requires { ⌜ (2 ≤ len) × (at + len ≤ textMax) × (n ≤ nodeMax) ⌝ }
     ensures { λ r. ⌜ ((text : List ℕ) (m : ℕ) → length text ≤ textMax → PlainToken (drop at text) 1 (len - 1) → Told text (limited string at n m (drop at text)) at n m r (now (notes .entry)) (now (notes .exit))) ⌝ }
 {
@@ -34,13 +34,7 @@ pub fn short_string(len: usize, at: usize, n: usize, notes: &mut [u64; NODE_MAX]
 }
 
 // The string at a place: its reader is handed the text from the mark on.
-pub fn string_node(
-    t: &[u8; 256],
-    text: &[u8],
-    at: usize,
-    n: usize,
-    notes: &mut [u64; NODE_MAX],
-) -> Out
+fn string_node(t: &[u8; 256], text: &[u8], at: usize, n: usize, notes: &mut [u64; NODE_MAX]) -> Out
     requires { ⌜ IsTable (now t) × Place (now text) at n ⌝ }
     ensures { λ r. ⌜ ((m : ℕ) → Told (now (text .entry)) (limited string at n m (drop at (now (text .entry)))) at n m r (now (notes .entry)) (now (notes .exit))) ⌝ }
 {

@@ -17,7 +17,7 @@ use Rattle.prelude.proofs.Cases.{split}
 use Rattle.prelude.proofs.Stores.{sets-append}
 use Rattle.strings.specs.Read.{readToken}
 use Rattle.string_tokens.specs.inner.Quotes.{denoted}
-use Rattle.json8.specs.Nodes.{Node, node, flat}
+use Rattle.json8.specs.Nodes.{Node, flat}
 use Rattle.json8_leaves.specs.inner.Told.{noted, notes, nodesOf, bytesOf, Sound, AllSound}
 use Rattle.json8_leaves.proofs.Joined.{nodes-length, nodes-append, bytes-append}
 use Rattle.json8_read.specs.inner.Spread.{nodeOf, nodesIn, sizes, Fits, AllFit}

@@ -66,7 +66,7 @@ fn stored_by(v: u64) -> u64
 }
 
 // What the first n nodes take of it.
-pub fn stored(n: usize, notes: &[u64; NODE_MAX]) -> usize
+pub(crate) fn stored(n: usize, notes: &[u64; NODE_MAX]) -> usize
     requires { ⌜ (n ≤ nodeMax) × (n ≤ length (now notes)) ⌝ }
     ensures { λ r. ⌜ r ≡ sizes (nodesIn (take n (now (notes .entry)))) ⌝ }
 {
@@ -124,7 +124,7 @@ fn spread_node(
 }
 
 // The first n nodes in front of a table, and the bytes of strings with an escape in front of a store; how many bytes.
-pub fn spread(
+pub(crate) fn spread(
     t: &[u8; 256],
     text: &[u8],
     n: usize,

@@ -2,7 +2,6 @@
 -- at the end the bracket's note goes in front of its members'.
 -- Assumes nothing.
 use mathlib.Core.Path.{_≡_, refl, sym, ap, ap₂, _∙_, subst}
-use mathlib.Core.Bool.{true, false}
 use mathlib.Core.List.{List, [], _∷_, _++_, append-assoc}
 use Prim.Native.Nat.{ℕ, zero, suc, _+_, _-_, _≤_, _<_}
 use native.Mathlib.Omega.{arith}
@@ -15,18 +14,17 @@ use Rattle.prelude.specs.Pick.{pick}
 use Rattle.prelude.proofs.Rest.{getD-inside}
 use Rattle.prelude.proofs.Stores.{sets-append}
 use Rattle.tokens.specs.Blanks.{blanksFrom}
-use Rattle.tokens.specs.declared.starts.Mark.the-variants.{Close, Separator, Fault}
 use Rattle.tokens.specs.Starts.{startOf, commaAt}
 use Rattle.json8.specs.declared.nodes.Sort.{Sort}
 use Rattle.json8.specs.declared.nodes.Sort.the-variants.{Items, Pairs}
 use Rattle.json8.specs.Nodes.{Node, node, Read, got, refused, Reader, seq, limited}
-use Rattle.json8.specs.Leaves.{spaces, colon, comma, marked, key}
+use Rattle.json8.specs.Leaves.{spaces, colon, comma, key}
 use Rattle.json8.specs.Values.{groupKind, closeOf, memberOf, closeOr, round, again, members, groupNode, groupOf, group, valueOf, value}
 use Rattle.json8.proofs.Fair.{Fair, FairBy, seq-fair, spaces-fair, colon-fair, members-skip, member-fair, value-fair, round-fair}
 use Rattle.json8_leaves.specs.declared.nodes.Out.{Out}
 use Rattle.json8_leaves.specs.declared.nodes.Out.the-variants.{Got, Refused}
-use Rattle.json8_leaves.specs.inner.Told.{Place, noted, notes, nodesOf, bytesOf, Sound, AllSound, Took, Told, Went, absent}
-use Rattle.json8_leaves.proofs.Joined.{stopped, told-got, told-stop, step-told, step-took, sets-before, seq-assoc, seq-stop, seq-took, seq-refused, notes-append, notes-length, sound-append, nodes-length, nodes-append, bytes-append, Blind, spaces-blind, colon-blind, comma-blind, seq-blind, went-took, on}
+use Rattle.json8_leaves.specs.inner.Told.{Place, noted, notes, nodesOf, bytesOf, AllSound, Took, Told, Went, absent}
+use Rattle.json8_leaves.proofs.Joined.{stopped, told-got, told-stop, step-told, step-took, sets-before, seq-assoc, seq-stop, seq-took, seq-refused, notes-append, notes-length, sound-append, nodes-length, nodes-append, bytes-append, Blind, spaces-blind, colon-blind, comma-blind, seq-blind, went-took}
 
 pub inner-fair : (b : Sort) (left : ℕ) → FairBy 1 (memberOf b (value left))
 inner-fair b left = member-fair b (value left) (value-fair left)

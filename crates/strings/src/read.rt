@@ -107,7 +107,7 @@ fn turn(
 
 // The units from a place on, up to the closing quote or the first fault, where it is known that the first run of literal characters ends at
 // `first`; their bytes are stored as far as there is room.
-pub fn units_from(
+fn units_from(
     t: &[u8; 256],
     s: &[u8],
     from: usize,

@@ -9,19 +9,18 @@ use borrow.Author.Tests.{eq-eqb, ne-eqb}
 use lib.ListN.{length, getD, take, drop, length-drop, drop-of-length-le}
 use lib.Seq.{drop-cons, take-all}
 use Rattle.prelude.specs.Pick.{pick}
-use Rattle.notation.specs.declared.marks.Mark.{Mark as Opener}
+use Rattle.notation.specs.declared.marks.Mark.{Mark}
 use Rattle.notation.specs.declared.marks.Mark.the-variants.{Opens, Unopened}
 use Rattle.notation.specs.Marks.{opens, unopened, opening, openingOf}
 use Rattle.notation.specs.declared.styles.Style.{Style}
 use Rattle.tokens.specs.declared.starts.Start.the-variants.{Ended, String, Word, Number, List as ListStart, Dict, Nothing}
-use Rattle.tokens.specs.declared.starts.Mark.the-variants.{Close, Separator, Fault}
 use Rattle.tokens.specs.Words.{isLetter, isDigit}
-use Rattle.tokens.specs.Starts.{isOpening, startOf, colonAt, commaAt}
+use Rattle.tokens.specs.Starts.{isOpening, startOf}
 
 pub rest : (s : List ℕ) (at : ℕ) → take (length s - at) (drop at s) ≡ drop at s
 rest s at = take-all (length s - at) (drop at s) (omega (arith, length-drop at s))
 
-module _ (s : List ℕ) (at : ℕ) (m : Opener) (e : openingOf m ≡ opening (take (length s - at) (drop at s))) where
+module _ (s : List ℕ) (at : ℕ) (m : Mark) (e : openingOf m ≡ opening (take (length s - at) (drop at s))) where
   pub opens-here : (st : Style) (n : ℕ) → m ≡ Opens st n → true ≡ isOpening (opening (drop at s))
   opens-here st n q = let o : opening (drop at s) ≡ opens st n = ap opening (sym (rest s at)) ∙ sym e ∙ ap openingOf q in rw o
 
@@ -68,31 +67,3 @@ module _ (s : List ℕ) (at : ℕ) (h : at < length s) where
             pub start-nothing : (getD s at 0 ≡ 0x7b → ⊥) → Nothing ≡ startOf (drop at s)
             unfolding startOf pick
             start-nothing e = let q = rw cons at o in rw (cons, q, l, d, ne-eqb (getD s at 0) 0x2d m, ne-eqb (getD s at 0) 0x5b b, ne-eqb (getD s at 0) 0x7b e)
-
-  pub colon-here : getD s at 0 ≡ 0x3a → Separator ≡ colonAt (drop at s)
-  unfolding colonAt pick
-  colon-here e = rw (cons, e)
-
-  pub colon-not : (getD s at 0 ≡ 0x3a → ⊥) → Fault 13 ≡ colonAt (drop at s)
-  unfolding colonAt pick
-  colon-not e = rw (cons, ne-eqb (getD s at 0) 0x3a e)
-
-  pub close-here : (close : ℕ) → getD s at 0 ≡ close → Close ≡ commaAt close (drop at s)
-  unfolding commaAt pick
-  close-here close e = rw (cons, eq-eqb (getD s at 0) close e)
-
-  pub comma-here : (close : ℕ) → (getD s at 0 ≡ close → ⊥) → getD s at 0 ≡ 0x2c → Separator ≡ commaAt close (drop at s)
-  unfolding commaAt pick
-  comma-here close n e = rw (cons, ne-eqb (getD s at 0) close n, eq-eqb (getD s at 0) 0x2c e)
-
-  pub comma-not : (close : ℕ) → (getD s at 0 ≡ close → ⊥) → (getD s at 0 ≡ 0x2c → ⊥) → Fault 13 ≡ commaAt close (drop at s)
-  unfolding commaAt pick
-  comma-not close n e = rw (cons, ne-eqb (getD s at 0) close n, ne-eqb (getD s at 0) 0x2c e)
-
-pub colon-end : (s : List ℕ) (at : ℕ) → length s ≤ at → Fault 4 ≡ colonAt (drop at s)
-unfolding colonAt
-colon-end s at h = rw (drop-of-length-le s h)
-
-pub comma-end : (s : List ℕ) (at close : ℕ) → length s ≤ at → Fault 4 ≡ commaAt close (drop at s)
-unfolding commaAt
-comma-end s at close h = rw (drop-of-length-le s h)

@@ -2,27 +2,25 @@
 -- first eight bytes tell.
 -- Assumes nothing.
 use mathlib.Core.Path.{_≡_, refl, sym, ap, _∙_, subst}
-use mathlib.Core.Bool.{Bool, true, false}
+use mathlib.Core.Bool.{true, false}
 use mathlib.Core.List.{List, [], _∷_}
 use Prim.Native.Nat.{ℕ, zero, suc, _+_, _-_, _≤_, _<_}
 use native.Mathlib.Omega.{arith}
 use native.Mathlib.Nat.{add-zero}
-use borrow.Author.Tests.{eq-eqb, ltb-false, ltb-true, le-leb, leb-true}
-use lib.Dec.{ltb, leb, eqb}
-use lib.ListN.{length, getD, drop, length-drop}
+use borrow.Author.Tests.{ltb-false, ltb-true, le-leb}
+use lib.Dec.{ltb}
+use lib.ListN.{length, getD, drop}
 use lib.Seq.{getD-drop}
 use Rattle.prelude.specs.Pick.{pick}
-use Rattle.prelude.proofs.Cases.{split, never, and-left, and-right}
+use Rattle.prelude.proofs.Cases.{split, never}
 use Rattle.notation.specs.Marks.{opening}
 use Rattle.eights.specs.inner.Words.{isOther, First}
-use Rattle.tokens.specs.declared.words.Word.the-variants.{Value}
-use Rattle.tokens.specs.declared.numbers.Number.{Number}
-use Rattle.tokens.specs.declared.numbers.Number.the-variants.{Legal, Malformed}
-use Rattle.tokens.specs.Words.{isLetter, isDigit, isWord, runOf, wordOf, sameBytes, wordValue}
-use Rattle.tokens.specs.Numbers.{isE, isSign, isNumber, behindInt, int, numberKind, numberFrom, numberAt}
+use Rattle.tokens.specs.declared.numbers.Number.the-variants.{Legal}
+use Rattle.tokens.specs.Words.{isLetter, isDigit, isWord, runOf, sameBytes, wordValue}
+use Rattle.tokens.specs.Numbers.{isE, isSign, isNumber, behindInt, int, numberFrom, numberAt}
 use Rattle.tokens.specs.Starts.{startOf}
 use Rattle.tokens.specs.inner.Parts.{Leads, Spelt, nameKind, Named}
-use Rattle.tokens.proofs.Runs.{run-more, run-none, one-more, stopped, ended}
+use Rattle.tokens.proofs.Runs.{run-none, one-more, stopped, ended}
 use Rattle.tokens.proofs.Grammar.{digit-number, e-number, whole, int-end, no-minus, zero-leads, digits-lead, legal-at}
 
 -- a word ends before a byte that has no part in one, and at the text's end

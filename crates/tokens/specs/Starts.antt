@@ -9,8 +9,6 @@ use Rattle.prelude.specs.Refusals.{cutOff, misplaced}
 use Rattle.notation.specs.Marks.{Opening, opens, unopened, opening}
 use Rattle.tokens.specs.declared.starts.Start.{Start}
 use Rattle.tokens.specs.declared.starts.Start.the-variants.{Ended, String, Word, Number, List as ListStart, Dict, Nothing}
-use Rattle.tokens.specs.declared.starts.Mark.{Mark}
-use Rattle.tokens.specs.declared.starts.Mark.the-variants.{Close, Separator, Fault}
 use Rattle.tokens.specs.Words.{isLetter, isDigit}
 use Rattle.tokens.specs.Numbers.{minus}
 
@@ -50,12 +48,18 @@ startOf (x ∷ r) =
     (pick (eqb x beginArray) ListStart
     (pick (eqb x beginObject) Dict Nothing)))))
 
+-- what stands behind a key or a member: the closing bracket, a separator, or neither, with the refusal's number
+pub data Behind : Type 0 where
+  closes : Behind
+  separates : Behind
+  lacks : ℕ → Behind
+
 -- the colon behind a key
-unfoldable pub colonAt : List ℕ → Mark
-colonAt [] = Fault cutOff
-colonAt (x ∷ r) = pick (eqb x nameSeparator) Separator (Fault misplaced)
+unfoldable pub colonAt : List ℕ → Behind
+colonAt [] = lacks cutOff
+colonAt (x ∷ r) = pick (eqb x nameSeparator) separates (lacks misplaced)
 
 -- behind a member, in a bracket that a given byte closes: a comma, or the end
-unfoldable pub commaAt : ℕ → List ℕ → Mark
-commaAt close [] = Fault cutOff
-commaAt close (x ∷ r) = pick (eqb x close) Close (pick (eqb x valueSeparator) Separator (Fault misplaced))
+unfoldable pub commaAt : ℕ → List ℕ → Behind
+commaAt close [] = lacks cutOff
+commaAt close (x ∷ r) = pick (eqb x close) closes (pick (eqb x valueSeparator) separates (lacks misplaced))

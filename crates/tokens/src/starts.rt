@@ -1,12 +1,11 @@
-// What begins at a place, and the marks between tokens.
+// What begins at a place.
 ghost use mathlib.Core.Path.{_≡_};
 ghost use Prim.Native.Nat.{_≤_};
 ghost use lib.ListN.{length, drop};
 ghost use Rattle.notation.specs.Marks.{opening};
-ghost use Rattle.tokens.specs.Starts.{isOpening, startOf, colonAt, commaAt};
+ghost use Rattle.tokens.specs.Starts.{isOpening, startOf};
 use crate::words;
 use notation::marks;
-use prelude::refusals;
 
 // What begins at a place: the text's end, a token by its kind, or nothing.
 pub enum Start {
@@ -17,13 +16,6 @@ pub enum Start {
     List,
     Dict,
     Nothing,
-}
-
-// A closing bracket, a comma or a colon; or a refusal's number.
-pub enum Mark {
-    Close,
-    Separator,
-    Fault(u32),
 }
 
 // Whether a string begins at a place.
@@ -66,34 +58,4 @@ pub fn start_at(s: &[u8], at: usize) -> Start
         return Start::Dict;
     }
     Start::Nothing
-}
-
-// The colon behind a key.
-pub fn colon_at(s: &[u8], at: usize) -> Mark
-    ensures { λ r. ⌜ r ≡ colonAt (drop at (now (s .entry))) ⌝ }
-{
-    if s.len() <= at {
-        return Mark::Fault(refusals::CUT_OFF);
-    }
-    if s[at] == b':' {
-        return Mark::Separator;
-    }
-    Mark::Fault(refusals::MISPLACED)
-}
-
-// What stands behind a member: the closing bracket, or a comma.
-pub fn comma_at(s: &[u8], at: usize, close: u8) -> Mark
-    ensures { λ r. ⌜ r ≡ commaAt close (drop at (now (s .entry))) ⌝ }
-{
-    if s.len() <= at {
-        return Mark::Fault(refusals::CUT_OFF);
-    }
-    let x = s[at];
-    if x == close {
-        return Mark::Close;
-    }
-    if x == b',' {
-        return Mark::Separator;
-    }
-    Mark::Fault(refusals::MISPLACED)
 }

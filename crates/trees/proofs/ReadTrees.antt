@@ -21,8 +21,7 @@ use Rattle.tokens.specs.declared.words.Word.{Word as WordFound}
 use Rattle.tokens.specs.declared.words.Word.the-variants.{Value, Other}
 use Rattle.tokens.specs.declared.starts.Start.{Start}
 use Rattle.tokens.specs.declared.starts.Start.the-variants.{Ended, String as StringStart, Word as WordStart, Number as NumberStart, List as ListStart, Dict, Nothing}
-use Rattle.tokens.specs.declared.starts.Mark.{Mark}
-use Rattle.tokens.specs.declared.starts.Mark.the-variants.{Close, Separator, Fault}
+use Rattle.tokens.specs.Starts.{Behind, closes, separates, lacks}
 use Rattle.tokens.specs.Blanks.{blanks}
 use Rattle.tokens.specs.Words.{wordOf, sameBytes, wordValue, nullWord, falseWord, trueWord}
 use Rattle.tokens.specs.Numbers.{numberKind, numberToken, numberFrom, numberAt}
@@ -96,10 +95,10 @@ module _ (text : List ℕ) where
       go (Clear i) = (λ z. absurd (omega arith), λ b. bytes-none, (refl, refl))
       go (Ill code i) = tt
 
-  mark-holds : (p m : ℕ) (r : Mark) → Holds Marked m (marked p r)
-  mark-holds p m Close = (λ z. omega arith, λ b. bytes-none, (omega arith, (refl, refl)))
-  mark-holds p m Separator = (λ z. omega arith, λ b. bytes-none, (omega arith, (refl, refl)))
-  mark-holds p m (Fault code) = tt
+  mark-holds : (p m : ℕ) (r : Behind) → Holds Marked m (marked p r)
+  mark-holds p m closes = (λ z. omega arith, λ b. bytes-none, (omega arith, (refl, refl)))
+  mark-holds p m separates = (λ z. omega arith, λ b. bytes-none, (omega arith, (refl, refl)))
+  mark-holds p m (lacks code) = tt
 
   colon-holds : HoldsBy Empty colon
   unfolding colon

@@ -1,32 +1,26 @@
+-- One theorem from one byte to eight (Marks).
+-- Assumes nothing.
 use Rattle.eights.proofs.odds.Statement.{statement}
 use Rattle.eights.proofs.odds.Tie as tie
-use Rattle.eights.proofs.odds.Reads as reads
-use Rattle.eights.proofs.odds.Lts as lts
-use mathlib.Core.Path.{_≡_}
 use lib.Dec.{lit<}
 use Rattle.eights.proofs.Marks.{odds-law, room, room-isnt}
 
--- src/lib.rt:35:13
 add-a : tie.Need-add-a
 add-a c =
     record { fits = room (c .args .v) }
 
--- src/lib.rt:36:13
 add-b : tie.Need-add-b
 add-b c =
     record { fits = room-isnt (c .args .v) 0x2222222222222222 (lit< tt) }
 
--- src/lib.rt:37:13
 add-c : tie.Need-add-c
 add-c c =
     record { fits = room-isnt (c .args .v) 0x2727272727272727 (lit< tt) }
 
--- src/lib.rt:38:13
 add-d : tie.Need-add-d
 add-d c =
     record { fits = room-isnt (c .args .v) 0x5c5c5c5c5c5c5c5c (lit< tt) }
 
--- src/lib.rt:31:1
 returns : tie.Need-returns
 returns c =
     odds-law (c .args .v)

@@ -3,7 +3,7 @@
 use Prim.Native.Nat.{ℕ, _+_, _*_, _/_, _%_, _≤_}
 use mathlib.Core.List.{List, [], _∷_}
 use lib.Dec.{eqb}
-use lib.ListN.{length, take}
+use lib.ListN.{length}
 use Rattle.prelude.specs.Limits.{textMax}
 use Rattle.prelude.specs.Pick.{pick}
 use Rattle.json8.specs.Nodes.{Node, node}

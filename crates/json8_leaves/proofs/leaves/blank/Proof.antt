@@ -1,51 +1,40 @@
+-- The blanks' answer is the step's.
+-- Assumes nothing.
 use borrow.Author.Needs.{needs}
 use Rattle.json8_leaves.proofs.leaves.blank.Statement.{statement}
 use Rattle.json8_leaves.proofs.leaves.blank.Tie as tie
-use Rattle.json8_leaves.proofs.leaves.blank.Reads as reads
-use Rattle.json8_leaves.proofs.leaves.blank.Lts as lts
-use Rattle.prelude.proofs.slices.byte_at.Reads as byte-at-reads
-use Rattle.tokens.proofs.blanks.skip.Reads as skip-reads
 use native.Mathlib.Omega.{arith}
 use denote.Ref.{now}
 use Rattle.json8_leaves.proofs.Single.{clear-step, clear-in, ill-step, ill-in}
 
--- src/leaves.rt:21:9
 skip-requires : tie.Need-skip-requires
 skip-requires c κs = search needs
 
--- src/leaves.rt:23:22
 enum-known-passed : tie.Need-enum-known-passed
 enum-known-passed c = search needs
 
--- src/leaves.rt:23:37
 add-t9 : tie.Need-add-t9
 add-t9 c =
     record { fits = omega (arith, clear-in (now (c .before .before .before .before .before .args .text)) (c .before .before .before .before .before .args .at) _ _ (c .before .before .before .skip .ensures) (c .before .passed .given .1), c .before .before .before .before .before .pre .1, c .before .before .before .before .before .pre .2) }
 
--- src/leaves.rt:23:67
 add-byte-at : tie.Need-add-byte-at
 add-byte-at c =
     record { fits = omega (arith, clear-in (now (c .before .before .before .before .before .args .text)) (c .before .before .before .before .before .args .at) _ _ (c .before .before .before .skip .ensures) (c .before .passed .given .1), c .before .before .before .before .before .pre .1, c .before .before .before .before .before .pre .2) }
 
--- src/leaves.rt:23:45
 byte-at-requires : tie.Need-byte-at-requires
 byte-at-requires c κs = search needs
 
--- src/leaves.rt:24:20
 enum-known-passed-2 : tie.Need-enum-known-passed-2
 enum-known-passed-2 c = search needs
 
--- src/leaves.rt:24:53
 add-t12 : tie.Need-add-t12
 add-t12 c =
     record { fits = omega (arith, ill-in (now (c .before .before .before .before .before .args .text)) (c .before .before .before .before .before .args .at) _ _ (c .before .before .before .skip .ensures) _ (c .before .passed2 .given .1), c .before .before .before .before .before .pre .1, c .before .before .before .before .before .pre .2) }
 
--- src/leaves.rt:17:1
 returns : tie.Need-returns
 returns c =
     clear-step _ _ _ _ (c .before .before .before .before .skip .ensures) (c .before .before .passed .given .1) _ (c .byte-at .ensures)
 
--- src/leaves.rt:17:1
 returns-2 : tie.Need-returns-2
 returns-2 c =
     ill-step _ _ _ _ (c .before .before .before .skip .ensures) _ (c .before .passed2 .given .1)

@@ -1,54 +1,41 @@
+-- No blank, one space, or the blanks that stand there.
+-- Assumes nothing.
 use borrow.Author.Needs.{needs}
 use Rattle.json8_leaves.proofs.leaves.next.Statement.{statement}
 use Rattle.json8_leaves.proofs.leaves.next.Tie as tie
-use Rattle.json8_leaves.proofs.leaves.next.Reads as reads
-use Rattle.json8_leaves.proofs.leaves.next.Lts as lts
-use Rattle.json8_leaves.proofs.leaves.blank.Reads as blank-reads
-use Rattle.prelude.proofs.slices.byte_at.Reads as byte-at-reads
-use native.Mathlib.Omega.{arith}
 use Rattle.json8_leaves.proofs.Single.{here-step, next-step, not-space, no-space}
 
--- src/leaves.rt:45:9
 byte-at-requires : tie.Need-byte-at-requires
 byte-at-requires c κs = search needs
 
--- src/leaves.rt:47:9
 returns : tie.Need-returns
 returns c =
     here-step _ _ _ (c .before .byte-at .ensures) (not-space _ (c .if1 .taken))
 
--- src/leaves.rt:50:9
 returns-2 : tie.Need-returns-2
 returns-2 c =
     here-step _ _ _ (c .before .before .byte-at .ensures) (no-space _ (c .if2 .taken))
 
--- src/leaves.rt:53:13
 byte-at-requires-2 : tie.Need-byte-at-requires-2
 byte-at-requires-2 c κs = search needs
 
--- src/leaves.rt:55:29
 add-t8 : tie.Need-add-t8
 add-t8 c = search needs
 
--- src/leaves.rt:55:13
 returns-3 : tie.Need-returns-3
 returns-3 c =
     next-step _ _ _ _ (c .before .before .before .before .before .byte-at .ensures) (c .before .before .if3 .taken) (c .before .byte-at2 .ensures) (not-space _ (c .if4 .taken))
 
--- src/leaves.rt:58:29
 add-t9 : tie.Need-add-t9
 add-t9 c = search needs
 
--- src/leaves.rt:58:13
 returns-4 : tie.Need-returns-4
 returns-4 c =
     next-step _ _ _ _ (c .before .before .before .before .before .before .byte-at .ensures) (c .before .before .before .if3 .taken) (c .before .before .byte-at2 .ensures) (no-space _ (c .if5 .taken))
 
--- src/leaves.rt:61:5
 blank-requires : tie.Need-blank-requires
 blank-requires c κs = search needs
 
--- src/leaves.rt:41:1
 returns-5 : tie.Need-returns-5
 returns-5 c = search needs
 

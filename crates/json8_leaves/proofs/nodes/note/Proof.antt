@@ -1,58 +1,44 @@
+-- The four numbers of a node stand in one, each below the next one's unit.
+-- Assumes nothing.
 use borrow.Author.Needs.{needs}
 use Rattle.json8_leaves.proofs.nodes.note.Statement.{statement}
 use Rattle.json8_leaves.proofs.nodes.note.Tie as tie
-use Rattle.json8_leaves.proofs.nodes.note.Reads as reads
-use Rattle.json8_leaves.proofs.nodes.note.Lts as lts
-use Rattle.json8_leaves.proofs.nodes.wide.Reads as wide-reads
-use native.Mathlib.Omega.{arith}
-use mathlib.Core.Path.{ap, refl}
+use mathlib.Core.Path.{refl}
 use Rattle.json8_leaves.specs.inner.Told.{noted}
 
--- src/nodes.rt:40:29
 wide-requires : tie.Need-wide-requires
 wide-requires c κs = search needs
 
--- src/nodes.rt:40:16
 mul-notes : tie.Need-mul-notes
 mul-notes c = search needs
 
--- src/nodes.rt:40:51
 wide-requires-2 : tie.Need-wide-requires-2
 wide-requires-2 c κs = search needs
 
--- src/nodes.rt:40:43
 mul-notes-2 : tie.Need-mul-notes-2
 mul-notes-2 c = search needs
 
--- src/nodes.rt:40:16
 add-notes : tie.Need-add-notes
 add-notes c = search needs
 
--- src/nodes.rt:40:64
 mul-notes-3 : tie.Need-mul-notes-3
 mul-notes-3 c = search needs
 
--- src/nodes.rt:40:16
 add-notes-2 : tie.Need-add-notes-2
 add-notes-2 c = search needs
 
--- src/nodes.rt:40:78
 wide-requires-3 : tie.Need-wide-requires-3
 wide-requires-3 c κs = search needs
 
--- src/nodes.rt:40:16
 add-notes-3 : tie.Need-add-notes-3
 add-notes-3 c = search needs
 
--- src/nodes.rt:40:5
 mul-notes-4 : tie.Need-mul-notes-4
 mul-notes-4 c = search needs
 
--- src/nodes.rt:40:5
 element-write-notes : tie.Need-element-write-notes
 element-write-notes c = search needs
 
--- src/nodes.rt:29:1
 returns : tie.Need-returns
 unfolding noted
 returns c =

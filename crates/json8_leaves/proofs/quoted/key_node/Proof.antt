@@ -1,60 +1,45 @@
+-- The short string, or what begins there decides (Single, Choices).
+-- Assumes nothing.
 use borrow.Author.Needs.{needs}
 use Rattle.json8_leaves.proofs.quoted.key_node.Statement.{statement}
 use Rattle.json8_leaves.proofs.quoted.key_node.Tie as tie
-use Rattle.json8_leaves.proofs.quoted.key_node.Reads as reads
-use Rattle.json8_leaves.proofs.quoted.key_node.Lts as lts
-use Rattle.json8_leaves.proofs.quoted.any_key.Reads as any-key-reads
-use Rattle.json8_leaves.proofs.quoted.short_string.Reads as short-string-reads
-use Rattle.json8_leaves.proofs.quoted.string_node.Reads as string-node-reads
-use Rattle.string_tokens.proofs.quoted.short.Reads as short-reads
 use native.Mathlib.Omega.{arith}
 use mathlib.Core.Path.{refl, sym, _∙_}
 use denote.Ref.{now}
-use Rattle.tokens.specs.declared.starts.Start.the-variants.{String as StringStart}
 use Rattle.json8_leaves.proofs.Single.{plain-inside}
 use Rattle.json8_leaves.proofs.Choices.{quote-start, key-string, short-rest, quote-rest}
 
--- src/quoted.rt:94:33
 sub-short : tie.Need-sub-short
 sub-short c = search needs
 
--- src/quoted.rt:94:33
 part-short-start : tie.Need-part-short-start
 part-short-start c = search needs
 
--- src/quoted.rt:94:33
 part-short-end : tie.Need-part-short-end
 part-short-end c = search needs
 
--- src/quoted.rt:94:13
 short-requires : tie.Need-short-requires
 short-requires c κs =
     quote-rest (now (c .before .before .before .args .text)) (c .before .before .before .args .at) (sym (c .before .before .before .pre .2) ∙ c .before .if1 .taken)
 
--- src/quoted.rt:96:13
 short-string-requires : tie.Need-short-string-requires
 short-string-requires c κs =
     let i = plain-inside (now (c .before .before .before .before .before .before .args .text)) (c .before .before .before .before .before .before .args .at) _ _ (short-rest (now (c .before .before .before .before .before .before .args .text)) (c .before .before .before .before .before .before .args .at) _ (c .before .before .short .ensures) (c .before .if2 .taken)) in (omega (arith, i .1, c .before .if2 .taken), omega (arith, i .0, i .1, c .before .before .before .before .before .before .pre .1 .short), c .before .before .before .before .before .before .pre .1 .few)
 
--- src/quoted.rt:96:13
 returns : tie.Need-returns
 returns c =
     key-string (now (c .before .before .before .before .before .before .before .args .text)) (c .before .before .before .before .before .before .before .args .at) _ StringStart (sym (quote-start _ _ (c .before .before .before .before .before .before .before .pre .2) (c .before .before .before .before .before .if1 .taken))) _ _ _ refl (λ m. c .short-string .ensures (now (c .before .before .before .before .before .before .before .args .text)) m (c .before .before .before .before .before .before .before .pre .1 .short) (short-rest (now (c .before .before .before .before .before .before .before .args .text)) (c .before .before .before .before .before .before .before .args .at) _ (c .before .before .before .short .ensures) (c .before .before .if2 .taken)))
 
--- src/quoted.rt:98:9
 string-node-requires : tie.Need-string-node-requires
 string-node-requires c κs = search needs
 
--- src/quoted.rt:98:9
 returns-2 : tie.Need-returns-2
 returns-2 c =
     key-string (now (c .before .before .before .before .before .before .before .args .text)) (c .before .before .before .before .before .before .before .args .at) _ StringStart (sym (quote-start _ _ (c .before .before .before .before .before .before .before .pre .2) (c .before .before .before .before .before .if1 .taken))) _ _ _ refl (c .string-node .ensures)
 
--- src/quoted.rt:100:5
 any-key-requires : tie.Need-any-key-requires
 any-key-requires c κs = search needs
 
--- src/quoted.rt:82:1
 returns-3 : tie.Need-returns-3
 returns-3 c = search needs
 

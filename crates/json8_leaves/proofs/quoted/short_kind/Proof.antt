@@ -1,28 +1,22 @@
+-- A digit begins a number; otherwise the first byte names the value.
+-- Assumes nothing.
 use borrow.Author.Needs.{needs}
 use Rattle.json8_leaves.proofs.quoted.short_kind.Statement.{statement}
 use Rattle.json8_leaves.proofs.quoted.short_kind.Tie as tie
-use Rattle.json8_leaves.proofs.quoted.short_kind.Reads as reads
-use Rattle.json8_leaves.proofs.quoted.short_kind.Lts as lts
-use Rattle.json8_leaves.proofs.leaves.name_kind.Reads as name-kind-reads
-use Rattle.tokens.proofs.words.is_digit.Reads as is-digit-reads
 use native.Mathlib.Omega.{arith}
 use mathlib.Core.Path.{sym, _∙_}
 use Rattle.json8_leaves.proofs.Choices.{kind-digit, kind-name}
 
--- src/quoted.rt:139:8
 is-digit-requires : tie.Need-is-digit-requires
 is-digit-requires c κs = search needs
 
--- src/quoted.rt:140:9
 returns : tie.Need-returns
 returns c =
     (kind-digit (c .before .before .args .x) (sym (c .before .is-digit .ensures) ∙ c .if1 .taken), omega arith)
 
--- src/quoted.rt:142:5
 name-kind-requires : tie.Need-name-kind-requires
 name-kind-requires c κs = search needs
 
--- src/quoted.rt:136:1
 returns-2 : tie.Need-returns-2
 returns-2 c =
     (kind-name (c .before .before .before .args .x) _ (sym (c .before .before .is-digit .ensures) ∙ c .before .if1 .left) (c .name-kind .ensures .0), omega (arith, c .name-kind .ensures .1))

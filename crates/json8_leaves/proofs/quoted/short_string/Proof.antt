@@ -1,38 +1,29 @@
+-- A token without a backslash, noted (Single).
+-- Assumes nothing.
 use borrow.Author.Needs.{needs}
 use Rattle.json8_leaves.proofs.quoted.short_string.Statement.{statement}
 use Rattle.json8_leaves.proofs.quoted.short_string.Tie as tie
-use Rattle.json8_leaves.proofs.quoted.short_string.Reads as reads
-use Rattle.json8_leaves.proofs.quoted.short_string.Lts as lts
-use Rattle.json8_leaves.proofs.nodes.note.Reads as note-reads
-use native.Mathlib.Omega.{arith}
 use Rattle.json8_leaves.proofs.Single.{short-full, short-got}
 
--- src/quoted.rt:25:9
 returns : tie.Need-returns
 returns c =
     short-full _ _ _ _ (c .if1 .taken)
 
--- src/quoted.rt:27:26
 add-note : tie.Need-add-note
 add-note c = search needs
 
--- src/quoted.rt:27:34
 sub-note : tie.Need-sub-note
 sub-note c = search needs
 
--- src/quoted.rt:27:5
 note-requires : tie.Need-note-requires
 note-requires c κs = search needs
 
--- src/quoted.rt:28:14
 add-t7 : tie.Need-add-t7
 add-t7 c = search needs
 
--- src/quoted.rt:28:24
 add-t8 : tie.Need-add-t8
 add-t8 c = search needs
 
--- src/quoted.rt:20:1
 returns-2 : tie.Need-returns-2
 returns-2 c =
     short-got _ _ _ _ _ (c .before .before .if1 .left) (c .before .before .before .pre .0) (c .note .ensures)

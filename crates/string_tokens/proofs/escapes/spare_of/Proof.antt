@@ -4,7 +4,6 @@ use Rattle.string_tokens.proofs.escapes.spare_of.Statement.{statement}
 use Rattle.string_tokens.proofs.escapes.spare_of.Tie as tie
 use Rattle.string_tokens.proofs.escapes.spare_of.Reads as reads
 use Rattle.string_tokens.proofs.escapes.spare_of.Lts as lts
-use native.Mathlib.Omega.{arith}
 use Rattle.string_tokens.proofs.Numbers.{spare-one, spare-two, spare-three, spare-four}
 
 returns : tie.Need-returns

@@ -7,7 +7,6 @@ use Rattle.string_tokens.proofs.fill.fill.Reads as reads
 use Rattle.string_tokens.proofs.fill.fill.Lts as lts
 use Rattle.notation.proofs.marks.mark_at.Reads as mark-at-reads
 use Rattle.string_tokens.proofs.fill.fill_units.Reads as fill-units-reads
-use native.Mathlib.Omega.{arith}
 use denote.Ref.{now}
 use Rattle.string_tokens.proofs.Quoting.{mark-is, mark-none, mark-fits}
 use Rattle.string_tokens.proofs.Filling.{units-fit, units-told, none-told}

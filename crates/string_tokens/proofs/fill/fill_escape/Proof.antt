@@ -9,7 +9,6 @@ use Rattle.notation.proofs.escapes.common.Reads as common-reads
 use Rattle.prelude.proofs.slices.byte_at.Reads as byte-at-reads
 use Rattle.prelude.proofs.slices.put.Reads as put-reads
 use Rattle.string_tokens.proofs.fill.fill_number.Reads as fill-number-reads
-use native.Mathlib.Omega.{arith}
 use denote.Ref.{now}
 use Rattle.string_tokens.proofs.Filling.{letter-filled}
 

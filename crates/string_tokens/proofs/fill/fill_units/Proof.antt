@@ -6,7 +6,6 @@ use Rattle.string_tokens.proofs.fill.fill_units.Reads as reads
 use Rattle.string_tokens.proofs.fill.fill_units.Lts as lts
 use Rattle.string_tokens.proofs.fill.fill_escape.Reads as fill-escape-reads
 use Rattle.string_tokens.proofs.fill.front.Reads as front-reads
-use borrow.Author.Needs.{needs}
 use native.Mathlib.Omega.{arith}
 use denote.Ref.{now}
 use Prim.Native.Nat.{ℕ, _-_}

@@ -9,9 +9,7 @@ use Rattle.prelude.proofs.slices.byte_at.Reads as byte-at-reads
 use Rattle.runs.proofs.literals.inner_run.Reads as inner-run-reads
 use Rattle.string_tokens.proofs.quoted.counted.Reads as counted-reads
 use Rattle.notation.proofs.styles.quote_of.Reads as quote-of-reads
-use native.Mathlib.Omega.{arith}
 use mathlib.Core.Path.{sym, _∙_}
-use denote.Ref.{now}
 use Rattle.string_tokens.proofs.Quoting.{mark-fits, plain-judged, slashed-judged, faulty-judged}
 
 inner-run-requires : tie.Need-inner-run-requires

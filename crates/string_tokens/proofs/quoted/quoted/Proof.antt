@@ -7,9 +7,6 @@ use Rattle.string_tokens.proofs.quoted.quoted.Reads as reads
 use Rattle.string_tokens.proofs.quoted.quoted.Lts as lts
 use Rattle.string_tokens.proofs.quoted.behind.Reads as behind-reads
 use Rattle.notation.proofs.marks.mark_at.Reads as mark-at-reads
-use native.Mathlib.Omega.{arith}
-use mathlib.Core.Path.{sym, _∙_}
-use denote.Ref.{now}
 use Rattle.string_tokens.proofs.Quoting.{mark-is, unmarked-judged}
 
 mark-at-requires : tie.Need-mark-at-requires

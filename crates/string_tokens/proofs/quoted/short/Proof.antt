@@ -10,7 +10,7 @@ use Rattle.eights.proofs.odds.Reads as odds-reads
 use Rattle.eights.proofs.place.Reads as place-reads
 use Rattle.string_tokens.proofs.quoted.closed.Reads as closed-reads
 use native.Mathlib.Omega.{arith}
-use Prim.Native.Nat.{ℕ, _+_}
+use Prim.Native.Nat.{_+_}
 use denote.Ref.{now}
 use lib.ListN.{getD}
 use Rattle.eights.specs.inner.Words.{isOdd, First}

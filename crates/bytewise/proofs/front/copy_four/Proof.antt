@@ -1,8 +1,8 @@
 -- Four stores, one behind another (ByteTexts).
 -- Assumes nothing.
 use borrow.Author.Needs.{needs}
-use Rattle.bytewise.proofs.copies.copy_four.Statement.{statement}
-use Rattle.bytewise.proofs.copies.copy_four.Tie as tie
+use Rattle.bytewise.proofs.front.copy_four.Statement.{statement}
+use Rattle.bytewise.proofs.front.copy_four.Tie as tie
 use native.Mathlib.Omega.{arith}
 use denote.Ref.{now}
 use mathlib.Core.Path.{refl}
