@@ -61,8 +61,8 @@ loop-again-2 : tie.Need-loop-again-2 Inv-loop μ-loop
 loop-again-2 c =
     (omega (arith, c .before .before .before .before .before .before .before .before .before .loop .inv .0), omega (arith, c .before .before .before .before .before .before .before .before .before .loop .inv .1), texted-then _ _ _ _ _ _ _ _ _ _ (c .before .before .before .before .before .before .before .before .before .loop .inv .0) (omega arith) (c .before .before .before .before .before .before .before .before .before .loop .inv .2) (c .before .before .put-eight .ensures))
 
-copy-eight-requires : tie.Need-copy-eight-requires Inv-loop μ-loop
-copy-eight-requires c κs =
+copy-requires : tie.Need-copy-requires Inv-loop μ-loop
+copy-requires c κs =
     (omega (arith, c .before .before .before .before .before .before .loop .inv .1), omega (arith, c .before .before .before .before .before .before .before .before .before .pre .1, c .before .before .before .before .before .before .loop .inv .0, c .before .before .before .before .before .before .loop .inv .1, texted-bound _ _ _ _ _ _ _ (c .before .before .before .before .before .before .loop .inv .2), texted-length _ _ _ _ _ _ _ (c .before .before .before .before .before .before .loop .inv .2)))
 
 add-at-2 : tie.Need-add-at-2 Inv-loop μ-loop
@@ -79,7 +79,7 @@ loop-less-3 c =
 
 loop-again-3 : tie.Need-loop-again-3 Inv-loop μ-loop
 loop-again-3 c =
-    (omega (arith, c .before .before .before .before .before .before .before .before .before .loop .inv .0), omega (arith, c .before .before .before .before .before .before .before .before .before .loop .inv .1), texted-then _ _ _ _ _ _ _ _ _ _ (c .before .before .before .before .before .before .before .before .before .loop .inv .0) (omega arith) (c .before .before .before .before .before .before .before .before .before .loop .inv .2) (texted-same _ _ _ _ 8 _ (omega (arith, c .before .before .before .before .before .before .before .before .before .loop .inv .1)) (c .before .before .before .before .before .any-slashed .ensures (c .before .before .before .before .if2 .left) (c .before .before .before .before .before .before .before .any-control .ensures (c .before .before .before .before .before .before .if1 .left))) (c .before .before .copy-eight .ensures)))
+    (omega (arith, c .before .before .before .before .before .before .before .before .before .loop .inv .0), omega (arith, c .before .before .before .before .before .before .before .before .before .loop .inv .1), texted-then _ _ _ _ _ _ _ _ _ _ (c .before .before .before .before .before .before .before .before .before .loop .inv .0) (omega arith) (c .before .before .before .before .before .before .before .before .before .loop .inv .2) (texted-same _ _ _ _ 8 _ (omega (arith, c .before .before .before .before .before .before .before .before .before .loop .inv .1)) (c .before .before .before .before .before .any-slashed .ensures (c .before .before .before .before .if2 .left) (c .before .before .before .before .before .before .before .any-control .ensures (c .before .before .before .before .before .before .if1 .left))) (c .before .before .copy .ensures)))
 
 put-texts-requires : tie.Need-put-texts-requires Inv-loop μ-loop
 put-texts-requires c κs =
@@ -110,7 +110,7 @@ put-rest-spec =
     add-at
     loop-less-2
     loop-again-2
-    copy-eight-requires
+    copy-requires
     add-at-2
     add-o
     loop-less-3
