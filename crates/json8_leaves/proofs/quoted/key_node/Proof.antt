@@ -8,6 +8,7 @@ use mathlib.Core.Path.{refl, sym, _∙_}
 use denote.Ref.{now}
 use Rattle.json8_leaves.proofs.Single.{plain-inside}
 use Rattle.json8_leaves.proofs.Choices.{quote-start, key-string, short-rest, quote-rest}
+use Rattle.tokens.specs.declared.starts.Start.the-variants.{String as StringStart}
 
 sub-short : tie.Need-sub-short
 sub-short c = search needs
