@@ -1,6 +1,4 @@
 pub mod Texts
-pub mod Sentences
 pub mod Positions
 pub mod Messages
 pub mod Claims
-pub mod inner
