@@ -1,8 +1,8 @@
 -- Each claim of specs/Claims.antt, by the laws of its topic.
 -- Assumes nothing.
-use Rattle.messages.specs.Claims.{Decimals-Denote, Entries-Are-Lines, Messages-Are-Lines}
+use Rattle.messages.specs.Claims.{Decimals-Denote, Entries-Are-Lines, Objects-Are-Lines, Messages-Are-Lines, Refusals-Are-Lines}
 use Rattle.messages.proofs.Decimals.{decimal-denotes}
-use Rattle.messages.proofs.OneLines.{entry-line, message-line}
+use Rattle.messages.proofs.OneLines.{entry-line, object-line, message-line, refusal-line}
 
 pub decimals-denote : Decimals-Denote
 decimals-denote = decimal-denotes
@@ -10,5 +10,11 @@ decimals-denote = decimal-denotes
 pub entries-are-lines : Entries-Are-Lines
 entries-are-lines = entry-line
 
+pub objects-are-lines : Objects-Are-Lines
+objects-are-lines = object-line
+
 pub messages-are-lines : Messages-Are-Lines
 messages-are-lines = message-line
+
+pub refusals-are-lines : Refusals-Are-Lines
+refusals-are-lines = refusal-line

@@ -1,5 +1,4 @@
 mod Decimals
-mod SentenceLines
 mod Reading
 mod Lines
 mod OneLines
