@@ -59,7 +59,7 @@ no such escape, or it isn't whole
 no character is above \\u{10ffff}
 \\y can stand in b'' only
 there is more behind the end of the string or value
-the result is longer than 32,768 bytes, and couldn't be read back
+the result is longer than the room for it
 this can't stand here
 not a number as JSON has it
 more than 32 brackets are open
