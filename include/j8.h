@@ -32,10 +32,9 @@
  *  - Nothing is kept between calls: no global state, no I/O, no errno. Every
  *    call is reentrant: threads and signal handlers may call at the same time,
  *    each with its own parts.
- *  - Stack on x86-64, in bytes, at most: j8_json8_read 71,680, of which some
- *    50,000 are taken whatever the text, for a table and a store of its own;
- *    j8_json8_write 12,288; j8_upload_feed and j8_upload_finish 2,048; every
- *    other call 1,024. `make stack` measures it.
+ *  - Stack on x86-64, in bytes, at most: j8_json8_read 16,384; j8_json8_write
+ *    12,288; j8_upload_feed, j8_upload_finish and j8_sentence 2,048; every other
+ *    call 1,024. `make stack` measures it.
  */
 #ifndef J8_H
 #define J8_H

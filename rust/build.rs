@@ -10,11 +10,11 @@ use std::time::SystemTime;
 use std::{env, fs};
 
 /// What the archive is for.
-const TARGETS: [&str; 2] = ["x86_64-unknown-linux-gnu", "x86_64-unknown-linux-musl"];
+pub const TARGETS: [&str; 2] = ["x86_64-unknown-linux-gnu", "x86_64-unknown-linux-musl"];
 
 /// What to say of a target that the archive isn't for. Others of its processor and
 /// system are taken: only the calling convention and the form of the file matter.
-fn unknown_target(target: &str, processor: &str, system: &str) -> Option<String> {
+pub fn unknown_target(target: &str, processor: &str, system: &str) -> Option<String> {
     if processor == "x86_64" && system == "linux" {
         return None;
     }
@@ -26,7 +26,7 @@ fn unknown_target(target: &str, processor: &str, system: &str) -> Option<String>
 
 /// A crate of the library and all that it stands on, by the lines of crates.txt:
 /// a name, a colon, and the names of those.
-fn crates_below(lines: &str, name: &str) -> BTreeSet<String> {
+pub fn crates_below(lines: &str, name: &str) -> BTreeSet<String> {
     let mut found = BTreeSet::new();
     let mut open = vec![name];
     while let Some(name) = open.pop() {
@@ -44,17 +44,18 @@ fn crates_below(lines: &str, name: &str) -> BTreeSet<String> {
     found
 }
 
-/// The files and folders of the repository that the archive is made of.
-fn sources(repository: &Path) -> Vec<PathBuf> {
-    let list = repository.join("crates.txt");
-    let Ok(lines) = fs::read_to_string(&list) else {
+/// The folders of the repository that the archive is made of.
+pub fn sources(repository: &Path) -> Vec<PathBuf> {
+    let Ok(lines) = fs::read_to_string(repository.join("crates.txt")) else {
         return Vec::new();
     };
     let crates = repository.join("crates");
     let parts = |name: String| ["src", "specs", "proofs"].map(|part| crates.join(&name).join(part));
-    let mut paths: Vec<PathBuf> = crates_below(&lines, "j8").into_iter().flat_map(parts).collect();
+    let mut paths: Vec<PathBuf> = crates_below(&lines, "j8")
+        .into_iter()
+        .flat_map(parts)
+        .collect();
     paths.retain(|path| path.is_dir());
-    paths.push(list);
     paths
 }
 
@@ -63,11 +64,14 @@ fn sources(repository: &Path) -> Vec<PathBuf> {
 fn changed(path: &Path) -> Option<SystemTime> {
     let own = fs::metadata(path).and_then(|data| data.modified()).ok();
     let inside = fs::read_dir(path).into_iter().flatten().flatten();
-    inside.filter_map(|entry| changed(&entry.path())).chain(own).max()
+    inside
+        .filter_map(|entry| changed(&entry.path()))
+        .chain(own)
+        .max()
 }
 
 /// The source that was changed after the archive was written, if there is one.
-fn newer<'a>(archive: &Path, sources: &'a [PathBuf]) -> Option<&'a PathBuf> {
+pub fn newer<'a>(archive: &Path, sources: &'a [PathBuf]) -> Option<&'a PathBuf> {
     let written = changed(archive);
     sources.iter().find(|source| changed(source) > written)
 }
@@ -104,14 +108,19 @@ fn main() {
         &set("CARGO_CFG_TARGET_ARCH"),
         &set("CARGO_CFG_TARGET_OS"),
     ) {
-        give_up(&why);
+        eprintln!("{why}");
+        exit(1);
     }
-    let home = PathBuf::from(env::var_os("CARGO_MANIFEST_DIR").expect("cargo sets CARGO_MANIFEST_DIR"));
+    let home =
+        PathBuf::from(env::var_os("CARGO_MANIFEST_DIR").expect("cargo sets CARGO_MANIFEST_DIR"));
     let folder = match env::var_os("J8_LIB_DIR") {
         Some(named) => {
             let folder = home.join(named);
             if !folder.join("libj8.a").is_file() {
-                give_up(&format!("J8_LIB_DIR is {}, which doesn't have it", folder.display()));
+                give_up(&format!(
+                    "J8_LIB_DIR is {}, which doesn't have it",
+                    folder.display()
+                ));
             }
             folder
         }
@@ -120,6 +129,10 @@ fn main() {
             let folder = repository.join("target/staticlib");
             let archive = folder.join("libj8.a");
             let sources = sources(&repository);
+            println!(
+                "cargo:rerun-if-changed={}",
+                repository.join("crates.txt").display()
+            );
             for source in &sources {
                 println!("cargo:rerun-if-changed={}", source.display());
             }
@@ -132,7 +145,10 @@ fn main() {
             folder
         }
     };
-    println!("cargo:rerun-if-changed={}", folder.join("libj8.a").display());
+    println!(
+        "cargo:rerun-if-changed={}",
+        folder.join("libj8.a").display()
+    );
     println!("cargo:rustc-link-search=native={}", folder.display());
     println!("cargo:rustc-link-lib=static=j8");
 }

@@ -230,7 +230,7 @@ impl Upload {
     /// doesn't end the upload.
     pub fn finish(&mut self) -> Result<(), Error> {
         self.reserve(0);
-        self.calls.finish(&mut *self.line, &mut self.out)
+        self.calls.finish(&*self.line, &mut self.out)
     }
 
     /// How far the upload is.

@@ -182,8 +182,16 @@ fn unfit_values() {
     let many = j8::Value::List(vec![j8::Value::Null; j8::NODES_MAX]);
     let number = j8::Value::List(vec![j8::Value::Number("01".to_string())]);
     for (value, reason, sentence) in [
-        (deep, j8::Unfit::TooDeep, "the value is over 32 brackets deep"),
-        (many, j8::Unfit::TooManyNodes, "the value has over 1,024 nodes"),
+        (
+            deep,
+            j8::Unfit::TooDeep,
+            "the value is over 32 brackets deep",
+        ),
+        (
+            many,
+            j8::Unfit::TooManyNodes,
+            "the value has over 1,024 nodes",
+        ),
         (number, j8::Unfit::Number, "the text of a number is none"),
     ] {
         let error = value.write_to_vec().unwrap_err();

@@ -350,7 +350,10 @@ fn an_upload_refuses() {
     upload.finish().unwrap();
     assert_eq!(upload.feed(b""), Err(ended));
     assert_eq!(upload.finish(), Err(ended));
-    assert_eq!(ended.to_string(), "refusal 18: the upload has ended already");
+    assert_eq!(
+        ended.to_string(),
+        "refusal 18: the upload has ended already"
+    );
     assert_eq!(upload.state().refusal, None);
 
     let no_room = error(Refusal::NoRoom, Some(4), 0);

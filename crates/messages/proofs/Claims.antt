@@ -1,7 +1,8 @@
 -- Each claim of specs/Claims.antt, by the laws of its topic.
 -- Assumes nothing.
-use Rattle.messages.specs.Claims.{Decimals-Denote, Entries-Are-Lines, Objects-Are-Lines, Messages-Are-Lines, Refusals-Are-Lines}
+use Rattle.messages.specs.Claims.{Decimals-Denote, Entries-Are-Lines, Objects-Are-Lines, Objects-Are-Json8, Messages-Are-Lines, Refusals-Are-Lines}
 use Rattle.messages.proofs.Decimals.{decimal-denotes}
+use Rattle.messages.proofs.Objects.{object-tree}
 use Rattle.messages.proofs.OneLines.{entry-line, object-line, message-line, refusal-line}
 
 pub decimals-denote : Decimals-Denote
@@ -12,6 +13,9 @@ entries-are-lines = entry-line
 
 pub objects-are-lines : Objects-Are-Lines
 objects-are-lines = object-line
+
+pub objects-are-json8 : Objects-Are-Json8
+objects-are-json8 = object-tree
 
 pub messages-are-lines : Messages-Are-Lines
 messages-are-lines = message-line

@@ -1,5 +1,6 @@
 mod Decimals
 mod Reading
 mod Lines
+mod Objects
 mod OneLines
 mod Claims

@@ -2,16 +2,18 @@
 -- Assumes nothing.
 use Prim.Native.Nat.{ℕ, _^_, _<_}
 use mathlib.Core.Bool.{Bool, true, false}
-use mathlib.Core.List.{List, [], _∷_}
+use mathlib.Core.List.{List, [], _∷_, _++_}
 use mathlib.Core.Path.{_≡_}
 use lib.Dec.{eqb, leb}
 use Rattle.prelude.specs.Pick.{pick}
 use Rattle.sentences.specs.Sentences.{sentence}
 use Rattle.sentences.specs.Claims.{InOneLine}
+use Rattle.trees.specs.Trees.{render}
 use Rattle.messages.specs.declared.messages.Head.{Head}
-use Rattle.prelude.specs.Bytes.{LF}
+use Rattle.prelude.specs.Bytes.{ascii, LF}
 use Rattle.messages.specs.Texts.{decimal, denotes}
 use Rattle.messages.specs.Messages.{entryText, messageText, objectText, saidText}
+use Rattle.messages.specs.Objects.{objectOf}
 
 -- a number's digits denote it
 abbrev pub Decimals-Denote : Type 0
@@ -34,6 +36,10 @@ Entries-Are-Lines = (n : ℕ) (s : List ℕ) → OneLine (entryText n s)
 -- whatever bytes a sentence has
 abbrev pub Objects-Are-Lines : Type 0
 Objects-Are-Lines = (head : Head) (s : List ℕ) → OneLine (objectText head s)
+
+-- and what JSON8's writer has for a dict of five pairs, so that it can be read again
+abbrev pub Objects-Are-Json8 : Type 0
+Objects-Are-Json8 = (head : Head) (s : List ℕ) → objectText head s ≡ render (objectOf head s) ++ ascii "\n"
 
 -- a plain line has its sentence as it is, so that must have no control byte
 abbrev pub Messages-Are-Lines : Type 0

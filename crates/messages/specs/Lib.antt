@@ -1,4 +1,5 @@
 pub mod Texts
 pub mod Positions
 pub mod Messages
+pub mod Objects
 pub mod Claims
