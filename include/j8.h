@@ -10,6 +10,7 @@
  *             arrives in pieces; j8_lines_write
  *   JSON8     j8_json8_read: a text to a node table; j8_json8_show: a string of
  *             it; j8_json8_write: the table to a text again
+ *   besides   j8_sentence: what a refusal's number says; j8_version
  *
  * What holds for every call:
  *  - A part is a pointer and a length, in bytes, or in numbers where the part
@@ -31,10 +32,9 @@
  *  - Nothing is kept between calls: no global state, no I/O, no errno. Every
  *    call is reentrant: threads and signal handlers may call at the same time,
  *    each with its own parts.
- *  - Stack on x86-64, in bytes, at most: j8_json8_read 16,384, of which some
- *    9,000 are taken whatever the text; j8_json8_write 12,288; j8_upload_feed
- *    and j8_upload_finish 2,048; every other call 1,024. `make stack` measures
- *    it.
+ *  - Stack on x86-64, in bytes, at most: j8_json8_read 16,384; j8_json8_write
+ *    12,288; j8_upload_feed, j8_upload_finish and j8_sentence 2,048; every other
+ *    call 1,024. `make stack` measures it.
  */
 #ifndef J8_H
 #define J8_H
@@ -46,7 +46,8 @@
 #error "libj8.a was built for a size_t of 64 bits"
 #endif
 
-/* The version of this header and of the archive beside it. */
+/* The version of this header and of the archive beside it; j8_version() asks the
+   archive. */
 #define J8_VERSION "0.1.0"
 #define J8_VERSION_MAJOR 0
 #define J8_VERSION_MINOR 1
@@ -68,6 +69,7 @@ extern "C" {
  *   j8_json8_read      0, 2, 4 to 16
  *   j8_json8_write     0, 1, 12
  *   j8_json8_show      0, 1
+ *   j8_sentence        0, 12
  *
  * Order: 1, then 2 on whole texts, then the leftmost fault in the text, then
  * 12. In an upload the faults and 12 are judged for each line by itself, when
@@ -117,6 +119,10 @@ extern "C" {
 /*
  * Sizes, in bytes; of a node table, in numbers.
  */
+
+/* Room that suffices for the sentence of any number, in this version and in
+   those that add refusals. */
+#define J8_SENTENCE_ROOM 128
 
 /* The longest text that is read; a longer one is J8_TOO_LONG. */
 #define J8_TEXT_MAX 32768
@@ -202,6 +208,35 @@ typedef struct {
     size_t place;
     size_t length;
 } j8_result;
+
+/*
+ * The version of the archive: major times 1,000,000, minor times 1,000, patch.
+ * So 0.1.0 is 1000. A program that was compiled with another header sees it here:
+ *
+ *     if (j8_version() / 1000 != J8_VERSION_MAJOR * 1000 + J8_VERSION_MINOR) {
+ *         complain("libj8.a is of another version than j8.h");
+ *     }
+ */
+uint32_t j8_version(void);
+
+/*
+ * Puts what a refusal's number says, one English sentence in ASCII without a line
+ * end, in front of out: the command j8 prints the same.
+ *
+ * Every number has one, so that a page can show it unasked: for 0 and for numbers
+ * that no refusal has it is "no refusal has this number". No two refusals have
+ * the same.
+ *
+ *     uint8_t sentence[J8_SENTENCE_ROOM];
+ *     j8_result said = j8_sentence(fed.answer.number, sentence, sizeof sentence);
+ *
+ *     printf("line %zu: %.*s\n", fed.answer.line, (int)said.length, (char *)sentence);
+ *
+ * J8_SENTENCE_ROOM bytes of room always suffice.
+ *
+ * Refusals: 12.
+ */
+j8_result j8_sentence(uint32_t number, uint8_t *out, size_t out_len);
 
 /*
  * Reads one J8 string, "..." '...' u'...' or b'...', and puts the bytes that
@@ -391,12 +426,12 @@ j8_fed j8_upload_feed(j8_upload upload,
 /*
  * Ends an upload. A line that is still held is read as if an LF came; no LF or
  * byte is counted for it. A refused finish doesn't end the upload. The line
- * buffer isn't written. Both buffers are those of the feeds.
+ * buffer is only read. Both buffers are those of the feeds.
  *
  * Refusals: 1, then the one that is kept, then 18; then 4 to 12.
  */
 j8_fed j8_upload_finish(j8_upload upload,
-                        uint8_t *line, size_t line_len,
+                        const uint8_t *line, size_t line_len,
                         uint8_t *out, size_t out_len);
 
 /*

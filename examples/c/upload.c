@@ -91,34 +91,18 @@ static j8_answer session_end(session *it)
     return fed.answer;
 }
 
-/* What the sender is told of a refusal. */
-static const char *sentence(uint32_t number)
-{
-    switch (number) {
-    case J8_TOO_LONG: return "the line is over 1,024 bytes";
-    case J8_CUT_OFF: return "the text ends where more is needed";
-    case J8_ILL_FORMED: return "ill-formed UTF-8";
-    case J8_CONTROL: return "a literal control byte";
-    case J8_BAD_ESCAPE: return "an escape is unknown, cut off or malformed";
-    case J8_SURROGATE: return "\\u{h} is a surrogate, from d800 to dfff";
-    case J8_TOO_LARGE: return "\\u{h} is above 10ffff";
-    case J8_BYTE_ESCAPE: return "\\y stands in b'' only";
-    case J8_TRAILING: return "there are bytes after the closing quote";
-    case J8_UPLOAD_LIMIT: return "the upload is over 1,048,576 bytes";
-    /* The room suffices, and the state and buffers are fit: no sender can cause these. */
-    default: return "the handler is at fault";
-    }
-}
-
 /* The reply; refusals say where, so that the desk can look at that byte. */
 static void reply(const session *it, j8_answer answer)
 {
+    uint8_t sentence[J8_SENTENCE_ROOM];
+    j8_result said = j8_sentence(answer.number, sentence, sizeof sentence);
+
     if (answer.number == 0) {
         printf("200 folders restored: %lu\n", (unsigned long)it->folders);
     } else {
-        printf("400 refusal %lu in line %lu at byte %lu: %s; folders before it: %lu\n",
+        printf("400 refusal %lu in line %lu at byte %lu: %.*s; folders before it: %lu\n",
                (unsigned long)answer.number, (unsigned long)answer.line, (unsigned long)answer.place,
-               sentence(answer.number), (unsigned long)it->folders);
+               (int)said.length, (const char *)sentence, (unsigned long)it->folders);
     }
 }
 

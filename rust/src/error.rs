@@ -1,6 +1,7 @@
 //! Why a call was refused.
 
-use std::{fmt, io};
+use crate::raw;
+use std::{fmt, io, str};
 
 /// The reasons for a refusal, by their numbers in `j8.h`.
 #[derive(Clone, Copy, Debug, PartialEq, Eq, Hash)]
@@ -74,38 +75,15 @@ impl Refusal {
     pub const fn number(self) -> u32 {
         self as u32
     }
-
-    /// What is wrong, in a line of an upload or elsewhere.
-    const fn sentence(self, in_line: bool) -> &'static str {
-        match self {
-            Refusal::Unfit => "a lent buffer, state, record or node table is unfit",
-            Refusal::TooLong if in_line => "the line is over 1,024 bytes",
-            Refusal::TooLong => "the text is over 32,768 bytes",
-            Refusal::NoOpening => "the text doesn't begin with \" ' u' b'",
-            Refusal::CutOff => "the text ends where more is needed",
-            Refusal::IllFormed => "ill-formed UTF-8",
-            Refusal::Control => "a literal control byte",
-            Refusal::BadEscape => "an escape is unknown, cut off or malformed",
-            Refusal::Surrogate => "\\u{h} is a surrogate, from d800 to dfff",
-            Refusal::TooLarge => "\\u{h} is above 10ffff",
-            Refusal::ByteEscape => "\\y stands in b'' only",
-            Refusal::Trailing if in_line => "there are bytes after the closing quote",
-            Refusal::Trailing => "there are bytes after the closing quote or the value",
-            Refusal::NoRoom => "the result is longer than the room",
-            Refusal::Misplaced => "this can't stand here",
-            Refusal::Number => "a malformed number",
-            Refusal::TooDeep => "a 33rd open bracket",
-            Refusal::TooManyNodes => "a 1,025th node",
-            Refusal::UploadLimit => "the upload is over 1,048,576 bytes",
-            Refusal::Ended => "the upload already ended",
-        }
-    }
 }
 
-/// The sentence alone.
+/// The sentence alone, as the archive tells it: the command prints the same.
 impl fmt::Display for Refusal {
     fn fmt(&self, f: &mut fmt::Formatter<'_>) -> fmt::Result {
-        f.write_str(self.sentence(false))
+        let mut room = [0; raw::SENTENCE_ROOM];
+        let told = raw::sentence(self.number(), &mut room);
+        // The room is enough for every number, and the sentences are ASCII.
+        f.write_str(str::from_utf8(&room[..told.length]).unwrap_or_default())
     }
 }
 
@@ -138,19 +116,13 @@ pub enum Unfit {
     Number,
 }
 
-impl Unfit {
-    const fn sentence(self) -> &'static str {
-        match self {
+impl fmt::Display for Unfit {
+    fn fmt(&self, f: &mut fmt::Formatter<'_>) -> fmt::Result {
+        f.write_str(match self {
             Unfit::TooDeep => "the value is over 32 brackets deep",
             Unfit::TooManyNodes => "the value has over 1,024 nodes",
             Unfit::Number => "the text of a number is none",
-        }
-    }
-}
-
-impl fmt::Display for Unfit {
-    fn fmt(&self, f: &mut fmt::Formatter<'_>) -> fmt::Result {
-        f.write_str(self.sentence())
+        })
     }
 }
 
@@ -162,7 +134,7 @@ impl fmt::Display for Unfit {
 /// assert_eq!((error.number(), error.line, error.place), (11, None, 7));
 /// assert_eq!(
 ///     error.to_string(),
-///     "refusal 11 at byte 7: there are bytes after the closing quote or the value"
+///     "refusal 11 at byte 7: there is more behind the end of the string or value"
 /// );
 /// ```
 #[derive(Clone, Copy, Debug, PartialEq, Eq, Hash)]
@@ -240,11 +212,10 @@ impl fmt::Display for Error {
             } => {}
             Error { place, .. } => write!(f, " at byte {place}")?,
         }
-        let sentence = match self.unfit {
-            Some(unfit) => unfit.sentence(),
-            None => self.refusal.sentence(self.line.is_some()),
-        };
-        write!(f, ": {sentence}")
+        match self.unfit {
+            Some(unfit) => write!(f, ": {unfit}"),
+            None => write!(f, ": {}", self.refusal),
+        }
     }
 }
 

@@ -83,7 +83,8 @@ impl TryFrom<u32> for Kind {
 ///
 /// A refused text leaves both as they were, and numbers and bytes past the
 /// result are never touched. [`TABLE_ROOM`] numbers and as many bytes as the
-/// text has always suffice.
+/// text has always suffice. At most 16,384 bytes of the stack are taken, whatever
+/// the text.
 ///
 /// ```
 /// let text = br"{ tray: 2, folders: ['scans/in', b'caf\ye9'], } # backup";
@@ -101,7 +102,7 @@ impl TryFrom<u32> for Kind {
 ///
 /// ```
 /// let error = j8::read_json8(b"{ tray: 02 }", &mut [], &mut []).unwrap_err();
-/// assert_eq!(error.to_string(), "refusal 14 at byte 8: a malformed number");
+/// assert_eq!(error.to_string(), "refusal 14 at byte 8: not a number as JSON has it");
 /// ```
 ///
 /// # Errors
@@ -477,6 +478,9 @@ pub struct Json8 {
 
 impl Json8 {
     /// Reads a text, with room for every table and store.
+    ///
+    /// The library takes at most 16,384 bytes of the stack for it, whatever the
+    /// text: brackets are read to a depth of 32. The room is allocated.
     ///
     /// # Errors
     /// Refusals 2, 4 to 11 and 13 to 16 with their place.

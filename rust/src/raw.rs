@@ -94,7 +94,22 @@ pub struct j8_shown {
     pub length: usize,
 }
 
+/// Room that suffices for the sentence of any number.
+pub const SENTENCE_ROOM: usize = 128;
+
 extern "C" {
+    /// The version of the archive: major times 1,000,000, minor times 1,000, patch.
+    ///
+    /// # Safety
+    /// Nothing is asked for.
+    pub fn j8_version() -> u32;
+
+    /// Puts what a refusal's number says into the lent bytes. Any number will do.
+    ///
+    /// # Safety
+    /// As for [`j8_string_read`].
+    pub fn j8_sentence(number: u32, out: *mut u8, out_len: usize) -> j8_result;
+
     /// Reads a J8 string's text into the lent bytes.
     ///
     /// # Safety
@@ -145,7 +160,7 @@ extern "C" {
     /// As for [`j8_string_read`].
     pub fn j8_upload_finish(
         upload: j8_upload,
-        line: *mut u8,
+        line: *const u8,
         line_len: usize,
         out: *mut u8,
         out_len: usize,
@@ -207,6 +222,18 @@ extern "C" {
     ) -> j8_shown;
 }
 
+/// [`j8_version`].
+pub fn version() -> u32 {
+    // SAFETY: it is lent nothing.
+    unsafe { j8_version() }
+}
+
+/// [`j8_sentence`] over a slice.
+pub fn sentence(number: u32, out: &mut [u8]) -> j8_result {
+    // SAFETY: the part is a slice, and there is no other. The number may be any.
+    unsafe { j8_sentence(number, out.as_mut_ptr(), out.len()) }
+}
+
 /// [`j8_string_read`] over slices.
 pub fn string_read(text: &[u8], out: &mut [u8]) -> j8_result {
     // SAFETY: a slice's pointer is good for its length and aligned, and not null
@@ -245,13 +272,13 @@ pub fn upload_feed(upload: j8_upload, piece: &[u8], line: &mut [u8], out: &mut [
 }
 
 /// [`j8_upload_finish`] over slices.
-pub fn upload_finish(upload: j8_upload, line: &mut [u8], out: &mut [u8]) -> j8_fed {
-    // SAFETY: both parts are slices lent mutably, so they don't overlap. The
-    // state may be any: it is checked against the lengths.
+pub fn upload_finish(upload: j8_upload, line: &[u8], out: &mut [u8]) -> j8_fed {
+    // SAFETY: both parts are slices, and `out`, being lent mutably, doesn't
+    // overlap `line`. The state may be any: it is checked against the lengths.
     unsafe {
         j8_upload_finish(
             upload,
-            line.as_mut_ptr(),
+            line.as_ptr(),
             line.len(),
             out.as_mut_ptr(),
             out.len(),

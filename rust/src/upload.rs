@@ -102,7 +102,7 @@ impl Calls {
         self.keep(fed)
     }
 
-    fn finish(&mut self, line: &mut [u8], out: &mut [u8]) -> Result<(), Error> {
+    fn finish(&mut self, line: &[u8], out: &mut [u8]) -> Result<(), Error> {
         let fed = raw::upload_finish(self.0, line, out);
         self.keep(fed)
     }
@@ -167,7 +167,7 @@ fn written(taken: usize, fed: Result<(), Error>) -> io::Result<usize> {
 /// let error = upload.feed(b"scans\n\"x\" y\nmore\n").unwrap_err();
 /// assert_eq!(
 ///     error.to_string(),
-///     "refusal 11 in line 2 at byte 3: there are bytes after the closing quote"
+///     "refusal 11 in line 2 at byte 3: there is more behind the end of the string or value"
 /// );
 /// assert_eq!(upload.finish(), Err(error));
 /// assert_eq!(upload.records().count(), 1);
@@ -230,7 +230,7 @@ impl Upload {
     /// doesn't end the upload.
     pub fn finish(&mut self) -> Result<(), Error> {
         self.reserve(0);
-        self.calls.finish(&mut *self.line, &mut self.out)
+        self.calls.finish(&*self.line, &mut self.out)
     }
 
     /// How far the upload is.

@@ -276,16 +276,22 @@ fn the_greatest_rooms() {
 fn refusals_say_what_and_where() {
     let said = |text: &[u8]| Json8::read(text).unwrap_err().to_string();
     assert_eq!(said(b"[,]"), "refusal 13 at byte 1: this can't stand here");
-    assert_eq!(said(b"[-]"), "refusal 14 at byte 1: a malformed number");
+    assert_eq!(
+        said(b"[-]"),
+        "refusal 14 at byte 1: not a number as JSON has it"
+    );
     assert_eq!(
         said(&[b'['; 33]),
-        "refusal 15 at byte 32: a 33rd open bracket"
+        "refusal 15 at byte 32: more than 32 brackets are open"
     );
     let many = [b"[".as_slice(), &b"0,".repeat(1_024)].concat();
-    assert_eq!(said(&many), "refusal 16 at byte 2047: a 1,025th node");
+    assert_eq!(
+        said(&many),
+        "refusal 16 at byte 2047: more than 1,024 values and keys"
+    );
     assert_eq!(
         said(b"{} x"),
-        "refusal 11 at byte 3: there are bytes after the closing quote or the value"
+        "refusal 11 at byte 3: there is more behind the end of the string or value"
     );
 }
 

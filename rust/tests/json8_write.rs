@@ -171,7 +171,7 @@ fn unfit_values() {
     let unfit = Error::new(Refusal::Unfit, 0);
     assert_eq!(
         unfit.to_string(),
-        "refusal 1: a lent buffer, state, record or node table is unfit"
+        "refusal 1: what was lent for this is unfit"
     );
     let mut out = [0xaa; 64];
     for token in ["", "01", "1.", "+1", "NaN", "0x1", " 1", "1e", "-"] {

@@ -28,7 +28,7 @@ fn lines() {
         // No line buffer is a short one.
         let fed = j8_upload_feed(fresh, null(), 0, null_mut(), 0, null_mut(), 0);
         assert_eq!((fed.answer.number, fed.upload), (1, fresh));
-        let fed = j8_upload_finish(fresh, null_mut(), 0, null_mut(), 0);
+        let fed = j8_upload_finish(fresh, null(), 0, null_mut(), 0);
         assert_eq!((fed.answer.number, fed.upload), (1, fresh));
         let fed = j8_upload_feed(fresh, null(), 0, lent, 1024, null_mut(), 0);
         assert_eq!((fed.answer.number, fed.upload), (0, fresh));

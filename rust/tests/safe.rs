@@ -47,7 +47,7 @@ fn vectors_of_their_own() {
     assert_eq!(too_long, error(Refusal::TooLong, 0));
     assert_eq!(
         too_long.to_string(),
-        "refusal 2: the text is over 32,768 bytes"
+        "refusal 2: too long: a line may have 1,024 bytes, a string or JSON8 text 32,768"
     );
 }
 
@@ -77,6 +77,16 @@ fn the_header_says_the_same() {
         env!("CARGO_PKG_VERSION"),
         "\""
     ));
+    // The archive is asked for its version by a number.
+    let mut version = 0;
+    for (part, number) in ["MAJOR", "MINOR", "PATCH"]
+        .iter()
+        .zip(env!("CARGO_PKG_VERSION").split('.'))
+    {
+        defined(&format!("#define J8_VERSION_{part} {number}"));
+        version = version * 1_000 + number.parse::<u32>().unwrap();
+    }
+    assert_eq!(j8::raw::version(), version);
     for (name, number) in [
         ("TEXT_MAX", j8::TEXT_MAX),
         ("LINE_ROOM", j8::LINE_ROOM),
@@ -88,6 +98,7 @@ fn the_header_says_the_same() {
         ("NODES_MAX", j8::NODES_MAX),
         ("DEPTH_MAX", j8::DEPTH_MAX),
         ("NODE_ROOM", j8::NODE_ROOM),
+        ("SENTENCE_ROOM", j8::raw::SENTENCE_ROOM),
     ] {
         defined(&format!("#define J8_{name} {number}"));
     }
@@ -126,6 +137,68 @@ fn errors_say_what_and_where() {
     assert!(error(Refusal::CutOff, 5)
         .to_string()
         .contains(" at byte 5: "));
+}
+
+/// The archive's sentences, in every room: whole, or 12 and the room as it was.
+#[test]
+fn sentences() {
+    let mut told = BTreeSet::new();
+    for number in (0..40).chain([255, 256, 65_536, u32::MAX]) {
+        let mut room = [0xaa; j8::raw::SENTENCE_ROOM];
+        let answer = j8::raw::sentence(number, &mut room);
+        assert_eq!((answer.number, answer.place), (0, 0), "{number}");
+        let sentence = room[..answer.length].to_vec();
+        assert!(room[answer.length..].iter().all(|&byte| byte == 0xaa));
+        assert!(sentence.iter().all(|byte| (0x20..0x7f).contains(byte)));
+        match Refusal::try_from(number) {
+            Ok(refusal) => {
+                assert_eq!(refusal.to_string().as_bytes(), sentence);
+                assert!(told.insert(sentence.clone()), "{number}");
+            }
+            Err(_) => assert_eq!(sentence, b"no refusal has this number"),
+        }
+        for length in 0..=sentence.len() {
+            let mut room = vec![0xaa; length];
+            let answer = j8::raw::sentence(number, &mut room);
+            if length < sentence.len() {
+                assert_eq!((answer.number, answer.place, answer.length), (12, 0, 0));
+                assert!(room.iter().all(|&byte| byte == 0xaa));
+            } else {
+                assert_eq!((answer.number, answer.length), (0, length));
+                assert_eq!(room, sentence);
+            }
+        }
+    }
+    assert!(!told.contains(b"no refusal has this number".as_slice()));
+}
+
+/// What is unfit of a value is told apart.
+#[test]
+fn unfit_values() {
+    let mut deep = j8::Value::Null;
+    for _ in 0..=j8::DEPTH_MAX {
+        deep = j8::Value::List(vec![deep]);
+    }
+    let many = j8::Value::List(vec![j8::Value::Null; j8::NODES_MAX]);
+    let number = j8::Value::List(vec![j8::Value::Number("01".to_string())]);
+    for (value, reason, sentence) in [
+        (
+            deep,
+            j8::Unfit::TooDeep,
+            "the value is over 32 brackets deep",
+        ),
+        (
+            many,
+            j8::Unfit::TooManyNodes,
+            "the value has over 1,024 nodes",
+        ),
+        (number, j8::Unfit::Number, "the text of a number is none"),
+    ] {
+        let error = value.write_to_vec().unwrap_err();
+        assert_eq!((error.refusal, error.unfit), (Refusal::Unfit, Some(reason)));
+        assert_eq!(reason.to_string(), sentence);
+        assert_eq!(error.to_string(), format!("refusal 1: {sentence}"));
+    }
 }
 
 #[test]

@@ -350,7 +350,10 @@ fn an_upload_refuses() {
     upload.finish().unwrap();
     assert_eq!(upload.feed(b""), Err(ended));
     assert_eq!(upload.finish(), Err(ended));
-    assert_eq!(ended.to_string(), "refusal 18: the upload already ended");
+    assert_eq!(
+        ended.to_string(),
+        "refusal 18: the upload has ended already"
+    );
     assert_eq!(upload.state().refusal, None);
 
     let no_room = error(Refusal::NoRoom, Some(4), 0);
@@ -371,7 +374,7 @@ fn an_upload_refuses() {
     let too_long = upload.feed(&[b' '; 1_025]).unwrap_err();
     assert_eq!(
         too_long.to_string(),
-        "refusal 2 in line 1 at byte 1024: the line is over 1,024 bytes"
+        "refusal 2 in line 1 at byte 1024: too long: a line may have 1,024 bytes, a string or JSON8 text 32,768"
     );
     assert_eq!(upload.records().next(), None);
     assert!(format!("{upload:?}").starts_with("LentUpload { state: UploadState { taken: 1024,"));
@@ -456,7 +459,7 @@ fn the_longest_output() {
     upload.feed(&text).unwrap();
     assert_eq!(
         upload.feed(b"\n").unwrap_err().to_string(),
-        "refusal 17 in line 524288 at byte 2: the upload is over 1,048,576 bytes"
+        "refusal 17 in line 524288 at byte 2: the backup is longer than 1,048,576 bytes"
     );
 }
 
@@ -578,7 +581,7 @@ fn lines_are_written() {
     assert_eq!(j8::write_lines(&records[..20], &mut out), Err(unfit));
     assert_eq!(
         unfit.to_string(),
-        "refusal 1: a lent buffer, state, record or node table is unfit"
+        "refusal 1: what was lent for this is unfit"
     );
     assert_eq!(j8::write_lines_to_vec(&[0; 4]), Err(unfit));
     assert_eq!(out, [0xaa; 8]);

@@ -24,6 +24,7 @@ int main(void)
     sum += j8_json8_write(table, 64, text, sizeof text, out, sizeof out, line, sizeof line).length;
 #endif
 #if defined(ALL)
+    sum += j8_version() + j8_sentence(1, out, sizeof out).length;
     sum += j8_lines_write(text, sizeof text, out, sizeof out).length;
 #endif
     return (int)(sum + text[0] + out[0] + line[0] + table[0]);

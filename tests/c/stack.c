@@ -35,6 +35,7 @@ static const uint8_t *top;
 /* What a call is lent, set before it runs. */
 static uint8_t input[J8_UPLOAD_MAX + 1], line[J8_LINE_ROOM];
 static size_t input_len, room, table_room;
+static uint32_t number;
 static uint8_t out[6 * 262144], store[J8_STORE_ROOM(J8_TEXT_MAX)];
 static uint32_t table[J8_TABLE_ROOM];
 static j8_upload upload;
@@ -90,6 +91,18 @@ static void json8_write(void)
     j8_json8_write(table, nodes.nodes * J8_NODE_ROOM, input, input_len, store, nodes.stored, out, room);
 }
 
+static void version(void)
+{
+    MARK();
+    j8_version();
+}
+
+static void sentence(void)
+{
+    MARK();
+    j8_sentence(number, out, room);
+}
+
 static void json8_show(void)
 {
     MARK();
@@ -116,9 +129,11 @@ static entry entries[] = {
     { "j8_json8_read", json8_read, 16384, 0 },
     { "j8_json8_write", json8_write, 12288, 0 },
     { "j8_json8_show", json8_show, 1024, 0 },
+    { "j8_version", version, 1024, 0 },
+    { "j8_sentence", sentence, 2048, 0 },
 };
 
-enum { STRING_READ, STRING_WRITE, FRESH, FEED, FINISH, LINES_WRITE, JSON8_READ, JSON8_WRITE, JSON8_SHOW };
+enum { STRING_READ, STRING_WRITE, FRESH, FEED, FINISH, LINES_WRITE, JSON8_READ, JSON8_WRITE, JSON8_SHOW, VERSION, SENTENCE };
 
 /* Twice, over two paints: a byte that is written as it was painted once isn't so the other time. More is painted than is allowed; whole
    words are counted. */
@@ -336,12 +351,23 @@ static void measure_json8(void)
     measure_text();
 }
 
+static void measure_sentences(void)
+{
+    for (number = 0; number <= J8_ENDED + 1; number++) {
+        for (room = 0; room <= J8_SENTENCE_ROOM; room += J8_SENTENCE_ROOM) {
+            measure(SENTENCE);
+        }
+    }
+}
+
 int main(void)
 {
     size_t i;
     int within = 1;
 
     measure(FRESH);
+    measure(VERSION);
+    measure_sentences();
     measure_strings();
     measure_json8();
     printf("%-18s %8s %8s\n", "", "measured", "bound");

@@ -1,10 +1,11 @@
 -- What each C function returns and leaves: the contracts say that it does, and the claims of j8_claims are about the same.
 -- Assumes nothing.
-use Prim.Native.Nat.{ℕ, _/_}
+use Prim.Native.Nat.{ℕ, _+_, _*_, _/_}
 use mathlib.Core.List.{List}
 use lib.ListN.{length}
 use Rattle.strings.specs.Read.{readText, readInto, decodedOf}
 use Rattle.strings_write.specs.Write.{writeString, writtenIn, wroteInto}
+use Rattle.sentences.specs.Sentences.{sentence}
 use Rattle.json8.specs.Read.{readOf, parsedOf, tableAfter, storeAfter}
 use Rattle.json8_show.specs.Show.{shownAt}
 use Rattle.trees.specs.Tables.{nodesIn, treeOf}
@@ -19,6 +20,13 @@ use Rattle.structs.specs.declared.uploads.J8Fed.{J8Fed}
 use Rattle.structs.specs.Results.{decodedResult, writtenResult}
 use Rattle.structs.specs.Tables.{nodesResult, shownResult}
 use Rattle.structs.specs.Uploads.{uploadOf, given, fedOf}
+
+-- `j8_version()`: "major times 1,000,000, minor times 1,000, patch", of 0.1.0
+abbrev pub versionOf : ℕ → ℕ → ℕ → ℕ
+versionOf major minor patch = major * 1000000 + (minor * 1000 + patch)
+
+abbrev pub version : ℕ
+version = versionOf 0 1 0
 
 -- a result, and the output
 pub record Ran : Type 0 where
@@ -36,6 +44,10 @@ stringRead text out = record { result = decodedResult (decodedOf (readText (leng
 -- `j8_lines_write(records, out)`
 abbrev pub linesWrite : List ℕ → List ℕ → Ran
 linesWrite records out = record { result = writtenResult (wroteLines (length out) records); out = linesInto records out }
+
+-- `j8_sentence(number, out)`
+abbrev pub sentenceWrite : ℕ → List ℕ → Ran
+sentenceWrite number out = record { result = writtenResult (writtenIn (length out) (sentence number)); out = wroteInto (sentence number) out }
 
 -- `j8_json8_write(table, text, store, out)`
 abbrev pub json8Write : List ℕ → List ℕ → List ℕ → List ℕ → Ran

@@ -1,11 +1,19 @@
 // The C interface: include/j8.h has each function's words for a caller.
 ghost use mathlib.Core.Path.{_≡_};
-ghost use Rattle.j8.specs.Runs.{stringRead, stringWrite, linesWrite};
+ghost use Rattle.j8.specs.Runs.{version, stringRead, stringWrite, linesWrite, sentenceWrite};
 use structs::results;
 use structs::results::J8Result;
 
 pub mod tables;
 pub mod uploads;
+
+// The version, as j8.h's three numbers have it: 0.1.0.
+#[no_mangle]
+pub extern "C" fn j8_version() -> u32
+    ensures { λ r. ⌜ r ≡ version ⌝ }
+{
+    1_000
+}
 
 #[no_mangle]
 pub extern "C" fn j8_string_read(text: &[u8], out: &mut [u8]) -> J8Result
@@ -29,4 +37,12 @@ pub extern "C" fn j8_lines_write(records: &[u8], out: &mut [u8]) -> J8Result
     ensures stored { λ r. ⌜ now (out .exit) ≡ linesWrite (now (records .entry)) (now (out .entry)) .out ⌝ }
 {
     results::of_written(lines_write::write::write(records, out))
+}
+
+#[no_mangle]
+pub extern "C" fn j8_sentence(number: u32, out: &mut [u8]) -> J8Result
+    ensures answer { λ r. ⌜ r ≡ sentenceWrite number (now (out .entry)) .result ⌝ }
+    ensures stored { λ r. ⌜ now (out .exit) ≡ sentenceWrite number (now (out .entry)) .out ⌝ }
+{
+    results::of_written(sentences::write(number, out))
 }

@@ -30,9 +30,9 @@ pub extern "C" fn j8_upload_feed(
 }
 
 #[no_mangle]
-pub extern "C" fn j8_upload_finish(upload: J8Upload, line: &mut [u8], out: &mut [u8]) -> J8Fed
+pub extern "C" fn j8_upload_finish(upload: J8Upload, line: &[u8], out: &mut [u8]) -> J8Fed
     ensures answer { λ r. ⌜ r ≡ uploadFinish upload (now (line .entry)) (now (out .entry)) .fed ⌝ }
-    ensures held { λ r. ⌜ now (line .exit) ≡ uploadFinish upload (now (line .entry)) (now (out .entry)) .line ⌝ }
+    ensures held { λ r. ⌜ now (line .entry) ≡ uploadFinish upload (now (line .entry)) (now (out .entry)) .line ⌝ }
     ensures stored { λ r. ⌜ now (out .exit) ≡ uploadFinish upload (now (line .entry)) (now (out .entry)) .out ⌝ }
 {
     let s = uploads::state_of(upload);

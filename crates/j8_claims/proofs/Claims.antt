@@ -7,10 +7,11 @@ use Rattle.j8_lines.proofs.WholeList.{whole-list}
 use Rattle.upload_claims.proofs.Claims.{every-list-of-calls, pieces-do-not-matter, records-after-finish}
 use Rattle.structs.specs.Uploads.{answerOf}
 use Rattle.j8.specs.Runs.{ranCall}
-use Rattle.j8_claims.specs.Claims.{Every-List-Of-C-Calls, C-Pieces-Do-Not-Matter, C-Records-After-Finish, C-Strings-Return, C-Unicode-Is-Utf8, C-Lines-Return, C-Tables-Return}
+use Rattle.j8_claims.specs.Claims.{Every-List-Of-C-Calls, C-Pieces-Do-Not-Matter, C-Records-After-Finish, C-Strings-Return, C-Unicode-Is-Utf8, C-Lines-Return, C-Tables-Return, C-Sentences-Have-Room, C-Sentences-Tell-Numbers}
 use Rattle.j8_claims.proofs.Lists.{run-back, answers-back, handed-back}
 use Rattle.j8_claims.proofs.Unicode.{unicode-read}
 use Rattle.j8_claims.proofs.Returned.{string-returned, lines-returned, table-returned}
+use Rattle.j8_claims.proofs.SentencesTold.{sentence-done, sentence-tells}
 
 pub every-list-of-c-calls : Every-List-Of-C-Calls
 every-list-of-c-calls cs line out h = (
@@ -37,3 +38,9 @@ c-lines-return records text cs line out l b e h = lines-returned records text e 
 
 pub c-tables-return : C-Tables-Return
 c-tables-return = table-returned
+
+pub c-sentences-have-room : C-Sentences-Have-Room
+c-sentences-have-room = sentence-done
+
+pub c-sentences-tell-numbers : C-Sentences-Tell-Numbers
+c-sentences-tell-numbers = sentence-tells

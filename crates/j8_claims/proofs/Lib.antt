@@ -1,4 +1,5 @@
 pub mod Lists
 pub mod Returned
+pub mod SentencesTold
 pub mod Claims
 pub mod Unicode

@@ -35,10 +35,10 @@ wrote : (text out : List ℕ) → length text ≤ length out → wroteInto text 
 unfolding wroteInto pick
 wrote text out h = rw (le-leb (length text) (length out) h)
 
-front : (text out : List ℕ) → length text ≤ length out → take (length text) (wroteInto text out) ≡ text
+pub front : (text out : List ℕ) → length text ≤ length out → take (length text) (wroteInto text out) ≡ text
 front text out h = ap (take (length text)) (wrote text out h) ∙ take-append-seam text (drop (length text) out)
 
-write-done : (text : List ℕ) (room : ℕ) → length text ≤ room → writtenResult (writtenIn room text) ≡ done (length text)
+pub write-done : (text : List ℕ) (room : ℕ) → length text ≤ room → writtenResult (writtenIn room text) ≡ done (length text)
 unfolding writtenIn pick
 write-done text room h = rw (le-leb (length text) room h)
 

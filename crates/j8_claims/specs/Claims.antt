@@ -11,6 +11,8 @@ use Rattle.utf8.specs.Utf8.{validUtf8}
 use Rattle.notation.specs.declared.styles.Style.the-variants.{Unicode}
 use Rattle.notation.specs.Marks.{opens, opening}
 use Rattle.strings_write.specs.Write.{writeString}
+use Rattle.sentences.specs.Sentences.{sentence}
+use Rattle.sentences.specs.Claims.{lastNumber, sentenceRoom}
 use Rattle.trees.specs.Trees.{Tree, render}
 use Rattle.trees.specs.Tables.{just, nodesIn, treeOf}
 use Rattle.trees.specs.Sizes.{sizeOf, storeOf}
@@ -20,7 +22,7 @@ use Rattle.j8_lines.specs.Lines.{cut}
 use Rattle.upload_claims.specs.Claims.{definedAnswers, Finished, firstRefusal, EndedWith, Within}
 use Rattle.structs.specs.Results.{done}
 use Rattle.structs.specs.Uploads.{answerOf, given}
-use Rattle.j8.specs.Runs.{Ran, stringWrite, stringRead, linesWrite, json8Write, RanNodes, json8Read, RanCall, ranCall}
+use Rattle.j8.specs.Runs.{Ran, stringWrite, stringRead, linesWrite, sentenceWrite, json8Write, RanNodes, json8Read, RanCall, ranCall}
 use Rattle.j8_claims.specs.Lists.{runC, beganC, answersC}
 
 -- Demand 3, of `j8_upload_feed` and `j8_upload_finish`: "Take any list of feeds and finishes of one J8 Lines upload, in any order, empty
@@ -91,3 +93,17 @@ C-Tables-Return =
     → sizeOf t ≤ length into / 4 → storeOf t ≤ length stored
     → TableReturned t (json8Write table text store out)
     (json8Read (take (json8Write table text store out .result .length) (json8Write table text store out .out)) into stored)
+
+-- J8_SENTENCE_ROOM bytes hold the sentence of every number
+abbrev pub C-Sentences-Have-Room : Type 0
+C-Sentences-Have-Room = (n : ℕ) (out : List ℕ) → sentenceRoom ≤ length out → sentenceWrite n out .result ≡ done (length (sentence n))
+
+-- what a call left in front of a buffer
+abbrev pub told : Ran → List ℕ
+told r = take (r .result .length) (r .out)
+
+-- a refusal's sentence as `j8_sentence` tells it: for no other number it tells the same
+abbrev pub C-Sentences-Tell-Numbers : Type 0
+C-Sentences-Tell-Numbers =
+    (m n : ℕ) (out into : List ℕ) → 1 ≤ m → m ≤ lastNumber → sentenceRoom ≤ length out → sentenceRoom ≤ length into
+    → told (sentenceWrite m out) ≡ told (sentenceWrite n into) → m ≡ n

@@ -1,6 +1,6 @@
 mod Decimals
-mod SentenceLines
 mod Reading
 mod Lines
+mod Objects
 mod OneLines
 mod Claims

@@ -1,10 +1,10 @@
--- One line: what is plain may stand before a line, and each part of a line is plain, its ascii by a computed test.
+-- One line: what is plain may stand before a line, and each part of a line is plain, its words by a computed test.
 -- Assumes nothing.
 use Prim.Native.Nat.{ℕ, zero, suc, _+_, _/_, _%_, _≤_}
 use Prim.Native.String.{String}
 use mathlib.Core.Bool.{Bool, true, _&&_}
 use mathlib.Core.List.{List, [], _∷_, _++_}
-use mathlib.Core.Path.{_≡_, refl, sym, subst}
+use mathlib.Core.Path.{_≡_, refl}
 use native.Mathlib.Omega.{arith}
 use borrow.Author.Tests.{le-leb, leb-true}
 use lib.Dec.{eqb, leb, ltb}
@@ -15,13 +15,15 @@ use Rattle.prelude.specs.Pick.{pick}
 use Rattle.units.proofs.WrittenUnits.{Printed, printed-append}
 use Rattle.strings_write.specs.Write.{writeString}
 use Rattle.string_claims.proofs.Printed.{write-printed}
-use Rattle.messages.specs.declared.messages.Message.{Message}
-use Rattle.messages.specs.declared.messages.Message.the-variants.{Refused, Verdict, Failed, Empty, Long}
+use Rattle.sentences.specs.Sentences.{sentence}
+use Rattle.sentences.specs.Claims.{InOneLine}
+use Rattle.sentences.proofs.Claims.{sentences-stay-in-line}
+use Rattle.messages.specs.declared.messages.Head.{Head}
+use Rattle.messages.specs.declared.messages.Head.the-variants.{Refused, Note}
 use Rattle.messages.specs.declared.messages.Spot.{Spot}
 use Rattle.messages.specs.declared.messages.Spot.the-variants.{Line, Text, Quoted}
 use Rattle.messages.specs.Texts.{nought, decimalIn, decimal}
-use Rattle.messages.specs.Sentences.{Row, rows, unknown, sentenceIn, sentence}
-use Rattle.messages.specs.Messages.{entryText, counted, placeText, numberText, lineText, columnText, spotText, verdictText, messageText}
+use Rattle.messages.specs.Messages.{entryText, counted, lineText, spotText, headText, messageText, spotFields, fieldsText, objectText, saidText}
 use Rattle.messages.specs.Claims.{inLine, OneLine}
 
 plain-in : (x : ℕ) → 0x20 ≤ x → inLine x ≡ true
@@ -48,17 +50,8 @@ plain-by : (s : List ℕ) → isPlain s ≡ true → Printed s
 plain-by [] e = tt
 plain-by (x ∷ s) e = (leb-true 0x20 x (and-left (leb 0x20 x) (isPlain s) e), plain-by s (and-right (leb 0x20 x) (isPlain s) e))
 
-abbrev arePlain : List Row → Bool
-arePlain [] = isPlain (ascii unknown)
-arePlain (r ∷ rs) = isPlain (ascii (r .says)) && arePlain rs
-
-sentences-plain : (rs : List Row) → arePlain rs ≡ true → (n : ℕ) → Printed (sentenceIn rs n)
-unfolding sentenceIn
-sentences-plain [] e n = plain-by (ascii unknown) e
-sentences-plain (r ∷ rs) e n =
-    pick-case Printed (eqb n (r .number)) _ _
-    (λ h. plain-by (ascii (r .says)) (and-left (isPlain (ascii (r .says))) (arePlain rs) e))
-    (λ h. sentences-plain rs (and-right (isPlain (ascii (r .says))) (arePlain rs) e) n)
+words-plain : (w : String) → isPlain (ascii w) ≡ true → Printed (ascii w)
+words-plain w e = plain-by (ascii w) e
 
 digits-plain : (k n : ℕ) → Printed (decimalIn k n)
 unfolding decimalIn
@@ -69,50 +62,56 @@ digits-plain (suc k) n =
     (omega arith, tt)
 
 counted-plain : (a b : String) (n : ℕ) → isPlain (ascii a) ≡ true → isPlain (ascii b) ≡ true → Printed (counted a n b)
-counted-plain a b n e f = printed-append (ascii a) _ (plain-by (ascii a) e) (printed-append (decimal n) (ascii b) (digits-plain 20 n) (plain-by (ascii b) f))
-
-number-plain : (n : ℕ) → Printed (numberText n)
-number-plain n = counted-plain "refused " " at " n refl refl
+counted-plain a b n e f = printed-append (ascii a) _ (words-plain a e) (printed-append (decimal n) (ascii b) (digits-plain 20 n) (words-plain b f))
 
 line-plain : (n : ℕ) → Printed (lineText n)
 line-plain n = counted-plain "line " ", " n refl refl
 
-column-plain : (n : ℕ) → Printed (columnText n)
-column-plain n = counted-plain "column " ", " n refl refl
-
 spot-plain : (s : Spot) → Printed (spotText s)
 spot-plain (Line line) = line-plain line
-spot-plain (Text line column) = printed-append (lineText line) (columnText column) (line-plain line) (column-plain column)
+spot-plain (Text line column) = printed-append (lineText line) (counted "column " column ", ") (line-plain line) (counted-plain "column " ", " column refl refl)
 spot-plain Quoted = tt
 
-place-line : (number place : ℕ) → OneLine (placeText number place)
-place-line number place =
-    plain-then (counted "place " place ": ") _ (counted-plain "place " ": " place refl refl)
-    (plain-then (sentence number) (ascii "\n") (sentences-plain rows refl number) refl)
+head-plain : (head : Head) → Printed (headText head)
+unfolding headText
+head-plain (Refused number spot place) =
+    printed-append (counted "refused " number " at ") _ (counted-plain "refused " " at " number refl refl)
+    (printed-append (spotText spot) (counted "place " place ": ") (spot-plain spot) (counted-plain "place " ": " place refl refl))
+head-plain Note = words-plain "j8: " refl
 
--- words, and LF behind them
-ended-by : (s : String) (t : List ℕ) → isPlain (ascii s) ≡ true → t ≡ ascii s ++ (LF ∷ []) → OneLine t
-ended-by s t e h = subst OneLine (sym h) (plain-then (ascii s) (LF ∷ []) (plain-by (ascii s) e) refl)
+spot-fields-plain : (s : Spot) → Printed (spotFields s)
+spot-fields-plain (Line line) = counted-plain "\"line\":" ",\"column\":null," line refl refl
+spot-fields-plain (Text line column) =
+    printed-append (counted "\"line\":" line ",") (counted "\"column\":" column ",") (counted-plain "\"line\":" "," line refl refl)
+    (counted-plain "\"column\":" "," column refl refl)
+spot-fields-plain Quoted = words-plain "\"line\":null,\"column\":null," refl
 
--- a number between ascii that end in LF
-counted-line : (a b : String) (c : String) (n : ℕ) → isPlain (ascii a) ≡ true → isPlain (ascii b) ≡ true → ascii c ≡ ascii b ++ (LF ∷ []) → OneLine (counted a n c)
-counted-line a b c n e f h =
-    plain-then (ascii a) _ (plain-by (ascii a) e) (plain-then (decimal n) (ascii c) (digits-plain 20 n) (ended-by b (ascii c) f h))
+fields-plain : (head : Head) → Printed (fieldsText head)
+unfolding fieldsText
+fields-plain (Refused number spot place) =
+    printed-append (counted "{\"number\":" number ",") _ (counted-plain "{\"number\":" "," number refl refl)
+    (printed-append (spotFields spot) (counted "\"place\":" place ",") (spot-fields-plain spot) (counted-plain "\"place\":" "," place refl refl))
+fields-plain Note = words-plain "{\"number\":null,\"line\":null,\"column\":null,\"place\":null," refl
 
-verdict-line : (n : ℕ) → OneLine (verdictText n)
-unfolding verdictText
-verdict-line n =
-    pick-case OneLine (eqb n 0) _ _
-    (λ e. ended-by "j8: ok" (ascii "j8: ok\n") refl refl)
-    (λ e. counted-line "j8: refused " "" "\n" n refl refl refl)
+as-printed : (s : List ℕ) → InOneLine s → Printed s
+as-printed [] p = tt
+as-printed (x ∷ s) p = (p .0, as-printed s (p .1))
 
-pub message-line : (m : Message) → OneLine (messageText m)
+pub message-line : (head : Head) (s : List ℕ) → InOneLine s → OneLine (messageText head s)
 unfolding messageText
-message-line (Refused number spot place) = plain-then (numberText number) _ (number-plain number) (plain-then (spotText spot) _ (spot-plain spot) (place-line number place))
-message-line (Verdict number) = verdict-line number
-message-line Failed = ended-by "j8: failed" (ascii "j8: failed\n") refl refl
-message-line Empty = ended-by "the input is empty" (ascii "the input is empty\n") refl refl
-message-line (Long n) = counted-line "this form has " " bytes, more than the 32,768 that are read" " bytes, more than the 32,768 that are read\n" n refl refl refl
+message-line head s p = plain-then (headText head) (s ++ (LF ∷ [])) (head-plain head) (plain-then s (LF ∷ []) (as-printed s p) refl)
+
+pub object-line : (head : Head) (s : List ℕ) → OneLine (objectText head s)
+unfolding objectText
+object-line head s =
+    plain-then (fieldsText head) _ (fields-plain head)
+    (plain-then (ascii "\"sentence\":") (writeString s ++ ascii "}\n") (words-plain "\"sentence\":" refl)
+    (plain-then (writeString s) (ascii "}\n") (write-printed s) (plain-then (ascii "}") (LF ∷ []) (words-plain "}" refl) refl)))
+
+pub refusal-line : (json : Bool) (head : Head) (n : ℕ) → OneLine (saidText json head (sentence n))
+unfolding saidText
+refusal-line json head n =
+    pick-case OneLine json _ _ (λ e. object-line head (sentence n)) (λ e. message-line head (sentence n) (sentences-stay-in-line n))
 
 pub entry-line : (n : ℕ) (s : List ℕ) → OneLine (entryText n s)
 unfolding entryText

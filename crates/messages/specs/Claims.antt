@@ -1,15 +1,19 @@
 -- What is claimed of the lines that are printed: each claim is a type, and proofs/Claims.antt has a term of it.
 -- Assumes nothing.
 use Prim.Native.Nat.{ℕ, _^_, _<_}
-use mathlib.Core.Bool.{Bool, true}
-use mathlib.Core.List.{List, [], _∷_}
+use mathlib.Core.Bool.{Bool, true, false}
+use mathlib.Core.List.{List, [], _∷_, _++_}
 use mathlib.Core.Path.{_≡_}
 use lib.Dec.{eqb, leb}
 use Rattle.prelude.specs.Pick.{pick}
-use Rattle.messages.specs.declared.messages.Message.{Message}
-use Rattle.prelude.specs.Bytes.{LF}
+use Rattle.sentences.specs.Sentences.{sentence}
+use Rattle.sentences.specs.Claims.{InOneLine}
+use Rattle.trees.specs.Trees.{render}
+use Rattle.messages.specs.declared.messages.Head.{Head}
+use Rattle.prelude.specs.Bytes.{ascii, LF}
 use Rattle.messages.specs.Texts.{decimal, denotes}
-use Rattle.messages.specs.Messages.{entryText, messageText}
+use Rattle.messages.specs.Messages.{entryText, messageText, objectText, saidText}
+use Rattle.messages.specs.Objects.{objectOf}
 
 -- a number's digits denote it
 abbrev pub Decimals-Denote : Type 0
@@ -29,5 +33,18 @@ OneLine (x ∷ y ∷ r) = (inLine x ≡ true) × OneLine (y ∷ r)
 abbrev pub Entries-Are-Lines : Type 0
 Entries-Are-Lines = (n : ℕ) (s : List ℕ) → OneLine (entryText n s)
 
+-- whatever bytes a sentence has
+abbrev pub Objects-Are-Lines : Type 0
+Objects-Are-Lines = (head : Head) (s : List ℕ) → OneLine (objectText head s)
+
+-- and what JSON8's writer has for a dict of five pairs, so that it can be read again
+abbrev pub Objects-Are-Json8 : Type 0
+Objects-Are-Json8 = (head : Head) (s : List ℕ) → objectText head s ≡ render (objectOf head s) ++ ascii "\n"
+
+-- a plain line has its sentence as it is, so that must have no control byte
 abbrev pub Messages-Are-Lines : Type 0
-Messages-Are-Lines = (m : Message) → OneLine (messageText m)
+Messages-Are-Lines = (head : Head) (s : List ℕ) → InOneLine s → OneLine (messageText head s)
+
+-- which no refusal's sentence has
+abbrev pub Refusals-Are-Lines : Type 0
+Refusals-Are-Lines = (json : Bool) (head : Head) (n : ℕ) → OneLine (saidText json head (sentence n))

@@ -1,6 +1,5 @@
 pub mod Texts
-pub mod Sentences
 pub mod Positions
 pub mod Messages
+pub mod Objects
 pub mod Claims
-pub mod inner

@@ -1,18 +1,19 @@
-// One line for each thing that there is to say.
+// One line for each thing that there is to say: plain, or as a JSON object.
 ghost use mathlib.Core.List.{_++_};
 ghost use mathlib.Core.Path.{_≡_};
 ghost use Prim.Native.Nat.{_≤_};
 ghost use lib.ListN.{length};
+ghost use Rattle.utf8.specs.Class.{IsTable};
 ghost use Rattle.strings_write.specs.Write.{writtenIn, wroteInto};
 ghost use Rattle.rooms.specs.inner.Puts.{roomMax, Put};
 ghost use Rattle.messages.specs.Texts.{decimal};
-ghost use Rattle.messages.specs.declared.messages.Message.the-variants.{Refused, Verdict, Long};
-ghost use Rattle.messages.specs.Messages.{numberText, lineText, columnText, spotText, placeText, messageText};
-use crate::sentences;
+ghost use Rattle.messages.specs.declared.messages.Head.the-variants.{Refused};
+ghost use Rattle.messages.specs.Messages.{lineText, spotText, headText, messageText, spotFields, fieldsText, objectText, saidText};
 use crate::texts;
 use prelude::answers::Written;
 use prelude::refusals;
 use rooms::parts;
+use utf8::classes;
 
 // Where the place of a refusal is counted from: a line of a J8 Lines backup, a JSON8 text, of which the line and the column are told too, or
 // a J8 string.
@@ -22,16 +23,10 @@ pub enum Spot {
     Quoted,
 }
 
-pub enum Message {
-    // a refusal: its number, and where it stands
+// What stands before a sentence: a refusal's number and where it stands, or the command's name.
+pub enum Head {
     Refused(u32, Spot, usize),
-    // how a run ended: a refusal's number, or 0
-    Verdict(u32),
-    // a run that couldn't read its input or write its output
-    Failed,
-    Empty,
-    // a text was written that is too long to be read: its length
-    Long(usize),
+    Note,
 }
 
 // A number between words.
@@ -51,25 +46,11 @@ fn put_counted(
     parts::put_all(behind, room, q, out)
 }
 
-fn put_number(number: u32, room: usize, out: &mut [u8]) -> usize
-    requires { ⌜ room ≤ roomMax ⌝ }
-    ensures { λ r. ⌜ Put (numberText number) room 0 r (now (out .entry)) (now (out .exit)) ⌝ }
-{
-    put_counted(b"refused ", number as usize, b" at ", room, 0, out)
-}
-
 fn put_line(line: usize, room: usize, o: usize, out: &mut [u8]) -> usize
     requires { ⌜ room ≤ roomMax ⌝ }
     ensures { λ r. ⌜ Put (lineText line) room o r (now (out .entry)) (now (out .exit)) ⌝ }
 {
     put_counted(b"line ", line, b", ", room, o, out)
-}
-
-fn put_column(column: usize, room: usize, o: usize, out: &mut [u8]) -> usize
-    requires { ⌜ room ≤ roomMax ⌝ }
-    ensures { λ r. ⌜ Put (columnText column) room o r (now (out .entry)) (now (out .exit)) ⌝ }
-{
-    put_counted(b"column ", column, b", ", room, o, out)
 }
 
 fn put_spot(spot: Spot, room: usize, o: usize, out: &mut [u8]) -> usize
@@ -80,79 +61,118 @@ fn put_spot(spot: Spot, room: usize, o: usize, out: &mut [u8]) -> usize
         Spot::Line(line) => put_line(line, room, o, out),
         Spot::Text(line, column) => {
             let p = put_line(line, room, o, out);
-            put_column(column, room, p, out)
+            put_counted(b"column ", column, b", ", room, p, out)
         }
         Spot::Quoted => o,
     }
 }
 
-// The place, the sentence and the line's end.
-fn put_place(number: u32, place: usize, room: usize, o: usize, out: &mut [u8]) -> usize
+fn put_refusal(number: u32, spot: Spot, place: usize, room: usize, out: &mut [u8]) -> usize
     requires { ⌜ room ≤ roomMax ⌝ }
-    ensures { λ r. ⌜ Put (placeText number place) room o r (now (out .entry)) (now (out .exit)) ⌝ }
+    ensures { λ r. ⌜ Put (headText (Refused number spot place)) room 0 r (now (out .entry)) (now (out .exit)) ⌝ }
 {
-    let p = put_counted(b"place ", place, b": ", room, o, out);
-    let q = sentences::put_sentence(number, room, p, out);
+    let p = put_counted(b"refused ", number as usize, b" at ", room, 0, out);
+    let q = put_spot(spot, room, p, out);
+    put_counted(b"place ", place, b": ", room, q, out)
+}
+
+fn put_head(head: Head, room: usize, out: &mut [u8]) -> usize
+    requires { ⌜ room ≤ roomMax ⌝ }
+    ensures { λ r. ⌜ Put (headText head) room 0 r (now (out .entry)) (now (out .exit)) ⌝ }
+{
+    match head {
+        Head::Refused(number, spot, place) => put_refusal(number, spot, place, room, out),
+        Head::Note => parts::put_all(b"j8: ", room, 0, out),
+    }
+}
+
+fn put_message(head: Head, sentence: &[u8], room: usize, out: &mut [u8]) -> usize
+    requires { ⌜ room ≤ roomMax ⌝ }
+    ensures { λ r. ⌜ Put (messageText head (now (sentence .entry))) room 0 r (now (out .entry)) (now (out .exit)) ⌝ }
+{
+    let p = put_head(head, room, out);
+    let q = parts::put_all(sentence, room, p, out);
     parts::put_byte(b'\n', room, q, out)
 }
 
-fn put_refusal(number: u32, spot: Spot, place: usize, room: usize, out: &mut [u8]) -> usize
+fn put_spot_fields(spot: Spot, room: usize, o: usize, out: &mut [u8]) -> usize
     requires { ⌜ room ≤ roomMax ⌝ }
-    ensures { λ r. ⌜ Put (messageText (Refused number spot place)) room 0 r (now (out .entry)) (now (out .exit)) ⌝ }
+    ensures { λ r. ⌜ Put (spotFields spot) room o r (now (out .entry)) (now (out .exit)) ⌝ }
 {
-    let p = put_number(number, room, out);
-    let q = put_spot(spot, room, p, out);
-    put_place(number, place, room, q, out)
-}
-
-fn put_verdict(number: u32, room: usize, out: &mut [u8]) -> usize
-    requires { ⌜ room ≤ roomMax ⌝ }
-    ensures { λ r. ⌜ Put (messageText (Verdict number)) room 0 r (now (out .entry)) (now (out .exit)) ⌝ }
-{
-    if number == 0 {
-        return parts::put_all(b"j8: ok\n", room, 0, out);
-    }
-    put_counted(b"j8: refused ", number as usize, b"\n", room, 0, out)
-}
-
-fn put_length(n: usize, room: usize, out: &mut [u8]) -> usize
-    requires { ⌜ room ≤ roomMax ⌝ }
-    ensures { λ r. ⌜ Put (messageText (Long n)) room 0 r (now (out .entry)) (now (out .exit)) ⌝ }
-{
-    put_counted(
-        b"this form has ",
-        n,
-        b" bytes, more than the 32,768 that are read\n",
-        room,
-        0,
-        out,
-    )
-}
-
-// A message's line, as far as room and buffer reach.
-fn put_message(m: Message, room: usize, out: &mut [u8]) -> usize
-    requires { ⌜ room ≤ roomMax ⌝ }
-    ensures { λ r. ⌜ Put (messageText m) room 0 r (now (out .entry)) (now (out .exit)) ⌝ }
-{
-    match m {
-        Message::Refused(number, spot, place) => put_refusal(number, spot, place, room, out),
-        Message::Verdict(number) => put_verdict(number, room, out),
-        Message::Failed => parts::put_all(b"j8: failed\n", room, 0, out),
-        Message::Empty => parts::put_all(b"the input is empty\n", room, 0, out),
-        Message::Long(n) => put_length(n, room, out),
+    match spot {
+        Spot::Line(line) => put_counted(b"\"line\":", line, b",\"column\":null,", room, o, out),
+        Spot::Text(line, column) => {
+            let p = put_counted(b"\"line\":", line, b",", room, o, out);
+            put_counted(b"\"column\":", column, b",", room, p, out)
+        }
+        Spot::Quoted => parts::put_all(b"\"line\":null,\"column\":null,", room, o, out),
     }
 }
 
-// Puts a message's line in front of out, or answers 12 and leaves out as it was: one pass over no buffer measures it, one stores it.
-pub fn write(m: Message, out: &mut [u8]) -> Written
-    ensures answer { λ r. ⌜ r ≡ writtenIn (length (now (out .entry))) (messageText m) ⌝ }
-    ensures stored { λ r. ⌜ now (out .exit) ≡ wroteInto (messageText m) (now (out .entry)) ⌝ }
+fn put_refusal_fields(number: u32, spot: Spot, place: usize, room: usize, out: &mut [u8]) -> usize
+    requires { ⌜ room ≤ roomMax ⌝ }
+    ensures { λ r. ⌜ Put (fieldsText (Refused number spot place)) room 0 r (now (out .entry)) (now (out .exit)) ⌝ }
 {
+    let p = put_counted(b"{\"number\":", number as usize, b",", room, 0, out);
+    let q = put_spot_fields(spot, room, p, out);
+    put_counted(b"\"place\":", place, b",", room, q, out)
+}
+
+fn put_fields(head: Head, room: usize, out: &mut [u8]) -> usize
+    requires { ⌜ room ≤ roomMax ⌝ }
+    ensures { λ r. ⌜ Put (fieldsText head) room 0 r (now (out .entry)) (now (out .exit)) ⌝ }
+{
+    match head {
+        Head::Refused(number, spot, place) => put_refusal_fields(number, spot, place, room, out),
+        Head::Note => parts::put_all(
+            b"{\"number\":null,\"line\":null,\"column\":null,\"place\":null,",
+            room,
+            0,
+            out,
+        ),
+    }
+}
+
+fn put_object(t: &[u8; 256], head: Head, sentence: &[u8], room: usize, out: &mut [u8]) -> usize
+    requires { ⌜ IsTable (now t) × (room ≤ roomMax) ⌝ }
+    ensures { λ r. ⌜ Put (objectText head (now (sentence .entry))) room 0 r (now (out .entry)) (now (out .exit)) ⌝ }
+{
+    let p = put_fields(head, room, out);
+    let q = parts::put_all(b"\"sentence\":", room, p, out);
+    let r = parts::put_string(t, sentence, room, q, out);
+    parts::put_all(b"}\n", room, r, out)
+}
+
+// A line, as far as room and buffer reach.
+fn put_said(
+    t: &[u8; 256],
+    head: Head,
+    sentence: &[u8],
+    json: bool,
+    room: usize,
+    out: &mut [u8],
+) -> usize
+    requires { ⌜ IsTable (now t) × (room ≤ roomMax) ⌝ }
+    ensures { λ r. ⌜ Put (saidText json head (now (sentence .entry))) room 0 r (now (out .entry)) (now (out .exit)) ⌝ }
+{
+    if json {
+        return put_object(t, head, sentence, room, out);
+    }
+    put_message(head, sentence, room, out)
+}
+
+// Puts the line of a head and its sentence in front of out, or answers 12 and leaves out as it was: one pass over no buffer measures it, one
+// stores it.
+pub fn write(head: Head, sentence: &[u8], json: bool, out: &mut [u8]) -> Written
+    ensures answer { λ r. ⌜ r ≡ writtenIn (length (now (out .entry))) (saidText json head (now (sentence .entry))) ⌝ }
+    ensures stored { λ r. ⌜ now (out .exit) ≡ wroteInto (saidText json head (now (sentence .entry))) (now (out .entry)) ⌝ }
+{
+    let t = classes::table();
     let room = out.len();
-    let n = put_message(m, room, &mut out[..0]);
+    let n = put_said(&t, head, sentence, json, room, &mut out[..0]);
     if room < n {
         return Written::Refused(refusals::NO_ROOM);
     }
-    put_message(m, room, out);
+    put_said(&t, head, sentence, json, room, out);
     Written::Wrote(n)
 }

@@ -140,9 +140,9 @@ fn at_end(s: Upload, used: usize) -> Upload
 }
 
 // The end of an upload that is neither refused nor ended.
-pub(crate) fn take_end(s: Upload, line: &mut [u8], out: &mut [u8]) -> Upload
+pub(crate) fn take_end(s: Upload, line: &[u8], out: &mut [u8]) -> Upload
     requires { ⌜ Fit (lent s (now line) (now out)) ⌝ }
-    ensures { λ r. ⌜ lent r (now (line .exit)) (now (out .exit)) ≡ finishAll (lent s (now (line .entry)) (now (out .entry))) ⌝ }
+    ensures { λ r. ⌜ lent r (now (line .entry)) (now (out .exit)) ≡ finishAll (lent s (now (line .entry)) (now (out .entry))) ⌝ }
 {
     let held = s.held;
     if held == 0 {

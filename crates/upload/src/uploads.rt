@@ -129,9 +129,9 @@ impl Upload {
         }
     }
 
-    // Reads the open line, if it holds a byte, and ends the upload.
-    pub fn finish(self, line: &mut [u8], out: &mut [u8]) -> Fed
-        ensures { λ r. ⌜ called r (now (line .exit)) (now (out .exit)) ≡ finish (lent self (now (line .entry)) (now (out .entry))) ⌝ }
+    // Reads the open line, if it holds a byte, and ends the upload. The line buffer is as the definition leaves it: nothing is written to it.
+    pub fn finish(self, line: &[u8], out: &mut [u8]) -> Fed
+        ensures { λ r. ⌜ called r (now (line .entry)) (now (out .exit)) ≡ finish (lent self (now (line .entry)) (now (out .entry))) ⌝ }
     {
         let a = stop(self, line.len(), out.len());
         if a.number != 0 {

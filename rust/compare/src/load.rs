@@ -102,7 +102,7 @@ impl Handler {
             state.used = 0;
             (rest, calls) = (behind, calls + 1);
         }
-        let fed = raw::upload_finish(state, &mut self.line, out);
+        let fed = raw::upload_finish(state, &self.line, out);
         self.handed.extend_from_slice(&out[..fed.upload.used]);
         let used = self.handed.len();
         (j8_upload { used, ..fed.upload }, fed.answer, calls)

@@ -56,7 +56,7 @@ pub const LIBRARY: Side = Side {
 pub const RAW: Side = Side {
     fresh: raw::upload_fresh,
     feed: raw::upload_feed,
-    finish: raw::upload_finish,
+    finish: |state, line, out| raw::upload_finish(state, line, out),
     write: raw::lines_write,
 };
 

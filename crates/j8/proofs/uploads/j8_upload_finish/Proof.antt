@@ -17,12 +17,9 @@ fed-from-requires c κs = search needs
 same-length : tie.Need-same-length
 same-length c = search needs
 
-same-length-2 : tie.Need-same-length-2
-same-length-2 c = search needs
-
 returns : tie.Need-returns
 returns c =
-    as-finished _ _ _ _ _ _ _ _ (c .before .before .before .before .before .before .before .before .state-of .ensures) (c .fed-from .ensures) (c .before .before .before .before .before .finish .ensures)
+    as-finished _ _ _ _ _ _ _ _ (c .before .before .before .before .before .state-of .ensures) (c .fed-from .ensures) (c .before .before .before .finish .ensures)
 
 pub j8-upload-finish-spec : {M : Type 1} → statement M
 j8-upload-finish-spec =
@@ -32,5 +29,4 @@ j8-upload-finish-spec =
     finish-requires
     fed-from-requires
     same-length
-    same-length-2
     returns)

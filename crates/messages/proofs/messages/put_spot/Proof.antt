@@ -19,8 +19,14 @@ enum-known-spot-2 c = search needs
 put-line-requires-2 : tie.Need-put-line-requires-2
 put-line-requires-2 c κs = search needs
 
-put-column-requires : tie.Need-put-column-requires
-put-column-requires c κs = search needs
+slice-aggregate-put-counted : tie.Need-slice-aggregate-put-counted
+slice-aggregate-put-counted c = search needs
+
+slice-aggregate-put-counted-2 : tie.Need-slice-aggregate-put-counted-2
+slice-aggregate-put-counted-2 c = search needs
+
+put-counted-requires : tie.Need-put-counted-requires
+put-counted-requires c κs = search needs
 
 enum-told : tie.Need-enum-told
 enum-told c = search needs
@@ -37,7 +43,7 @@ same-length-2 c = search needs
 
 returns-2 : tie.Need-returns-2
 returns-2 c =
-    put-as (ap spotText (c .before .before .before .before .before .before .before .before .before .spot2 .given .1)) (put-then (c .before .before .before .before .before .before .put-line2 .ensures) (c .before .before .put-column .ensures))
+    put-as (ap spotText (c .before .before .before .before .before .before .before .before .before .before .before .spot2 .given .1)) (put-then (c .before .before .before .before .before .before .before .before .put-line2 .ensures) (c .before .before .put-counted .ensures))
 
 returns-3 : tie.Need-returns-3
 returns-3 c =
@@ -51,7 +57,9 @@ put-spot-spec =
     put-line-requires
     enum-known-spot-2
     put-line-requires-2
-    put-column-requires
+    slice-aggregate-put-counted
+    slice-aggregate-put-counted-2
+    put-counted-requires
     enum-told
     same-length
     returns

@@ -4,19 +4,22 @@ use borrow.Author.Needs.{needs}
 use Rattle.messages.proofs.messages.write.Statement.{statement}
 use Rattle.messages.proofs.messages.write.Tie as tie
 use denote.Ref.{now}
-use Rattle.messages.specs.Messages.{messageText}
+use Rattle.messages.specs.Messages.{saidText}
 use Rattle.prelude.specs.declared.answers.Written.the-variants.{Wrote, Refused}
 use Rattle.strings_write.specs.Write.{writtenIn}
 use Rattle.rooms.proofs.Passes.{too-long, two-passes}
 
-slice-relend-prefix-put-message : tie.Need-slice-relend-prefix-put-message
-slice-relend-prefix-put-message c = search needs
+table-requires : tie.Need-table-requires
+table-requires c κs = search needs
 
-slice-aggregate-put-message : tie.Need-slice-aggregate-put-message
-slice-aggregate-put-message c = search needs
+slice-relend-prefix-put-said : tie.Need-slice-relend-prefix-put-said
+slice-relend-prefix-put-said c = search needs
 
-put-message-requires : tie.Need-put-message-requires
-put-message-requires c κs = search needs
+slice-aggregate-put-said : tie.Need-slice-aggregate-put-said
+slice-aggregate-put-said c = search needs
+
+put-said-requires : tie.Need-put-said-requires
+put-said-requires c κs = search needs
 
 same-length : tie.Need-same-length
 same-length c = search needs
@@ -24,10 +27,10 @@ same-length c = search needs
 returns : tie.Need-returns
 unfolding writtenIn
 returns c =
-    too-long Wrote (Refused 12) (messageText (c .before .before .before .before .before .before .args .m)) (now (c .before .before .before .before .before .before .args .out)) (c .before .before .before .put-message .last .1 .1 .0) (c .before .before .before .put-message .kept .1 .1 .0) (c .before .before .before .put-message .ensures) (c .if1 .taken)
+    too-long Wrote (Refused 12) (saidText (c .before .before .before .before .before .before .before .before .before .args .json) (c .before .before .before .before .before .before .before .before .before .args .head) (now (c .before .before .before .before .before .before .before .before .before .args .sentence))) (now (c .before .before .before .before .before .before .before .before .before .args .out)) (c .before .before .before .put-said .last .1 .1 .1 .1 .1 .0) (c .before .before .before .put-said .kept .1 .1 .1 .1 .1 .0) (c .before .before .before .put-said .ensures) (c .if1 .taken)
 
-put-message-requires-2 : tie.Need-put-message-requires-2
-put-message-requires-2 c κs = search needs
+put-said-requires-2 : tie.Need-put-said-requires-2
+put-said-requires-2 c κs = search needs
 
 same-length-2 : tie.Need-same-length-2
 same-length-2 c = search needs
@@ -35,17 +38,18 @@ same-length-2 c = search needs
 returns-2 : tie.Need-returns-2
 unfolding writtenIn
 returns-2 c =
-    two-passes Wrote (Refused 12) (messageText (c .before .before .before .before .before .before .before .before .before .before .args .m)) (now (c .before .before .before .before .before .before .before .before .before .before .args .out)) (c .before .before .before .before .before .before .before .put-message .last .1 .1 .0) (c .before .before .before .before .before .before .before .put-message .kept .1 .1 .0) (c .before .before .before .before .before .before .before .put-message .ensures) (c .before .before .before .before .if1 .left) (c .before .before .put-message2 .ensures)
+    two-passes Wrote (Refused 12) (saidText (c .before .before .before .before .before .before .before .before .before .before .before .before .before .before .args .json) (c .before .before .before .before .before .before .before .before .before .before .before .before .before .before .args .head) (now (c .before .before .before .before .before .before .before .before .before .before .before .before .before .before .args .sentence))) (now (c .before .before .before .before .before .before .before .before .before .before .before .before .before .before .args .out)) (c .before .before .before .before .before .before .before .before .put-said .last .1 .1 .1 .1 .1 .0) (c .before .before .before .before .before .before .before .before .put-said .kept .1 .1 .1 .1 .1 .0) (c .before .before .before .before .before .before .before .before .put-said .ensures) (c .before .before .before .before .before .if1 .left) (c .before .before .put-said2 .ensures)
 
 pub write-spec : {M : Type 1} → statement M
 write-spec =
     tie.close
     (tie.spec
-    slice-relend-prefix-put-message
-    slice-aggregate-put-message
-    put-message-requires
+    table-requires
+    slice-relend-prefix-put-said
+    slice-aggregate-put-said
+    put-said-requires
     same-length
     returns
-    put-message-requires-2
+    put-said-requires-2
     same-length-2
     returns-2)

@@ -5,8 +5,6 @@ use Rattle.replay.proofs.replays.play_one.Statement.{statement}
 use Rattle.replay.proofs.replays.play_one.Tie as tie
 use Rattle.replay.proofs.Playing.{one-finish, one-feed, one-rest}
 
--- A finish, a piece that is there whole, or what is left of the text.
-
 finish-requires : tie.Need-finish-requires
 finish-requires c κs = search needs
 
@@ -18,7 +16,7 @@ same-length-2 c = search needs
 
 returns : tie.Need-returns
 returns c =
-    one-finish _ _ _ _ _ (c .before .before .before .before .before .before .before .before .before .before .before .pre) (c .before .before .before .before .before .before .before .if1 .taken) (c .before .before .before .before .finish .ensures)
+    one-finish _ _ _ _ _ (c .before .before .before .before .before .before .before .before .before .pre) (c .before .before .before .before .before .if1 .taken) (c .before .before .finish .ensures)
 
 sub-if2 : tie.Need-sub-if2
 sub-if2 c = search needs

@@ -16,9 +16,6 @@ returns : tie.Need-returns
 returns c =
     end-empty _ _ _ (c .before .if1 .taken) _ (c .at-end .ensures)
 
-slice-reshare-prefix-append-line : tie.Need-slice-reshare-prefix-append-line
-slice-reshare-prefix-append-line c = search needs
-
 slice-aggregate-append-line : tie.Need-slice-aggregate-append-line
 slice-aggregate-append-line c =
     sym (length-take-le (c .before .before .before .before .args .s .held) (c .before .before .before .before .args .line .now) (omega (arith, c .before .before .before .before .pre .held, c .before .before .before .before .pre .large)))
@@ -33,9 +30,6 @@ with-refusal-requires c κs = search needs
 same-length : tie.Need-same-length
 same-length c = search needs
 
-same-length-2 : tie.Need-same-length-2
-same-length-2 c = search needs
-
 returns-2 : tie.Need-returns-2
 returns-2 c =
     end-refused _ _ _ (c .before .before .before .before .before .before .before .before .if1 .left) _ (c .before .before .before .before .before .append-line .ensures) (c .before .if2 .taken) _ (c .with-refusal .ensures)
@@ -47,11 +41,8 @@ add-at-end c =
 at-end-requires-2 : tie.Need-at-end-requires-2
 at-end-requires-2 c κs = search needs
 
-same-length-3 : tie.Need-same-length-3
-same-length-3 c = search needs
-
-same-length-4 : tie.Need-same-length-4
-same-length-4 c = search needs
+same-length-2 : tie.Need-same-length-2
+same-length-2 c = search needs
 
 returns-3 : tie.Need-returns-3
 returns-3 c =
@@ -63,15 +54,12 @@ take-end-spec =
     (tie.spec
     at-end-requires
     returns
-    slice-reshare-prefix-append-line
     slice-aggregate-append-line
     append-line-requires
     with-refusal-requires
     same-length
-    same-length-2
     returns-2
     add-at-end
     at-end-requires-2
-    same-length-3
-    same-length-4
+    same-length-2
     returns-3)

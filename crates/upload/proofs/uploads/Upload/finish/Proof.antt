@@ -16,7 +16,7 @@ returns c =
 
 take-end-requires : tie.Need-take-end-requires
 take-end-requires c κs =
-    not-stopped _ _ (c .before .before .before .before .stop .ensures) (c .before .before .if1 .left)
+    not-stopped _ _ (c .before .before .before .stop .ensures) (c .before .if1 .left)
 
 answer-of-requires : tie.Need-answer-of-requires
 answer-of-requires c κs = search needs
@@ -24,21 +24,11 @@ answer-of-requires c κs = search needs
 same-length : tie.Need-same-length
 same-length c = search needs
 
-same-length-2 : tie.Need-same-length-2
-same-length-2 c = search needs
-
 returns-2 : tie.Need-returns-2
 returns-2 c =
-    finish-done _ _ (c .before .before .before .before .before .before .before .before .before .before .stop .ensures) (c .before .before .before .before .before .before .before .before .if1 .left) _ (c .before .before .before .before .before .take-end .ensures) _ (c .answer-of .ensures)
+    finish-done _ _ (c .before .before .before .before .before .before .before .stop .ensures) (c .before .before .before .before .before .if1 .left) _ (c .before .before .before .take-end .ensures) _ (c .answer-of .ensures)
 
 pub finish-spec : {M : Type 1} → statement M
 finish-spec =
     tie.close
-    (tie.spec
-    stop-requires
-    returns
-    take-end-requires
-    answer-of-requires
-    same-length
-    same-length-2
-    returns-2)
+    (tie.spec stop-requires returns take-end-requires answer-of-requires same-length returns-2)

@@ -1,10 +1,13 @@
-// The sentence of each refusal.
+// The sentence of each refusal, for someone who doesn't know the numbers.
 ghost use mathlib.Core.Path.{_≡_};
 ghost use Prim.Native.Nat.{_≤_};
 ghost use lib.ListN.{length, drop};
+ghost use Rattle.strings_write.specs.Write.{writtenIn, wroteInto};
 ghost use Rattle.rooms.specs.inner.Puts.{roomMax, Put};
-ghost use Rattle.messages.specs.Sentences.{sentence};
-ghost use Rattle.messages.specs.inner.Lines.{fromLine, lineOf};
+ghost use Rattle.sentences.specs.Sentences.{sentence};
+ghost use Rattle.sentences.specs.inner.Lines.{fromLine, lineOf};
+use prelude::answers::Written;
+use prelude::refusals;
 use rooms::parts;
 
 // The place of line n of a text, from 0, or of its first line where it has no such.
@@ -38,9 +41,9 @@ fn put_line(s: &[u8], n: usize, room: usize, o: usize, out: &mut [u8]) -> usize
 }
 
 // A line for each number, from 1; the first is that of all others.
-pub(crate) fn put_sentence(number: u32, room: usize, o: usize, out: &mut [u8]) -> usize
+fn put_sentence(number: u32, room: usize, out: &mut [u8]) -> usize
     requires { ⌜ room ≤ roomMax ⌝ }
-    ensures { λ r. ⌜ Put (sentence number) room o r (now (out .entry)) (now (out .exit)) ⌝ }
+    ensures { λ r. ⌜ Put (sentence number) room 0 r (now (out .entry)) (now (out .exit)) ⌝ }
 {
     put_line(
         b"\
@@ -56,7 +59,7 @@ no such escape, or it isn't whole
 no character is above \\u{10ffff}
 \\y can stand in b'' only
 there is more behind the end of the string or value
-the result is longer than 32,768 bytes, and couldn't be read back
+the result is longer than the room for it
 this can't stand here
 not a number as JSON has it
 more than 32 brackets are open
@@ -66,7 +69,21 @@ the upload has ended already
 ",
         number as usize,
         room,
-        o,
+        0,
         out,
     )
+}
+
+// Puts the sentence of a number in front of out, or answers 12 and leaves out as it was: one pass over no buffer measures it, one stores it.
+pub fn write(number: u32, out: &mut [u8]) -> Written
+    ensures answer { λ r. ⌜ r ≡ writtenIn (length (now (out .entry))) (sentence number) ⌝ }
+    ensures stored { λ r. ⌜ now (out .exit) ≡ wroteInto (sentence number) (now (out .entry)) ⌝ }
+{
+    let room = out.len();
+    let n = put_sentence(number, room, &mut out[..0]);
+    if room < n {
+        return Written::Refused(refusals::NO_ROOM);
+    }
+    put_sentence(number, room, out);
+    Written::Wrote(n)
 }

@@ -1,13 +1,13 @@
 -- The lines before it are passed one by one (SentenceLines).
 -- Assumes nothing.
-use Rattle.messages.proofs.sentences.line_at.Statement.{statement}
-use Rattle.messages.proofs.sentences.line_at.Tie as tie
+use Rattle.sentences.proofs.line_at.Statement.{statement}
+use Rattle.sentences.proofs.line_at.Tie as tie
 use borrow.Author.Needs.{needs}
 use denote.Ref.{now}
 use native.Mathlib.Omega.{arith}
 use Prim.Native.Nat.{_-_}
 use lib.ListN.{length}
-use Rattle.messages.proofs.SentenceLines.{Looking, looking-first, looking-end, looking-found, looking-line, looking-byte}
+use Rattle.sentences.proofs.SentenceLines.{Looking, looking-first, looking-end, looking-found, looking-line, looking-byte}
 
 abbrev Inv-loop : tie.InvT-loop
 Inv-loop s n left₀ i₀ left i =

@@ -1,14 +1,14 @@
 -- The line is what stands between the two places (SentenceLines).
 -- Assumes nothing.
 use borrow.Author.Needs.{needs}
-use Rattle.messages.proofs.sentences.put_line.Statement.{statement}
-use Rattle.messages.proofs.sentences.put_line.Tie as tie
+use Rattle.sentences.proofs.put_line.Statement.{statement}
+use Rattle.sentences.proofs.put_line.Tie as tie
 use mathlib.Core.Path.{sym}
 use native.Mathlib.Omega.{arith}
 use denote.Ref.{now}
 use Rattle.line_ends.proofs.Ends.{run-inside}
 use Rattle.rooms.proofs.Puts.{put-as}
-use Rattle.messages.proofs.SentenceLines.{line-between}
+use Rattle.sentences.proofs.SentenceLines.{line-between}
 
 line-at-requires : tie.Need-line-at-requires
 line-at-requires c κs = search needs

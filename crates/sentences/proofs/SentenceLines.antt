@@ -16,8 +16,8 @@ use Rattle.prelude.proofs.Picks.{pick-true, pick-false}
 use Rattle.prelude.specs.Bytes.{ascii, LF}
 use Rattle.prelude.specs.Pick.{pick}
 use Rattle.line_ends.specs.inner.Ends.{lineRun}
-use Rattle.messages.specs.Sentences.{Row, rows, unknown, sentenceIn, sentence}
-use Rattle.messages.specs.inner.Lines.{fromLine, firstLine, lineOf}
+use Rattle.sentences.specs.Sentences.{Row, rows, unknown, sentenceIn, sentence}
+use Rattle.sentences.specs.inner.Lines.{fromLine, firstLine, lineOf}
 
 -- a text behind its first line
 abbrev behind : List ℕ → List ℕ

@@ -29,7 +29,7 @@ rows =
     ∷ row tooLarge "no character is above \\u{10ffff}"
     ∷ row byteEscape "\\y can stand in b'' only"
     ∷ row trailing "there is more behind the end of the string or value"
-    ∷ row noRoom "the result is longer than 32,768 bytes, and couldn't be read back"
+    ∷ row noRoom "the result is longer than the room for it"
     ∷ row misplaced "this can't stand here"
     ∷ row badNumber "not a number as JSON has it"
     ∷ row tooDeep "more than 32 brackets are open"

@@ -1,12 +1,12 @@
 -- The lines of the text are the rows of the table, by one computed test (SentenceLines).
 -- Assumes nothing.
 use borrow.Author.Needs.{needs}
-use Rattle.messages.proofs.sentences.put_sentence.Statement.{statement}
-use Rattle.messages.proofs.sentences.put_sentence.Tie as tie
+use Rattle.sentences.proofs.put_sentence.Statement.{statement}
+use Rattle.sentences.proofs.put_sentence.Tie as tie
 use mathlib.Core.Path.{refl}
 use Rattle.prelude.specs.Pick.{pick}
 use Rattle.rooms.proofs.Puts.{put-as}
-use Rattle.messages.proofs.SentenceLines.{sentence-line}
+use Rattle.sentences.proofs.SentenceLines.{sentence-line}
 
 slice-aggregate-put-line : tie.Need-slice-aggregate-put-line
 slice-aggregate-put-line c = search needs

@@ -1,0 +1,3 @@
+mod SentenceLines
+mod Apart
+pub mod Claims

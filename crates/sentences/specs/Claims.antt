@@ -1,0 +1,30 @@
+-- What is claimed of the sentences: each claim is a type, and proofs/Claims.antt has a term of it.
+-- Assumes nothing.
+use Prim.Native.Nat.{ℕ, _≤_}
+use mathlib.Core.List.{List, [], _∷_}
+use mathlib.Core.Path.{_≡_}
+use lib.ListN.{length}
+use Rattle.sentences.specs.Sentences.{sentence}
+
+-- the refusals have the numbers from 1 to this one
+abbrev pub lastNumber : ℕ
+lastNumber = 18
+
+-- a sentence tells its refusal's number: no other number has it, be it a refusal's or not
+abbrev pub Sentences-Tell-Numbers : Type 0
+Sentences-Tell-Numbers = (m n : ℕ) → 1 ≤ m → m ≤ lastNumber → sentence m ≡ sentence n → m ≡ n
+
+-- no byte is a control byte, so none ends a line
+abbrev pub InOneLine : List ℕ → Type 0
+InOneLine [] = Unit
+InOneLine (x ∷ s) = (0x20 ≤ x) × InOneLine s
+
+abbrev pub Sentences-Stay-In-Line : Type 0
+Sentences-Stay-In-Line = (n : ℕ) → InOneLine (sentence n)
+
+-- J8_SENTENCE_ROOM of j8.h
+abbrev pub sentenceRoom : ℕ
+sentenceRoom = 128
+
+abbrev pub Sentences-Have-Room : Type 0
+Sentences-Have-Room = (n : ℕ) → length (sentence n) ≤ sentenceRoom
