@@ -20,7 +20,7 @@ use Rattle.prelude.proofs.Stores.{sets-append, copied}
 use Rattle.utf8.specs.Class.{classOf}
 use Rattle.utf8.proofs.ByteClasses.{by-byte}
 use Rattle.notation.specs.declared.styles.Form.the-variants.{AsJson}
-use Rattle.notation.specs.Escapes.{lookup}
+use Rattle.escapes.specs.Escapes.{lookup}
 use Rattle.units.specs.Written.{escapeByte, byNumber, escaped}
 use Rattle.bytewise.specs.inner.Bytewise.{byteText, bytesText, textOf, Unmarked, Texted}
 

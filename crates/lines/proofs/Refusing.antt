@@ -15,8 +15,8 @@ use Rattle.utf8.proofs.Characters.{char-le}
 use Rattle.notation.specs.declared.styles.Style.{Style}
 use Rattle.notation.specs.declared.styles.Style.the-variants.{Json, Unicode, Bytes}
 use Rattle.notation.specs.Styles.{quote, StringUnit, close, took, fault}
-use Rattle.notation.specs.Hex.{hexRun}
-use Rattle.notation.specs.Escapes.{lookup, lettersOf, codeUnit, fourDigits, scalar, isBraced, braced, codePoint, rawByte, letterEscape, escape}
+use Rattle.escapes.specs.Hex.{hexRun}
+use Rattle.escapes.specs.Escapes.{lookup, lettersOf, codeUnit, fourDigits, scalar, isBraced, braced, codePoint, rawByte, letterEscape, escape}
 use Rattle.units.specs.Units.{literal, unitAt}
 use Rattle.notation.specs.Marks.{Opening, opens, unopened, opening}
 use Rattle.strings.specs.Read.{StringRead, accepted, refused, more, after, nothingBehind, readUnits, readFrom, readToken, readString}

@@ -7,7 +7,7 @@ use Rattle.prelude.specs.Bytes.{ascii, LF}
 use Rattle.prelude.specs.Pick.{pick}
 use Rattle.utf8.specs.Class.{classOf}
 use Rattle.utf8.specs.Utf8.{lenBy, charLen, validFrom}
-use Rattle.notation.specs.Escapes.{lookup}
+use Rattle.escapes.specs.Escapes.{lookup}
 use Rattle.units.specs.Written.{written}
 use Rattle.strings_write.specs.Write.{writeUnits, quoted, writeString}
 use Rattle.trees.specs.Trees.{Tree, null, string, render, renderMembers}

@@ -1,5 +1,3 @@
 pub mod MarkLaws
-pub mod HexLaws
-pub mod EscapeLaws
 pub mod LiteralClasses
 pub mod LiteralLaws

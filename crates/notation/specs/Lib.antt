@@ -1,5 +1,3 @@
 pub mod Styles
 pub mod Marks
-pub mod Hex
-pub mod Escapes
 pub mod Literals

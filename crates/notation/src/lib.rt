@@ -1,5 +1,3 @@
-// How a J8 string is noted: its styles, their opening marks, and what each escape in them denotes.
-pub mod escapes;
-pub mod hex;
+// How a J8 string is noted: its styles, their opening marks, and what is literal in them.
 pub mod marks;
 pub mod styles;

@@ -18,8 +18,8 @@ use Rattle.utf8.proofs.Characters.{tails, sizeOf, low-bound, char-is, char-tail
 use Rattle.notation.specs.declared.styles.Style.{Style}
 use Rattle.notation.specs.declared.styles.Style.the-variants.{Json, Unicode, Bytes}
 use Rattle.notation.specs.Styles.{quote}
-use Rattle.notation.specs.Hex.{hexVal, hexDigits, hexRun}
-use Rattle.notation.specs.Escapes.{lowHalf, fourDigits, braced, codePoint, rawByte, escape}
+use Rattle.escapes.specs.Hex.{hexVal, hexDigits, hexRun}
+use Rattle.escapes.specs.Escapes.{lowHalf, fourDigits, braced, codePoint, rawByte, escape}
 use Rattle.units.specs.Units.{literal, unitAt}
 use Rattle.notation.proofs.LiteralLaws.{quote-ascii}
 

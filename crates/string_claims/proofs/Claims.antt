@@ -8,8 +8,8 @@ use Rattle.prelude.specs.Pick.{pick}
 use Rattle.utf8.specs.Class.{classOf}
 use Rattle.utf8.specs.Utf8.{lowOf, highOf, twoBytes, threeBytes, fourBytes, longLen, lenBy, charLen, encode}
 use Rattle.notation.specs.declared.styles.Form.the-variants.{AsBytes}
-use Rattle.notation.specs.Hex.{hexVal, hexDigits, hexFrom}
-use Rattle.notation.specs.Escapes.{lookup, lowHalf, codeUnit, fourDigits, scalar, braced, rawByte, escape}
+use Rattle.escapes.specs.Hex.{hexVal, hexDigits, hexFrom}
+use Rattle.escapes.specs.Escapes.{lookup, lowHalf, codeUnit, fourDigits, scalar, braced, rawByte, escape}
 use Rattle.units.specs.Units.{unitAt}
 use Rattle.units.proofs.Sizes.{took-size}
 use Rattle.strings.specs.declared.answers.Token.the-variants.{Ended, Failed}

@@ -22,7 +22,7 @@ use Rattle.notation.specs.declared.styles.Style.{Style}
 use Rattle.notation.specs.declared.styles.Unit.{Unit as Found}
 use Rattle.notation.specs.declared.styles.Unit.the-variants.{Close, Took, Fault}
 use Rattle.notation.specs.Styles.{quote, took, unitOf, FewOf}
-use Rattle.notation.specs.Escapes.{lookup, letters}
+use Rattle.escapes.specs.Escapes.{lookup, letters}
 use Rattle.notation.specs.Marks.{opens, unopened, opening}
 use Rattle.units.specs.Units.{literal, unitAt}
 use Rattle.units.proofs.Sizes.{took-size}

@@ -13,9 +13,9 @@ use Rattle.utf8.specs.Utf8.{encode}
 use Rattle.notation.specs.declared.styles.Style.{Style}
 use Rattle.notation.specs.declared.styles.Style.the-variants.{Json, Unicode, Bytes}
 use Rattle.notation.specs.Styles.{quote, took}
-use Rattle.notation.specs.Hex.{hexRun, hexNumber}
-use Rattle.notation.specs.Escapes.{lookup, letters, lowHalf, codeUnit}
-use Rattle.notation.proofs.EscapeLaws.{unit-below, four-yes, escape-u}
+use Rattle.escapes.specs.Hex.{hexRun, hexNumber}
+use Rattle.escapes.specs.Escapes.{lookup, letters, lowHalf, codeUnit}
+use Rattle.escapes.proofs.EscapeLaws.{unit-below, four-yes, escape-u}
 use Rattle.units.specs.Units.{unitAt}
 use Rattle.units.proofs.SingleLaws.{letter-at, slash-unit}
 use Rattle.string_tokens.specs.inner.Quotes.{lenOf, Takes}

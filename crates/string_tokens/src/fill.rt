@@ -6,7 +6,7 @@ ghost use Rattle.utf8.specs.Class.{IsTable};
 ghost use Rattle.strings.specs.Read.{readToken};
 ghost use Rattle.strings.specs.inner.Turns.{unitsBytes};
 ghost use Rattle.string_tokens.specs.inner.Quotes.{denoted, Fronted, Filled};
-use crate::escapes;
+use crate::short_escapes;
 use notation::marks;
 use notation::marks::Mark;
 use notation::styles::Style;
@@ -70,7 +70,7 @@ fn fill_number(t: &[u8; 256], s: &[u8], at: usize, style: Style, o: usize, out: 
     requires { ⌜ IsTable (now t) × (at ≤ length (now s)) × (o ≤ length (now out)) × (0 < length (unitsBytes style 0 (drop at (now s)))) ⌝ }
     ensures { λ r. ⌜ Filled style (now (s .entry)) at o (now (out .entry)) (r .at) (r .count) (now (out .exit)) ⌝ }
 {
-    let v = escapes::point_at(s, at, style);
+    let v = short_escapes::point_at(s, at, style);
     if 0x10ffff < v {
         return fill_unit(t, s, at, style, o, out);
     }
@@ -78,7 +78,7 @@ fn fill_number(t: &[u8; 256], s: &[u8], at: usize, style: Style, o: usize, out: 
     let count = few.count;
     read::put_few(few, o, out);
     Moved {
-        at: at + escapes::len_of(v),
+        at: at + short_escapes::len_of(v),
         count: o + count,
     }
 }
@@ -88,7 +88,7 @@ fn fill_escape(t: &[u8; 256], s: &[u8], at: usize, style: Style, o: usize, out: 
     requires { ⌜ IsTable (now t) × (at < length (now s)) × (getD (now s) at 0 ≡ 0x5c) × (o ≤ length (now out)) × (0 < length (unitsBytes style 0 (drop at (now s)))) ⌝ }
     ensures { λ r. ⌜ Filled style (now (s .entry)) at o (now (out .entry)) (r .at) (r .count) (now (out .exit)) ⌝ }
 {
-    let b = notation::escapes::common(slices::byte_at(s, at + 1, 0));
+    let b = escapes::common(slices::byte_at(s, at + 1, 0));
     if b != 0 {
         slices::put(b, o, out);
         return Moved {

@@ -10,7 +10,7 @@ ghost use Rattle.notation.specs.Marks.{opens, opening};
 ghost use Rattle.strings.specs.Read.{readUnits, tokenOf};
 ghost use Rattle.string_tokens.specs.inner.Quotes.{PlainToken, Judged, Plains};
 use crate::answers::Quoted;
-use crate::escapes;
+use crate::short_escapes;
 use notation::marks;
 use notation::marks::Mark;
 use notation::styles;
@@ -72,7 +72,7 @@ fn counted(t: &[u8; 256], s: &[u8], from: usize, e: usize, style: Style) -> Toke
     let mut at = e;
     let mut spare: usize = 0;
     loop {
-        let size = escapes::size_at(s, at, style);
+        let size = short_escapes::size_at(s, at, style);
         let len = size.len;
         if 0 < len {
             at = plains_on(s, at + len);

@@ -16,7 +16,7 @@ use Rattle.utf8.specs.Utf8.{between, charLen, validFrom, positive}
 use Rattle.utf8.proofs.Characters.{tails, low-bound, char-tails, valid-skip}
 use Rattle.notation.specs.declared.styles.Style.the-variants.{Json}
 use Rattle.notation.specs.declared.styles.Form.the-variants.{AsJson}
-use Rattle.notation.specs.Escapes.{lookup}
+use Rattle.escapes.specs.Escapes.{lookup}
 use Rattle.notation.specs.Literals.{literalLen}
 use Rattle.units.specs.Written.{escapeByte}
 use Rattle.notation.proofs.LiteralLaws.{literal-char}

@@ -18,7 +18,7 @@ use Rattle.utf8.proofs.Characters.{char-le, char-length, ascii-len}
 use Rattle.notation.specs.declared.styles.Form.{Form}
 use Rattle.notation.specs.declared.styles.Form.the-variants.{AsJson, AsBytes}
 use Rattle.notation.specs.Styles.{quote, styleOf}
-use Rattle.notation.specs.Escapes.{lookup}
+use Rattle.escapes.specs.Escapes.{lookup}
 use Rattle.units.specs.Written.{byNumber, escaped, written}
 use Rattle.units.proofs.WrittenBack.{escaped-ascii}
 use Rattle.units.proofs.WrittenUnits.{written-length, limit, limit-more}

@@ -16,8 +16,8 @@ use Rattle.utf8.specs.Utf8.{between, charLen, charBy, encode}
 use Rattle.notation.specs.declared.styles.Style.{Style}
 use Rattle.notation.specs.declared.styles.Style.the-variants.{Json, Unicode, Bytes}
 use Rattle.notation.specs.Styles.{quote, StringUnit, close, took, fault}
-use Rattle.notation.specs.Hex.{hexVal, hexDigits, hexFrom, hexRun, hexNumber}
-use Rattle.notation.specs.Escapes.{lookup, letters, lettersOf, high, isLow, lowHalf, codeUnit, fourDigits, scalar, isBraced, braced, codePoint, rawByte, letterEscape, escape}
+use Rattle.escapes.specs.Hex.{hexVal, hexDigits, hexFrom, hexRun, hexNumber}
+use Rattle.escapes.specs.Escapes.{lookup, letters, lettersOf, high, isLow, lowHalf, codeUnit, fourDigits, scalar, isBraced, braced, codePoint, rawByte, letterEscape, escape}
 use Rattle.units.specs.Units.{literal, unitAt}
 use Rattle.units.proofs.WrittenBack.{Each, lookup-each}
 use Rattle.prelude.specs.Bytes.{IsBytes}

@@ -19,7 +19,7 @@ use Rattle.utf8.specs.Utf8.{charLen}
 use Rattle.utf8.proofs.Characters.{ascii-len}
 use Rattle.notation.specs.declared.styles.Form.{Form}
 use Rattle.notation.specs.declared.styles.Form.the-variants.{AsJson, AsBytes}
-use Rattle.notation.specs.Escapes.{lookup}
+use Rattle.escapes.specs.Escapes.{lookup}
 use Rattle.units.specs.Written.{hexDigit, byNumber, escaped, escapeByte, written}
 use Rattle.notation.specs.Styles.{styleOf}
 use Rattle.notation.specs.Literals.{literalLen}

@@ -14,7 +14,7 @@ use Rattle.utf8.specs.Utf8.{charLen}
 use Rattle.notation.specs.declared.styles.Style.{Style}
 use Rattle.notation.specs.declared.styles.Form.{Form}
 use Rattle.notation.specs.Styles.{quote, took, styleOf}
-use Rattle.notation.specs.Escapes.{lookup}
+use Rattle.escapes.specs.Escapes.{lookup}
 use Rattle.notation.specs.Literals.{literalLen}
 use Rattle.notation.proofs.LiteralLaws.{literal-is, literal-nil}
 use Rattle.units.specs.Units.{unitAt}

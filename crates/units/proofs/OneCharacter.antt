@@ -15,7 +15,7 @@ use Rattle.utf8.proofs.Characters.{char-length, char-take, ascii-len}
 use Rattle.utf8.proofs.Encoded.{OneChar, encode-char}
 use Rattle.notation.specs.declared.styles.Style.the-variants.{Unicode}
 use Rattle.notation.specs.Styles.{StringUnit, close, took, fault}
-use Rattle.notation.specs.Escapes.{lookup, lettersOf, scalar, isBraced, braced, rawByte, letterEscape, escape}
+use Rattle.escapes.specs.Escapes.{lookup, lettersOf, scalar, isBraced, braced, rawByte, letterEscape, escape}
 use Rattle.units.specs.Units.{literal, unitAt}
 use Rattle.units.proofs.WrittenBack.{lookup-each}
 

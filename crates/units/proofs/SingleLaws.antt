@@ -17,10 +17,10 @@ use Rattle.utf8.specs.Utf8.{encode}
 use Rattle.notation.specs.declared.styles.Style.{Style}
 use Rattle.notation.specs.declared.styles.Style.the-variants.{Json, Unicode, Bytes}
 use Rattle.notation.specs.Styles.{quote, took}
-use Rattle.notation.specs.Hex.{hexRun, hexNumber}
-use Rattle.notation.specs.Escapes.{lookup, letters, lettersOf, lowHalf, codeUnit, fourDigits, rawByte, escape}
+use Rattle.escapes.specs.Hex.{hexRun, hexNumber}
+use Rattle.escapes.specs.Escapes.{lookup, letters, lettersOf, lowHalf, codeUnit, fourDigits, rawByte, escape}
 use Rattle.units.specs.Units.{unitAt}
-use Rattle.notation.proofs.EscapeLaws.{unit-below, letter-some, raw-two}
+use Rattle.escapes.proofs.EscapeLaws.{unit-below, letter-some, raw-two}
 use Rattle.notation.proofs.LiteralClasses.{plain-char}
 use Rattle.units.proofs.LiteralUnits.{literal-unit}
 use Rattle.units.proofs.UnitLaws.{unit-escape}

@@ -20,7 +20,7 @@ use Rattle.utf8.specs.declared.chars.Char.the-variants.{Good, Bad}
 use Rattle.utf8.proofs.Characters.{char-le, char-few}
 use Rattle.notation.specs.declared.styles.Style.{Style}
 use Rattle.notation.specs.Styles.{StringUnit, close, took, fault, quote}
-use Rattle.notation.specs.Escapes.{escape}
+use Rattle.escapes.specs.Escapes.{escape}
 use Rattle.units.specs.Units.{literal, unitAt}
 
 good-by : (k n : ℕ) (r : List ℕ) → Good n ≡ charBy k r → n ≡ k

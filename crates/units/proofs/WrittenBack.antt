@@ -20,8 +20,8 @@ use Rattle.utf8.proofs.Characters.{char-length, char-take, ascii-len}
 use Rattle.notation.specs.declared.styles.Form.{Form}
 use Rattle.notation.specs.declared.styles.Form.the-variants.{AsJson, AsBytes}
 use Rattle.notation.specs.Styles.{quote, took, styleOf}
-use Rattle.notation.specs.Hex.{hexVal, hexDigits, hexFrom}
-use Rattle.notation.specs.Escapes.{lookup, codeUnit, fourDigits, rawByte, escape}
+use Rattle.escapes.specs.Hex.{hexVal, hexDigits, hexFrom}
+use Rattle.escapes.specs.Escapes.{lookup, codeUnit, fourDigits, rawByte, escape}
 use Rattle.units.specs.Units.{unitAt}
 use Rattle.units.specs.Written.{hexDigit, byNumber, escaped, written}
 use Rattle.notation.proofs.LiteralLaws.{quote-ascii}

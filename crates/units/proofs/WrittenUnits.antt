@@ -17,7 +17,7 @@ use Rattle.utf8.proofs.Characters.{tails, low-bound, char-tails, char-length}
 use Rattle.notation.specs.declared.styles.Form.{Form}
 use Rattle.notation.specs.declared.styles.Form.the-variants.{AsJson, AsBytes}
 use Rattle.notation.specs.Styles.{styleOf}
-use Rattle.notation.specs.Escapes.{lookup}
+use Rattle.escapes.specs.Escapes.{lookup}
 use Rattle.units.specs.Written.{hexDigit, byNumber, escaped, written}
 use Rattle.notation.proofs.LiteralLaws.{quote-ascii}
 use Rattle.units.proofs.WrittenBack.{lookup-each}

@@ -13,7 +13,7 @@ use Rattle.utf8.specs.declared.chars.Char.the-variants.{Good, Bad}
 use Rattle.utf8.specs.Utf8.{charAt}
 use Rattle.notation.specs.declared.styles.Style.{Style}
 use Rattle.notation.specs.Styles.{quote, StringUnit, close, took, fault}
-use Rattle.notation.specs.Escapes.{escape}
+use Rattle.escapes.specs.Escapes.{escape}
 
 -- a literal character stands for itself
 abbrev pub literal : Char → List ℕ → StringUnit

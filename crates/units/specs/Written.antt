@@ -11,7 +11,7 @@ use Rattle.prelude.specs.Pick.{pick}
 use Rattle.notation.specs.declared.styles.Form.{Form}
 use Rattle.notation.specs.declared.styles.Form.the-variants.{AsJson, AsBytes}
 use Rattle.notation.specs.Styles.{quote, styleOf}
-use Rattle.notation.specs.Escapes.{lookup}
+use Rattle.escapes.specs.Escapes.{lookup}
 
 unfoldable pub hexDigit : ℕ → ℕ
 hexDigit d = pick (ltb d 10) (code "0" + d) (code "a" + (d - 10))

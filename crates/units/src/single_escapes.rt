@@ -5,9 +5,8 @@ ghost use Prim.Native.Nat.{_<_};
 ghost use lib.ListN.{length, drop};
 ghost use Rattle.notation.specs.declared.styles.Style.the-variants.{Bytes};
 ghost use Rattle.notation.specs.Styles.{took};
-ghost use Rattle.notation.specs.Escapes.{fourDigits, rawByte, escape};
-use notation::escapes;
-use notation::hex;
+ghost use Rattle.escapes.specs.Escapes.{fourDigits, rawByte, escape};
+use escapes::hex;
 use notation::styles::Style;
 use prelude::slices;
 

@@ -6,7 +6,6 @@ ghost use Rattle.utf8.specs.Class.{IsTable};
 ghost use Rattle.utf8.specs.Utf8.{charAt, fewOf};
 ghost use Rattle.notation.specs.Styles.{unitOf, FewOf};
 ghost use Rattle.units.specs.Units.{literal, unitAt};
-use notation::escapes;
 use notation::styles;
 use notation::styles::Style;
 use notation::styles::Unit;

@@ -4,7 +4,7 @@ ghost use mathlib.Core.Path.{_≡_};
 ghost use Prim.Native.Nat.{_<_};
 ghost use lib.ListN.{length};
 ghost use lib.Seq.{sets};
-ghost use Rattle.notation.specs.Escapes.{lookup};
+ghost use Rattle.escapes.specs.Escapes.{lookup};
 ghost use Rattle.units.specs.Written.{hexDigit, byNumber, escaped, escapeByte};
 use notation::styles;
 use notation::styles::Form;

@@ -9,8 +9,8 @@ use lib.ListN.{length, drop-of-length-le}
 use Rattle.prelude.specs.Pick.{pick}
 use Rattle.utf8.specs.Class.{classOf}
 use Rattle.utf8.specs.Utf8.{lowOf, highOf, twoBytes, threeBytes, fourBytes, longLen, lenBy, charLen, encode, validFrom}
-use Rattle.notation.specs.Hex.{hexVal, hexDigits, hexFrom}
-use Rattle.notation.specs.Escapes.{lookup, lowHalf, codeUnit, fourDigits, scalar, braced, rawByte, escape}
+use Rattle.escapes.specs.Hex.{hexVal, hexDigits, hexFrom}
+use Rattle.escapes.specs.Escapes.{lookup, lowHalf, codeUnit, fourDigits, scalar, braced, rawByte, escape}
 use Rattle.units.specs.Units.{unitAt}
 use Rattle.notation.specs.Marks.{opening}
 use Rattle.strings.specs.Read.{readUnits, readToken, readString}

@@ -5,7 +5,7 @@ use Rattle.string_tokens.proofs.fill.fill_escape.Statement.{statement}
 use Rattle.string_tokens.proofs.fill.fill_escape.Tie as tie
 use Rattle.string_tokens.proofs.fill.fill_escape.Reads as reads
 use Rattle.string_tokens.proofs.fill.fill_escape.Lts as lts
-use Rattle.notation.proofs.escapes.common.Reads as common-reads
+use Rattle.escapes.proofs.common.Reads as common-reads
 use Rattle.prelude.proofs.slices.byte_at.Reads as byte-at-reads
 use Rattle.prelude.proofs.slices.put.Reads as put-reads
 use Rattle.string_tokens.proofs.fill.fill_number.Reads as fill-number-reads

@@ -5,8 +5,8 @@ use Rattle.string_tokens.proofs.fill.fill_number.Statement.{statement}
 use Rattle.string_tokens.proofs.fill.fill_number.Tie as tie
 use Rattle.string_tokens.proofs.fill.fill_number.Reads as reads
 use Rattle.string_tokens.proofs.fill.fill_number.Lts as lts
-use Rattle.string_tokens.proofs.escapes.len_of.Reads as len-of-reads
-use Rattle.string_tokens.proofs.escapes.point_at.Reads as point-at-reads
+use Rattle.string_tokens.proofs.short_escapes.len_of.Reads as len-of-reads
+use Rattle.string_tokens.proofs.short_escapes.point_at.Reads as point-at-reads
 use Rattle.string_tokens.proofs.fill.fill_unit.Reads as fill-unit-reads
 use Rattle.strings.proofs.read.put_few.Reads as put-few-reads
 use Rattle.utf8.proofs.encoding.encode.Reads as encode-reads

@@ -4,7 +4,7 @@ use Rattle.string_tokens.proofs.quoted.counted.Statement.{statement}
 use Rattle.string_tokens.proofs.quoted.counted.Tie as tie
 use Rattle.string_tokens.proofs.quoted.counted.Reads as reads
 use Rattle.string_tokens.proofs.quoted.counted.Lts as lts
-use Rattle.string_tokens.proofs.escapes.size_at.Reads as size-at-reads
+use Rattle.string_tokens.proofs.short_escapes.size_at.Reads as size-at-reads
 use Rattle.string_tokens.proofs.quoted.plains_on.Reads as plains-on-reads
 use Rattle.units.proofs.units.unit_at.Reads as unit-at-reads
 use borrow.Author.Needs.{needs}

@@ -6,7 +6,7 @@ use Rattle.units.proofs.written.letter_of.Tie as tie
 use borrow.Author.Tests.{eq-eqb, ne-eqb}
 use mathlib.Core.Path.{_∙_, sym}
 use Rattle.prelude.specs.Pick.{pick}
-use Rattle.notation.specs.Escapes.{lookup}
+use Rattle.escapes.specs.Escapes.{lookup}
 
 quote-in-requires : tie.Need-quote-in-requires
 quote-in-requires c κs = search needs
