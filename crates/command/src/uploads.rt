@@ -5,7 +5,6 @@ ghost use lib.ListN.{length};
 use crate::inputs;
 use crate::outputs;
 use crate::outputs::Outcome;
-use lines::records::HEAD;
 use messages::entries;
 use messages::messages::Message;
 use messages::messages::Spot;
@@ -13,6 +12,7 @@ use prelude::answers::Written;
 use prelude::limits::LINE_MAX;
 use prelude::limits::UPLOAD_MAX;
 use prelude::slices::least;
+use records::HEAD;
 use upload::uploads::Answer;
 use upload::uploads::Upload;
 

@@ -11,7 +11,7 @@ use lib.ListN.{length, take, getD, set, length-append, List·getD-append, List·
 use lib.Seq.{take-append-le, getD-at}
 use Rattle.prelude.specs.Bytes.{LF}
 use Rattle.prelude.specs.Pick.{pick}
-use Rattle.lines.specs.Records.{lineRecord, Fault, none, refuse}
+use Rattle.records.specs.Records.{lineRecord, Fault, none, refuse}
 use Rattle.j8_lines.specs.Lines.{Cut, headed, cut, countLF, records, faultOfByte, FirstFault, orElse, firstFrom, firstFault, lastAt, lineBuffer}
 
 -- the last byte is an LF, or not

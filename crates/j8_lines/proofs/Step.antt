@@ -14,7 +14,7 @@ use Rattle.prelude.specs.Bytes.{LF}
 use Rattle.prelude.specs.Limits.{uploadMax, lineMax}
 use Rattle.prelude.specs.Pick.{pick}
 use Rattle.prelude.specs.Refusals.{tooLong}
-use Rattle.lines.specs.Records.{lineRecord, Fault, none, refuse, putAt}
+use Rattle.records.specs.Records.{lineRecord, Fault, none, refuse, putAt}
 use Rattle.upload.specs.Calls.{Lent, stored, heldLine, appended, byteFault, byteBy, feedByte}
 use Rattle.upload.proofs.Kept.{state-path, lent-path, NonZero, pick-nonzero, line-nonzero, Ok}
 use Rattle.j8_lines.specs.Lines.{cut, records, faultBehind, faultOfByte, FirstFault, orElse, firstFrom, firstFault, front, left, byFirst, j8Lines}

@@ -12,7 +12,7 @@ use lib.Seq.{take-all}
 use Rattle.prelude.specs.Limits.{lineMax}
 use Rattle.prelude.specs.Pick.{pick}
 use Rattle.lines.specs.Line.{readLine, readStripped, strip, trimmed, leads}
-use Rattle.lines.specs.Records.{lineRecord, Fault, none, refuse, lineFault}
+use Rattle.records.specs.Records.{lineRecord, Fault, none, refuse, lineFault}
 use Rattle.upload.specs.Calls.{Lent, lent, fresh, keepsRefusal, closing, feedBytes, endFault, finishBy, finishAll, fitLent, Called, zeros, keptAnswer, answerOf, stopState, guarded, feed, finish}
 use Rattle.upload.proofs.Kept.{state-path, lent-path, NonZero, line-nonzero, Ok, ok-fit, ok-byte, ok-bytes, ok-finish}
 use Rattle.j8_lines.specs.Lines.{cut, countLF, records, firstFrom, firstFault, openFault, left, endBy, j8Lines, j8Answer}

@@ -10,7 +10,7 @@ use Rattle.prelude.specs.Bytes.{LF}
 use Rattle.prelude.specs.Limits.{lineMax, uploadMax}
 use Rattle.prelude.specs.Pick.{pick}
 use Rattle.prelude.specs.Refusals.{tooLong, overLimit, ended}
-use Rattle.lines.specs.Records.{lineRecord, Fault, none, refuse, lineFault}
+use Rattle.records.specs.Records.{lineRecord, Fault, none, refuse, lineFault}
 use Rattle.upload.specs.declared.uploads.Upload.{Upload}
 use Rattle.upload.specs.declared.uploads.Answer.{Answer}
 use Rattle.upload.specs.Calls.{Lent, zeros}

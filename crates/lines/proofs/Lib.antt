@@ -2,4 +2,3 @@ pub mod LineEnds
 pub mod BareTexts
 pub mod Refusing
 pub mod LineAnswers
-pub mod LineRecords

@@ -1,4 +1,3 @@
 pub mod Line
 pub mod Answers
-pub mod Records
 pub mod inner

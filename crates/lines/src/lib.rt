@@ -1,5 +1,4 @@
-// J8 Lines: one line, and its record.
+// J8 Lines: one line, bare or quoted.
 pub mod bare;
 pub mod read;
-pub mod records;
 pub mod strip;

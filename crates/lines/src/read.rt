@@ -115,7 +115,7 @@ fn read_stripped(s: &[u8], out: &mut [u8]) -> Line
 
 // Reads a line of any length, without its LF: the string's bytes in front of out, or out as it was. Places are those of the line as it
 // stands.
-pub(crate) fn read_line(l: &[u8], out: &mut [u8]) -> Line
+pub fn read_line(l: &[u8], out: &mut [u8]) -> Line
     ensures answer { λ r. ⌜ r ≡ lineOf (fittedLine (length (now (out .entry))) (readLine (now (l .entry)))) ⌝ }
     ensures stored { λ r. ⌜ now (out .exit) ≡ lineInto (fittedLine (length (now (out .entry))) (readLine (now (l .entry)))) (now (out .entry)) ⌝ }
 {

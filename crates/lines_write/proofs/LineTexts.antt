@@ -21,7 +21,7 @@ use Rattle.rooms.proofs.Passes.{Whole}
 use Rattle.prelude.specs.declared.answers.Written.{Written}
 use Rattle.prelude.specs.declared.answers.Written.the-variants.{Wrote, Refused}
 use Rattle.lines.specs.Line.{kindOf}
-use Rattle.lines.specs.Records.{headSize}
+use Rattle.records.specs.Records.{headSize}
 use Rattle.lines_write.specs.Write.{sizeAt, kindAt, payloadAt, rightRecord, rightRecords, lineAt, linesFrom, wroteLines, linesInto}
 
 right-skip : (k : ℕ) (s : List ℕ) → rightRecords k s ≡ rightRecords 0 (drop k s)

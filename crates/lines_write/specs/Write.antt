@@ -13,7 +13,7 @@ use Rattle.strings_write.specs.Write.{writeString}
 use Rattle.prelude.specs.declared.answers.Written.{Written}
 use Rattle.prelude.specs.declared.answers.Written.the-variants.{Wrote, Refused}
 use Rattle.lines.specs.Line.{kindOf}
-use Rattle.lines.specs.Records.{headSize}
+use Rattle.records.specs.Records.{headSize}
 
 -- of the record at the head of s: the payload's length, its kind, and the payload
 abbrev pub sizeAt : List ℕ → ℕ

@@ -7,10 +7,10 @@ ghost use Rattle.utf8.specs.Class.{IsTable};
 ghost use Rattle.rooms.specs.inner.Puts.{roomMax, Put};
 ghost use Rattle.lines_write.specs.Write.{rightRecord, rightRecords, lineAt, linesFrom, wroteLines, linesInto};
 use lines::read;
-use lines::records::HEAD;
 use prelude::answers::Written;
 use prelude::refusals;
 use prelude::slices;
+use records::HEAD;
 use rooms::parts;
 use utf8::classes;
 

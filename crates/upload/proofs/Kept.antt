@@ -14,7 +14,7 @@ use Rattle.prelude.specs.Pick.{pick}
 use Rattle.prelude.specs.Refusals.{tooLong, noRoom}
 use Rattle.prelude.proofs.Cases.{never}
 use Rattle.lines.specs.Line.{LineRead, ignored, holds, faulty, readLine}
-use Rattle.lines.specs.Records.{recordOf, recordBy, lineRecord, Fault, none, refuse, faultBy, lineFault, putAt}
+use Rattle.records.specs.Records.{recordOf, recordBy, lineRecord, Fault, none, refuse, faultBy, lineFault, putAt}
 use Rattle.lines.proofs.Refusing.{refusing}
 use Rattle.upload.specs.declared.uploads.Upload.{Upload}
 use Rattle.upload.specs.Calls.{Lent, keepsRefusal, stored, heldLine, appended, closing, byteFault, byteBy, feedByte, feedBytes, endFault, finishBy, finishAll, fitState, fitLent}

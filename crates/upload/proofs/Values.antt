@@ -10,8 +10,8 @@ use borrow.Author.Tests.{leb-true, eqb-false, eq-eqb, ne-eqb, le-leb}
 use lib.Dec.{leb}
 use lib.ListN.{length, take}
 use Rattle.prelude.proofs.Cases.{split, and-left, and-right}
-use Rattle.lines.specs.Records.{Fault, none, refuse, lineFault, Appended, appendBy, appendLine}
-use Rattle.lines.proofs.LineRecords.{put-none}
+use Rattle.records.specs.Records.{Fault, none, refuse, lineFault, Appended, appendBy, appendLine}
+use Rattle.records.proofs.LineRecords.{put-none}
 use Rattle.upload.specs.declared.uploads.Upload.{Upload}
 use Rattle.upload.specs.declared.uploads.Answer.{Answer}
 use Rattle.prelude.specs.Bytes.{LF}

@@ -10,7 +10,7 @@ use Rattle.prelude.specs.Bytes.{LF}
 use Rattle.prelude.specs.Limits.{uploadMax, lineMax}
 use Rattle.prelude.specs.Pick.{pick}
 use Rattle.prelude.specs.Refusals.{unfit, tooLong, overLimit, ended}
-use Rattle.lines.specs.Records.{lineRecord, Fault, none, refuse, lineFault, putAt}
+use Rattle.records.specs.Records.{lineRecord, Fault, none, refuse, lineFault, putAt}
 use Rattle.upload.specs.declared.uploads.Upload.{Upload}
 use Rattle.upload.specs.declared.uploads.Answer.{Answer}
 use Rattle.upload.specs.declared.uploads.Fed.{Fed}

@@ -7,7 +7,6 @@ ghost use Rattle.prelude.specs.Limits.{uploadMax, lineMax};
 ghost use Rattle.upload.specs.Calls.{lent, withRefusal, stored, atEnd, feedByte, feedBytes, finishAll};
 ghost use Rattle.upload.specs.inner.Fitness.{Fit};
 use crate::uploads::Upload;
-use lines::records;
 use prelude::limits::LINE_MAX;
 use prelude::limits::UPLOAD_MAX;
 use prelude::refusals;

@@ -15,7 +15,7 @@ use Rattle.units.specs.Units.{unitAt}
 use Rattle.notation.specs.Marks.{opening}
 use Rattle.strings.specs.Read.{readUnits, readToken, readString}
 use Rattle.lines.specs.Line.{readLine, readStripped, strip, trimmed, leads, blank, bareFault, bareFrom, bare, kindOf}
-use Rattle.lines.specs.Records.{lineRecord, none, lineFault}
+use Rattle.records.specs.Records.{lineRecord, none, lineFault}
 use Rattle.j8_lines.specs.Lines.{headed, cut, countLF, records, faultBehind, firstFrom, firstFault, openFault, recordsOf, left, j8Lines}
 use Rattle.upload_claims.specs.Claims.{caseText, caseOut, caseState}
 use Rattle.j8_lines.proofs.WholeList.{ended-none}

@@ -7,7 +7,7 @@ use mathlib.Core.Path.{_≡_, refl, ap}
 use native.Mathlib.Omega.{arith}
 use lib.ListN.{length, take}
 use lib.Seq.{take-all, length-take-le}
-use Rattle.lines.specs.Records.{Fault, none, refuse}
+use Rattle.records.specs.Records.{Fault, none, refuse}
 use Rattle.j8_lines.specs.Lines.{cut, records, FirstFault, firstFault, openFault, left, endBy, j8Lines}
 use Rattle.upload_claims.specs.Claims.{orOpenLine, firstRefusal, Finished}
 use Rattle.j8_lines.proofs.Snoc.{fault-inside}

@@ -16,7 +16,7 @@ use Rattle.prelude.specs.Refusals.{unfit, noRoom, tooLong, overLimit, ended}
 use Rattle.prelude.proofs.Cases.{split}
 use Rattle.prelude.proofs.Picks.{pick-true, pick-false, pick-case}
 use Rattle.lines.specs.Line.{LineRead, ignored, holds, faulty, readLine}
-use Rattle.lines.specs.Records.{recordOf, lineRecord, Fault, none, refuse, faultBy, lineFault, putAt}
+use Rattle.records.specs.Records.{recordOf, lineRecord, Fault, none, refuse, faultBy, lineFault, putAt}
 use Rattle.upload.specs.declared.uploads.Upload.{Upload}
 use Rattle.upload.specs.declared.uploads.Answer.{Answer}
 use Rattle.upload.specs.Calls.{Lent, lent, withRefusal, keepsRefusal, stored, behindLF, atEnd, heldLine, appended, closing, byteFault, byteBy, feedByte, feedBytes, endFault, finishBy, finishAll, fitState, Called, withoutLine, zeros, keptAnswer, answerOf, stopLent, stopState, guarded, feed, finish}

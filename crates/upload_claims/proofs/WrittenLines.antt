@@ -22,7 +22,7 @@ use Rattle.strings_write.specs.Write.{writeUnits, mark, quoted, writeString}
 use Rattle.prelude.specs.Bytes.{IsBytes}
 use Rattle.string_claims.proofs.RoundTrip.{bytes-drop, bytes-take, round-trip}
 use Rattle.lines.specs.Line.{blank, leads, strip, kindOf, holds, fromString, readStripped, readLine}
-use Rattle.lines.specs.Records.{headSize, head, recordOf, lineRecord, none, lineFault}
+use Rattle.records.specs.Records.{headSize, head, recordOf, lineRecord, none, lineFault}
 use Rattle.lines_write.specs.Write.{sizeAt, kindAt, payloadAt, rightRecord, rightRecords}
 use Rattle.lines.proofs.LineEnds.{trim-stop}
 use Rattle.lines_write.proofs.LineTexts.{next, right-step, right-first, right-size, right-kind}

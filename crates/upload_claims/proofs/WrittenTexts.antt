@@ -16,7 +16,7 @@ use Rattle.units.proofs.WrittenUnits.{Printed as Plain}
 use Rattle.strings_write.specs.Write.{writeString}
 use Rattle.string_claims.proofs.RoundTrip.{bytes-drop}
 use Rattle.string_claims.proofs.Printed.{write-printed as write-plain}
-use Rattle.lines.specs.Records.{headSize, lineRecord, none, lineFault}
+use Rattle.records.specs.Records.{headSize, lineRecord, none, lineFault}
 use Rattle.lines_write.specs.Write.{sizeAt, payloadAt, rightRecord, rightRecords, lineAt, linesFrom, writeQuoted}
 use Rattle.lines_write.proofs.LineTexts.{lines-step, right-size}
 use Rattle.upload_claims.proofs.WrittenLines.{line-record, line-fault, by-records}

@@ -16,7 +16,7 @@ use Rattle.lines.specs.declared.read.Line.{Line}
 use Rattle.lines.specs.declared.read.Line.the-variants.{Ignored, Holds, Refused}
 use Rattle.lines.specs.Answers.{lineNumbers}
 use Rattle.lines.specs.Line.{holds, strip, readLine}
-use Rattle.lines.specs.Records.{Fault, none, refuse}
+use Rattle.records.specs.Records.{Fault, none, refuse}
 use Rattle.lines_write.specs.Write.{rightRecords, writeQuoted}
 use Rattle.upload.specs.declared.uploads.Upload.{Upload}
 use Rattle.upload.specs.declared.uploads.Answer.{Answer}

@@ -1,11 +1,11 @@
 -- The payload is read behind the place of its head, which is put last (LineRecords).
 -- Assumes nothing.
 use borrow.Author.Needs.{needs}
-use Rattle.lines.proofs.records.append_line.Statement.{statement}
-use Rattle.lines.proofs.records.append_line.Tie as tie
+use Rattle.records.proofs.append_line.Statement.{statement}
+use Rattle.records.proofs.append_line.Tie as tie
 use native.Mathlib.Omega.{arith}
 use denote.Ref.{now}
-use Rattle.lines.proofs.LineRecords.{from-inside, nothing-added, fault-added, no-head, holds-inside, record-added}
+use Rattle.records.proofs.LineRecords.{from-inside, nothing-added, fault-added, no-head, holds-inside, record-added}
 
 payload-from-requires : tie.Need-payload-from-requires
 payload-from-requires c κs = search needs

@@ -1,8 +1,8 @@
 -- The test decides the pick.
 -- Assumes nothing.
 use borrow.Author.Needs.{needs}
-use Rattle.lines.proofs.records.payload_from.Statement.{statement}
-use Rattle.lines.proofs.records.payload_from.Tie as tie
+use Rattle.records.proofs.payload_from.Statement.{statement}
+use Rattle.records.proofs.payload_from.Tie as tie
 use Rattle.prelude.proofs.Picks.{picks}
 
 sub-if1 : tie.Need-sub-if1

@@ -12,12 +12,12 @@ use lib.ListN.{length, take, drop, length-append, length-drop, drop-of-length-le
 use lib.Seq.{sets, sets-eq, take-all, take-take, take-append-le, drop-at, drop-drop, length-take-le}
 use Rattle.prelude.specs.Pick.{pick}
 use Rattle.prelude.proofs.Cases.{split, never}
 use Rattle.lines.specs.declared.read.Line.{Line}
 use Rattle.lines.specs.declared.read.Line.the-variants.{Ignored, Holds, Refused}
 use Rattle.lines.specs.Line.{LineRead, ignored, holds, faulty, readLine}
 use Rattle.lines.specs.Answers.{fittedLine, lineOf, lineInto}
 use Rattle.lines.specs.inner.Told.{Told}
-use Rattle.lines.specs.Records.{head, recordOf, recordBy, lineRecord, Fault, none, refuse, faultBy, lineFault, putAt, Appended, appendBy, appendLine}
+use Rattle.records.specs.Records.{head, recordOf, recordBy, lineRecord, Fault, none, refuse, faultBy, lineFault, putAt, Appended, appendBy, appendLine}
 
 -- the head before a payload that stands already
 head-over : (out bs hd : List ℕ) (used from : ℕ) → used + length hd ≡ from → from + length bs ≤ length out

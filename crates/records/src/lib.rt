@@ -5,9 +5,9 @@ ghost use lib.Dec.{ltb};
 ghost use lib.ListN.{length};
 ghost use lib.Seq.{sets};
 ghost use Rattle.prelude.specs.Pick.{pick};
-ghost use Rattle.lines.specs.Records.{headSize, head, appendLine, addedAs};
-use crate::read;
-use crate::read::Line;
+ghost use Rattle.records.specs.Records.{headSize, head, appendLine, addedAs};
+use lines::read;
+use lines::read::Line;
 use prelude::refusals;
 use prelude::slices;
 

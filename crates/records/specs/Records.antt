@@ -6,8 +6,8 @@ use lib.Dec.{leb}
 use lib.ListN.{length, take, drop}
 use Rattle.prelude.specs.Pick.{pick}
 use Rattle.prelude.specs.Refusals.{noRoom}
-use Rattle.lines.specs.declared.records.Added.{Added}
+use Rattle.records.specs.declared.Added.{Added}
 use Rattle.lines.specs.Line.{LineRead, ignored, holds, faulty, readLine}
 
 -- the bytes before a payload
 abbrev pub headSize : ℕ
