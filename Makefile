@@ -1,5 +1,5 @@
 # `make` alone prints what there is to make.
-.PHONY: help test demo archive command examples install uninstall stack size axioms compare load faults limits bench clean
+.PHONY: help test demo archive command examples portable install uninstall stack size axioms compare load faults limits bench clean
 # Two runs of rt would share target/.
 .NOTPARALLEL:
 
@@ -13,6 +13,7 @@ help:
 	@echo "make demo        the main job, on samples"
 	@echo "make test        the gate: every proof, wrong edit, test and example; 25 minutes on two cores"
 	@echo "make archive     target/staticlib/libj8.a, for C and Rust"
+	@echo "make portable    target/portable/j8.c, the library as one C99 file for any processor"
 	@echo "make command     the command j8, target/bin/command"
 	@echo "make install     command, archive, header and j8.pc to PREFIX ($(PREFIX)), below DESTDIR; make uninstall takes them away"
 	@echo "make examples    the programs of examples/c"
@@ -29,6 +30,12 @@ archive: target/staticlib/libj8.a
 
 target/staticlib/libj8.a: crates.txt $(shell find crates -type f)
 	@bash tools/prove.sh target/archive.log rt staticlib j8
+
+# The library as one C file, made from the proved MIR.
+portable: target/portable/j8.c
+
+target/portable/j8.c: crates.txt include/j8.h $(wildcard tools/portable/*) $(shell find crates -type f)
+	@bash tools/portable/make.sh
 
 command: target/bin/command
 

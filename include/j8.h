@@ -42,8 +42,8 @@
 #include <stddef.h>
 #include <stdint.h>
 
-#if SIZE_MAX != 0xffffffffffffffff
-#error "libj8.a was built for a size_t of 64 bits"
+#if SIZE_MAX < 0xffffffff
+#error "j8 needs a size_t of 32 bits or more"
 #endif
 
 /* The version of this header and of the archive beside it; j8_version() asks the
