@@ -83,8 +83,17 @@ def nothing():
     held.that(b"empty" in run("lines").err, "lines of nothing has no note")
 
 
+def endless():
+    """An input without an end is refused all the same."""
+    for words in ("lines",), ("quote",), ("quote", "--line"), ("quote", "--lines"), ("quote", "-0"), ("unquote",), ("unquote", "--lines"), ("unquote", "-0"), ("json8",), ("strings",):
+        with open("/dev/zero", "rb") as zeros:
+            done = run(*words, stdin=zeros)
+        held.that(done.status == 1 and done.err.count(b"\n") == 1, "%s of an endless input: status %d" % (words, done.status), done.err)
+
+
 backups()
 groups()
 books()
 nothing()
+endless()
 held.end("texts at their limits, and what json8 prints read again")

@@ -5,6 +5,8 @@ import os
 import shutil
 import subprocess
 import tempfile
+import threading
+import time
 
 from testing import COMMAND, GOOD, READERS, SAMPLES, Held, quoted, run, tame
 
@@ -139,6 +141,26 @@ def closed_with_file():
                 held.that(file.read() == text, "the input was written to")
 
 
+def slow():
+    """An input that comes byte by byte."""
+    for kind in KINDS:
+        text = good(kind)
+        reader, writer = os.pipe()
+
+        def write():
+            for at in range(len(text)):
+                os.write(writer, text[at:at + 1])
+                time.sleep(0.001)
+            os.close(writer)
+
+        writing = threading.Thread(target=write)
+        writing.start()
+        done = run(*kind, stdin=reader)
+        writing.join()
+        os.close(reader)
+        held.that((done.status, done.out, done.err) == (0, run(*kind, text=text).out, b""), "%s byte by byte: status %d" % (kind, done.status), done.out + done.err)
+
+
 def small_stack():
     """64 KiB of stack are enough for every subcommand, on every sample and on the largest inputs."""
     inputs = [(kind, large(kind)) for kind in KINDS]
@@ -160,5 +182,6 @@ read_errors()
 full()
 cut_off()
 closed_with_file()
+slow()
 small_stack()
 held.end("files that can't be read, outputs that can't be written, 64 KiB of stack")
