@@ -33,7 +33,7 @@ target/staticlib/libj8.a: crates.txt $(shell find crates -type f)
 
 command: target/bin/j8
 
-target/bin/j8: crates.txt tools/link.sh $(shell find crates -type f)
+target/bin/j8: crates.txt command/main.c tools/link.sh $(shell find crates -type f)
 	@bash tools/prove.sh target/command.log rt staticlib command
 	@bash tools/link.sh
 

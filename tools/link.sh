@@ -6,4 +6,4 @@ cd "$(dirname "$0")/.."
 # As rt finds its own folder.
 kit=${RATTLE_HOME:-$(dirname "$(dirname "$(realpath "$(command -v rt)")")")}
 mkdir -p target/bin
-${CC:-cc} -std=c99 -O2 -Wall -Wextra -Werror -pedantic "$@" crates/command/main.c target/staticlib/libcommand.a "$kit/lib/libos_c.a" -o target/bin/j8
+${CC:-cc} -std=c99 -O2 -Wall -Wextra -Werror -pedantic "$@" command/main.c target/staticlib/libcommand.a "$kit/lib/libos_c.a" -o target/bin/j8

@@ -71,9 +71,14 @@ def options():
                 option = option if option.startswith("-") else "-" + option
                 misused(word, option, text=GOOD[word])
                 misused(word, option, "folders.j8l")
-        # Behind the file they would be a second one.
+        misused(word, "folders.j8l", "--colour")
+        misused(word, "-", "--colour", text=GOOD[word])
+        # Before the file and behind it they are the same, and behind -- a second file.
         for option in belong[word]:
-            misused(word, "folders.j8l", option)
+            words = [option, "7"] if option == "--pieces" else [option]
+            before, behind = run(word, *words, "folders.j8l"), run(word, "folders.j8l", *words)
+            held.that((before.status, before.out, before.err) == (behind.status, behind.out, behind.err), "%s with %s behind its file" % (word, option), behind.err)
+            misused(word, "folders.j8l", "--", option)
         for size in LONG:
             misused(word, "--" + "x" * size, text=GOOD[word])
             misused(word, "--json" + "x" * size, text=GOOD[word])
@@ -112,17 +117,18 @@ def dashes():
 
 def helped():
     texts = {}
-    for words in (["help"], ["--help"], ["-h"], *(["help", word] for word in READERS), *([word, "--help"] for word in READERS)):
+    ways = *(["help", word] for word in READERS), *([word, "--help"] for word in READERS), *([word, "-h"] for word in READERS)
+    for words in (["help"], ["--help"], ["-h"], *ways):
         done = run(*words)
         held.that(done.status == 0 and done.err == b"" and len(done.out) > 60, "%s doesn't help" % words, done.err)
         held.that(tame(done.out), "%s can drive a terminal" % words)
         texts[" ".join(words)] = done.out
     held.that(texts["help"] == texts["--help"] == texts["-h"], "help, --help and -h differ")
     for word in READERS:
-        held.that(texts["help " + word] == texts[word + " --help"], "help %s and %s --help differ" % (word, word))
+        held.that(texts["help " + word] == texts[word + " --help"] == texts[word + " -h"], "help %s and %s --help differ" % (word, word))
         held.that(word.encode() in texts["help"] and word.encode() in texts["help " + word], "the help doesn't name %s" % word)
     held.that(len({texts["help " + word] for word in READERS}) == len(READERS), "two commands have the same help")
-    for words in ["nonsense"], [""], ["lines", "quote"], ["a" * 5000]:
+    for words in ["nonsense"], [""], ["a" * 5000]:
         misused("help", *words)
 
 
