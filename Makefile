@@ -14,8 +14,9 @@ help:
 	@echo "make test        the gate: every proof, wrong edit, test and example; 25 minutes on two cores"
 	@echo "make archive     target/staticlib/libj8.a, for C and Rust"
 	@echo "make portable    target/portable/j8.c, the library as one C99 file for any processor"
-	@echo "make command     the command j8, target/bin/command"
-	@echo "make install     command, archive, header and j8.pc to PREFIX ($(PREFIX)), below DESTDIR; make uninstall takes them away"
+	@echo "make command     the command j8, target/bin/j8"
+	@echo "make install     command, man page, completion, archive, header and j8.pc to PREFIX ($(PREFIX)), below DESTDIR;"
+	@echo "                 make uninstall takes them away"
 	@echo "make examples    the programs of examples/c"
 	@echo "make stack size  what the functions take"
 	@echo "make bench       their speed beside others: docs/BENCHMARKS.md"
@@ -37,14 +38,14 @@ portable: target/portable/j8.c
 target/portable/j8.c: crates.txt include/j8.h $(wildcard tools/portable/*) $(shell find crates -type f)
 	@bash tools/portable/make.sh
 
-command: target/bin/command
+command: target/bin/j8
 
-target/bin/command: crates.txt $(shell find crates -type f)
-	@bash tools/prove.sh target/command.log rt check command
-	@touch $@
+target/bin/j8: crates.txt command/main.c tools/link.sh $(shell find crates -type f)
+	@bash tools/prove.sh target/command.log rt staticlib command
+	@bash tools/link.sh
 
 demo: command
-	@bash samples/demo.sh target/bin/command
+	@bash samples/demo.sh target/bin/j8
 
 # The programs of examples/c, to target/examples.
 examples: archive

@@ -4,18 +4,17 @@ set -u
 command=$(realpath "$1") || exit 1
 cd "$(dirname "$0")/.." || exit 1
 
-# Standard output first, then standard error.
+# What a run prints, and its status where that isn't 0.
 j8() {
   echo "\$ j8 $*"
-  "$command" "$@" 2>&1
+  "$command" "$@" 2>&1 || echo "status $?"
   echo
 }
 
 echo "A folder name is bytes. Latin-1 bytes come back as they were, byte for byte:"
 j8 quote samples/name.bin
 echo "\$ j8 quote samples/name.bin | j8 unquote | cmp - samples/name.bin"
-"$command" quote samples/name.bin 2>&1 >/dev/null
-"$command" quote samples/name.bin 2>/dev/null | "$command" unquote 2>/dev/null | cmp - samples/name.bin && echo "the same"
+"$command" quote samples/name.bin | "$command" unquote | cmp - samples/name.bin && echo "the same"
 echo
 echo "Junk behind a closing quote is never taken as part of a name:"
 j8 unquote samples/name-junk.j8
@@ -34,6 +33,16 @@ echo "CR LF at the line ends, blanks around a name:"
 j8 lines samples/crlf.j8l
 echo "The old export put a replacement mark where it met a byte that it didn't know; beside it the true name:"
 j8 lines samples/old-export.j8l
+echo "A backup of plain names, one a line, and of names that a NUL ends, as find -print0 has them:"
+j8 quote --lines samples/names.txt
+j8 quote -0 samples/names.nul
+echo "\$ j8 quote -0 samples/names.nul | j8 unquote -0 | cmp - samples/names.nul"
+"$command" quote -0 samples/names.nul | "$command" unquote -0 | cmp - samples/names.nul && echo "the same"
+echo
+echo "A name of two lines can't be told from two names, where each ends at its line:"
+j8 unquote --lines samples/two-lines.j8l
+echo "A byte order mark, as an editor may put it, makes a bare name of a quoted one:"
+j8 lines samples/bom.j8l
 echo "Latin-1 bytes in a bare line are refused where they stand; the good lines before them are kept:"
 j8 lines samples/latin1.j8l
 echo "Junk behind a closing quote, in a backup:"
@@ -47,16 +56,21 @@ j8 json8 samples/settings.json8
 echo "Its strings, each with its node:"
 j8 strings samples/settings.json8
 echo "\$ j8 json8 samples/settings.json8 | j8 json8 -"
-if [ "$("$command" json8 samples/settings.json8 2>/dev/null | "$command" json8 - 2>&1)" = "$("$command" json8 samples/settings.json8 2>&1)" ]; then
+if [ "$("$command" json8 samples/settings.json8 | "$command" json8 - 2>&1)" = "$("$command" json8 samples/settings.json8 2>&1)" ]; then
   echo "the same form again"
 else
   echo "DIFFERENT"
 fi
 echo
-echo "Settings that are refused: a number that JSON doesn't have, Latin-1 bytes, cut off, too deep, too long, empty:"
-j8 json8 samples/bad-number.json8
-j8 json8 samples/latin1.json8
-j8 json8 samples/cut-off.json8
-j8 json8 samples/too-deep.json8
-j8 json8 samples/too-long.json8
+echo "Settings that are refused: a comma that is missing, a bracket of the other kind, a number that JSON doesn't have, Latin-1 bytes, cut off, too deep, too long, empty:"
+for sample in missing-comma other-bracket bad-number latin1 cut-off too-deep too-long; do
+  j8 json8 samples/$sample.json8
+done
 j8 json8 samples/empty
+echo "The same for a program:"
+j8 json8 --json samples/missing-comma.json8
+echo "A script sees by the status whether a backup can be restored, whatever went wrong:"
+for backup in samples/settings.json8 samples/cut-off.json8 samples/none.json8 ""; do
+  echo "\$ if j8 json8 '$backup' >checked.json8; then echo restored; else echo not restored; fi"
+  if "$command" json8 "$backup" 2>&1 >/dev/null; then echo restored; else echo "not restored"; fi
+done

@@ -1,27 +1,37 @@
 #!/usr/bin/env bash
-# install.sh [remove]: puts the command, the archive, the header and j8.pc below PREFIX, or takes them away. DESTDIR stands for / while a package
-# is put together. Both may have any characters but a line's end.
+# install.sh [remove]: puts the command with its man page and completion, the archive, the header and j8.pc below PREFIX, or takes them away.
+# DESTDIR stands for / while a package is put together. Both may have any characters but a line's end.
 set -eu
 prefix=$(realpath -m -s -- "${PREFIX:?}")
 cd "$(dirname "$0")/.."
 root=${DESTDIR:-}$prefix
 
-# put MODE FILE FOLDER NAME
+# each WORDS..: runs WORDS with the mode, the source and the place of each file.
+each() {
+  "$@" 755 target/bin/j8 bin/j8
+  "$@" 644 target/j8.1 share/man/man1/j8.1
+  "$@" 644 completions/j8.bash share/bash-completion/completions/j8
+  "$@" 644 target/staticlib/libj8.a lib/libj8.a
+  "$@" 644 include/j8.h include/j8.h
+  "$@" 644 target/j8.pc lib/pkgconfig/j8.pc
+}
+
 put() {
-  install -d -- "$root/$3"
-  install -m "$1" -- "$2" "$root/$3/$4"
-  echo "installed: $root/$3/$4"
+  install -D -m "$1" -- "$2" "$root/$3"
+  echo "installed: $root/$3"
+}
+
+remove() {
+  rm -f -- "$root/$3"
 }
 
 if [ "${1:-}" = remove ]; then
-  rm -f -- "$root/bin/j8" "$root/lib/libj8.a" "$root/include/j8.h" "$root/lib/pkgconfig/j8.pc"
+  each remove
   exit
 fi
 version=$(sed -n 's/^.define J8_VERSION "\(.*\)"$/\1/p' include/j8.h)
 # As pkg-config reads a value and sed a replacement.
 quoted=$(printf '%s' "$prefix" | sed -e 's/[\\ "'\''$#]/\\&/g' -e 's/[\\&|]/\\&/g')
 sed -e "s|@PREFIX@|$quoted|" -e "s|@VERSION@|$version|" j8.pc.in >target/j8.pc
-put 755 target/bin/command bin j8
-put 644 target/staticlib/libj8.a lib libj8.a
-put 644 include/j8.h include j8.h
-put 644 target/j8.pc lib/pkgconfig j8.pc
+sed -e "s|@VERSION@|$version|" man/j8.1 >target/j8.1
+each put

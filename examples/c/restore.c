@@ -2,7 +2,7 @@
  * Restores a settings backup: reads JSON8 from standard input to a node table,
  * walks it and fills a struct. Nothing is restored unless everything fits.
  *
- *     restore < settings.json8
+ *     restore < samples/settings.json8
  */
 
 #include <stdio.h>

@@ -2,7 +2,7 @@
 //! Nothing is restored unless everything fits.
 //!
 //! ```sh
-//! cargo run --offline --example restore < ../examples/c/settings.json8
+//! cargo run --offline --example restore < ../samples/settings.json8
 //! ```
 
 use std::io::{self, Read, Write};

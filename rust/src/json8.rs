@@ -398,6 +398,7 @@ impl fmt::Debug for Node<'_> {
 
 /// See [`Node::children`].
 #[derive(Clone, Debug)]
+#[must_use = "it does nothing until it is gone through"]
 pub struct Children<'a> {
     nodes: Nodes<'a>,
     next: usize,
@@ -421,6 +422,7 @@ impl FusedIterator for Children<'_> {}
 
 /// See [`Node::pairs`].
 #[derive(Clone, Debug)]
+#[must_use = "it does nothing until it is gone through"]
 pub struct Pairs<'a> {
     children: Children<'a>,
 }
@@ -438,6 +440,7 @@ impl FusedIterator for Pairs<'_> {}
 
 /// See [`Nodes::iter`].
 #[derive(Clone, Debug)]
+#[must_use = "it does nothing until it is gone through"]
 pub struct Iter<'a> {
     nodes: Nodes<'a>,
     next: usize,

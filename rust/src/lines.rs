@@ -87,6 +87,7 @@ impl AsRef<[u8]> for Record<'_> {
 /// assert_eq!(records.rest(), b"\x09"); // cut short
 /// ```
 #[derive(Clone, Debug)]
+#[must_use = "records that nobody takes are lost"]
 pub struct Records<'a> {
     rest: &'a [u8],
 }

@@ -269,6 +269,7 @@ impl Upload {
     }
 
     /// The records' bytes, and nothing behind them.
+    #[must_use]
     pub fn into_output(mut self) -> Vec<u8> {
         self.out.truncate(self.calls.0.used);
         self.out

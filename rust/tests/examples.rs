@@ -1,4 +1,4 @@
-//! The examples print what those for C do: the files beside `examples/c`.
+//! The examples print what those for C do: the files `*.expected` of `examples/c`.
 
 #[allow(dead_code)]
 #[path = "../examples/restore.rs"]
@@ -7,13 +7,15 @@ mod restore;
 #[path = "../examples/upload.rs"]
 mod upload;
 
+/// A file of `examples/c`, by a path from there.
 fn file(name: &str) -> Vec<u8> {
     let path = format!("{}/../examples/c/{name}", env!("CARGO_MANIFEST_DIR"));
     std::fs::read(&path).unwrap_or_else(|e| panic!("{path}: {e}"))
 }
 
 fn same(printed: &[u8], sample: &str) {
-    let expected = file(&format!("{sample}.expected"));
+    let name = sample.rsplit('/').next().unwrap();
+    let expected = file(&format!("{name}.expected"));
     let text = String::from_utf8_lossy;
     assert_eq!(text(printed), text(&expected), "{sample}");
 }
@@ -34,7 +36,7 @@ fn uploads() {
 #[test]
 fn restores() {
     for (sample, good) in [
-        ("settings.json8", true),
+        ("../../samples/settings.json8", true),
         ("damaged.json8", false),
         ("unfit.json8", false),
     ] {

@@ -1,9 +1,13 @@
 // The words behind the program's name.
-use crate::inputs;
+use crate::texts;
 use check::same;
+
+// The most bytes that are read at once.
+pub const PIECE: usize = 4096;
 
 pub enum Command {
     Help,
+    Version,
     Lines,
     Quote,
     Unquote,
@@ -13,8 +17,50 @@ pub enum Command {
     Unknown,
 }
 
-// A subcommand that reads its input whole.
-fn whole_command_of(word: &[u8]) -> Command {
+// Options, a bit for each.
+pub const JSON: u32 = 1;
+
+pub const HELP: u32 = 2;
+
+pub const PIECES: u32 = 4;
+
+pub const LINE: u32 = 8;
+
+pub const LINES: u32 = 16;
+
+pub const NUL: u32 = 32;
+
+// What can be wrong with the words: the lines of `reports::FAULTS`.
+pub const NO_COMMAND: usize = 1;
+
+pub const NO_OPTION: usize = 2;
+
+pub const SECOND_FILE: usize = 3;
+
+pub const EMPTY_NAME: usize = 4;
+
+pub const LONG_NAME: usize = 5;
+
+pub const BAD_SIZE: usize = 6;
+
+pub const LINE_AND_LINES: usize = 7;
+
+// The words behind the command: its options, the size of pieces, the argument that names the file (0 for none); what is wrong (0 for nothing)
+// and with which argument; whether options have ended, and whether a size is still to come.
+pub struct Options {
+    pub flags: u32,
+    pub size: usize,
+    pub file: usize,
+    pub fault: usize,
+    pub wrong: usize,
+    ended: bool,
+    sized: bool,
+}
+
+fn command_that_reads(word: &[u8]) -> Command {
+    if same(word, b"lines") {
+        return Command::Lines;
+    }
     if same(word, b"quote") {
         return Command::Quote;
     }
@@ -31,39 +77,67 @@ fn whole_command_of(word: &[u8]) -> Command {
 }
 
 fn command_of(word: &[u8]) -> Command {
-    if same(word, b"lines") {
-        return Command::Lines;
-    }
     if same(word, b"help") {
         return Command::Help;
     }
     if same(word, b"--help") {
         return Command::Help;
     }
-    whole_command_of(word)
+    if same(word, b"-h") {
+        return Command::Help;
+    }
+    if same(word, b"--version") {
+        return Command::Version;
+    }
+    command_that_reads(word)
 }
 
-// The subcommand that the first word names.
-pub fn subcommand() -> Command {
-    if os::arg_count() < 2 {
+// The command that an argument names.
+pub fn command_at(i: usize) -> Command {
+    if os::arg_count() <= i {
         return Command::Missing;
     }
     let mut word = [0u8; 16];
-    let n = os::arg(1, &mut word);
+    let n = os::arg(i, &mut word);
     if os::errno() != 0 {
         return Command::Unknown;
     }
     command_of(&word[..n])
 }
 
-// Whether an argument is the option `--pieces`.
-pub fn is_option(i: usize) -> bool {
-    let mut word = [0u8; 16];
-    let n = os::arg(i, &mut word);
-    if os::errno() != 0 {
-        return false;
+// The options that a command has.
+pub fn options_of(command: Command) -> u32 {
+    match command {
+        Command::Lines => JSON | HELP | PIECES,
+        Command::Quote => JSON | HELP | LINE | LINES | NUL,
+        Command::Unquote => JSON | HELP | LINES | NUL,
+        _ => JSON | HELP,
     }
-    same(&word[..n], b"--pieces")
+}
+
+fn option_of(word: &[u8]) -> u32 {
+    if same(word, b"--json") {
+        return JSON;
+    }
+    if same(word, b"--help") {
+        return HELP;
+    }
+    if same(word, b"-h") {
+        return HELP;
+    }
+    if same(word, b"--pieces") {
+        return PIECES;
+    }
+    if same(word, b"--line") {
+        return LINE;
+    }
+    if same(word, b"--lines") {
+        return LINES;
+    }
+    if same(word, b"-0") {
+        return NUL;
+    }
+    0
 }
 
 // A number of bytes from 1 to a whole piece, or 0 for anything else.
@@ -79,7 +153,7 @@ fn size_of(word: &[u8]) -> usize {
             return 0;
         }
         size = 10 * size + (x - b'0') as usize;
-        if size > inputs::PIECE {
+        if size > PIECE {
             return 0;
         }
         i += 1;
@@ -87,12 +161,139 @@ fn size_of(word: &[u8]) -> usize {
     size
 }
 
-// The number of bytes that an argument gives.
-pub fn size_at(i: usize) -> usize {
+// The first fault counts.
+fn faulty(o: Options, fault: usize, i: usize) -> Options {
+    let mut o = o;
+    if o.fault == 0 {
+        o.fault = fault;
+        o.wrong = i;
+    }
+    o
+}
+
+fn with_size(o: Options, size: usize, i: usize) -> Options {
+    if size == 0 {
+        return faulty(o, BAD_SIZE, i);
+    }
+    let mut o = o;
+    o.size = size;
+    o
+}
+
+fn with_file(o: Options, i: usize) -> Options {
+    if o.file != 0 {
+        return faulty(o, SECOND_FILE, i);
+    }
+    let mut o = o;
+    o.file = i;
+    o
+}
+
+fn with_option(o: Options, bit: u32, known: u32, i: usize) -> Options {
+    if bit & known == 0 {
+        return faulty(o, NO_OPTION, i);
+    }
+    let mut o = o;
+    o.flags = o.flags | bit;
+    o.sized = bit == PIECES;
+    o
+}
+
+// The size in `--pieces=N`.
+const SIZE_AT: usize = 9;
+
+fn has_size(word: &[u8]) -> bool {
+    let k = texts::within(SIZE_AT, word);
+    same(&word[..k], b"--pieces=")
+}
+
+fn with_sized(o: Options, word: &[u8], known: u32, i: usize) -> Options {
+    if known & PIECES == 0 {
+        return faulty(o, NO_OPTION, i);
+    }
+    let k = texts::within(SIZE_AT, word);
+    with_size(o, size_of(&word[k..]), i)
+}
+
+// Whether a word is an option: `-` alone is standard input.
+fn is_option(word: &[u8]) -> bool {
+    if word.len() < 2 {
+        return false;
+    }
+    word[0] == b'-'
+}
+
+fn with_word(o: Options, word: &[u8], known: u32, i: usize) -> Options {
+    if !is_option(word) {
+        return with_file(o, i);
+    }
+    if same(word, b"--") {
+        let mut o = o;
+        o.ended = true;
+        return o;
+    }
+    if has_size(word) {
+        return with_sized(o, word, known, i);
+    }
+    with_option(o, option_of(word), known, i)
+}
+
+fn with_long(o: Options, first: u8, i: usize) -> Options {
+    if first == b'-' {
+        return faulty(o, NO_OPTION, i);
+    }
+    with_file(o, i)
+}
+
+// No option has more bytes than the array, so a longer word is a file's name, or none that is known.
+fn with_argument(o: Options, known: u32, i: usize) -> Options {
     let mut word = [0u8; 16];
     let n = os::arg(i, &mut word);
-    if os::errno() != 0 {
-        return 0;
+    let cut = os::errno() != 0;
+    if o.sized {
+        let mut o = o;
+        o.sized = false;
+        return with_size(o, size_of(&word[..n]), i);
     }
-    size_of(&word[..n])
+    if o.ended {
+        return with_file(o, i);
+    }
+    if cut {
+        return with_long(o, word[0], i);
+    }
+    with_word(o, &word[..n], known, i)
+}
+
+// What can only be told of all words.
+fn checked(o: Options) -> Options {
+    if o.sized {
+        return faulty(o, BAD_SIZE, 0);
+    }
+    if o.flags & LINE == 0 {
+        return o;
+    }
+    if o.flags & (LINES | NUL) == 0 {
+        return o;
+    }
+    faulty(o, LINE_AND_LINES, 0)
+}
+
+// The words from argument i on, for a command with these options.
+pub fn options_from(i: usize, known: u32) -> Options {
+    let mut o = Options {
+        flags: 0,
+        size: PIECE,
+        file: 0,
+        fault: 0,
+        wrong: 0,
+        ended: false,
+        sized: false,
+    };
+    let n = os::arg_count();
+    let mut at = i;
+    while at < n {
+        o = with_argument(o, known, at);
+        at += 1;
+    }
+    checked(o)
 }

@@ -1,45 +1,115 @@
-// What the subcommands do.
+// What the commands do.
+use crate::arguments::Command;
+use crate::outcomes::Outcome;
 use crate::outputs;
-use crate::outputs::Outcome;
 use libc::STDERR_FILENO;
 use libc::STDOUT_FILENO;
 
-fn print_to(fd: i32) -> bool {
+fn lines(fd: i32) -> bool {
     io::write_all(
         fd,
         b"\
-j8 COMMAND [FILE]: J8 Notation backups, from FILE or standard input
-  lines    prints each record of a J8 Lines backup: its line, a tab, a J8 string
-           lines --pieces N [FILE] reads N bytes at a time, 1 to 4096
-  quote    prints the input, any bytes, as one J8 string
-  unquote  prints the bytes of one J8 string; a line end behind it is ignored
-  json8    checks a JSON8 backup and prints it in its one written form
-  strings  prints each string of a JSON8 backup: its node, a tab, a J8 string
-  help     prints this
-A refusal goes to standard error: its number, line (from 1), column (characters,
-from 1), place (bytes, from 0; in lines, of the line) and a sentence. The last
-line there is 'j8: ok', 'j8: refused NUMBER', or 'j8: failed' where the input
-can't be read or the output written. The exit status is always 0.
+  lines [--pieces N] [FILE]
+      prints each record of a J8 Lines backup: its line, a tab, a J8 string;
+      reads N bytes at a time, 1 to 4096
 ",
     )
 }
 
-pub fn print() -> Outcome {
-    if print_to(STDOUT_FILENO) {
-        return Outcome::Ended(0);
+fn quote(fd: i32) -> bool {
+    io::write_all(
+        fd,
+        b"\
+  quote [--line | --lines | -0] [FILE]
+      prints the input, any bytes, as one J8 string
+      --line   leaves off one LF at the end of the input
+      --lines  each line is a name: a J8 Lines backup of them
+      -0       the same, where NUL ends each name
+",
+    )
+}
+
+fn unquote(fd: i32) -> bool {
+    io::write_all(
+        fd,
+        b"\
+  unquote [--lines | -0] [FILE]
+      prints the bytes of one J8 string; a line's end behind it is ignored
+      --lines  each record of a J8 Lines backup as it is, with LF behind it
+      -0       the same with NUL behind each
+",
+    )
+}
+
+fn json8(fd: i32) -> bool {
+    io::write_all(
+        fd,
+        b"\
+  json8 [FILE]
+      checks a JSON8 backup and prints it in its one written form
+",
+    )
+}
+
+fn strings(fd: i32) -> bool {
+    io::write_all(
+        fd,
+        b"\
+  strings [FILE]
+      prints each string of a JSON8 backup: its node, a tab, a J8 string
+",
+    )
+}
+
+fn whole(fd: i32) -> bool {
+    io::write_all(
+        fd,
+        b"\
+j8 COMMAND [OPTION..] [FILE]: J8 Notation backups, from FILE or standard input
+",
+    )
+        && lines(fd)
+        && quote(fd)
+        && unquote(fd)
+        && json8(fd)
+        && strings(fd)
+        && io::write_all(
+            fd,
+            b"\
+  help [COMMAND], --help, -h    prints this
+  --version                     prints the version
+With --json what is said on standard error is a JSON object a line. - is
+standard input, and -- ends the options.
+A refusal has a number, line (from 1), column (characters, from 1), place
+(bytes, from 0; in J8 Lines, of the line) and a sentence.
+Exit status: 0 done, 1 refused, 2 used wrongly, 3 the input can't be read or
+the output written.
+",
+        )
+}
+
+fn print_to(fd: i32, command: Command) -> bool {
+    match command {
+        Command::Lines => lines(fd),
+        Command::Quote => quote(fd),
+        Command::Unquote => unquote(fd),
+        Command::Json8 => json8(fd),
+        Command::Strings => strings(fd),
+        _ => whole(fd),
     }
-    outputs::fail()
+}
+
+// The help of a command, or all of it.
+pub fn print(command: Command) -> Outcome {
+    outputs::ended(print_to(STDOUT_FILENO, command))
 }
 
 // No word at all: the help, where it doesn't mix with an output.
 pub fn missing() -> Outcome {
-    print_to(STDERR_FILENO);
-    Outcome::Failed
+    whole(STDERR_FILENO);
+    Outcome::Misused(0, 0)
 }
 
-// What is wrong with the words, and where to look.
-pub fn misused(what: &[u8]) -> Outcome {
-    io::write_all(STDERR_FILENO, what);
-    io::write_all(STDERR_FILENO, b": see 'j8 help'\n");
-    Outcome::Failed
+pub fn version() -> Outcome {
+    outputs::ended(outputs::print_raw(b"j8 0.1.0\n"))
 }

@@ -1,52 +1,50 @@
 // The input: a file that an argument names, or standard input.
 ghost use lib.ListN.{length};
 ghost use Prim.Native.Nat.{_≤_};
-use crate::outputs;
+use crate::arguments;
+use crate::texts;
 use check::same;
+use libc::PATH_MAX;
 use libc::STDIN_FILENO;
-use messages::messages::Message;
-use prelude::limits::TEXT_MAX;
 
-// The most bytes that are read at once.
-pub const PIECE: usize = 4096;
-
-// The longest text, a line's end behind it, and one byte more: a text that fills this is too long.
-pub const TEXT_ROOM: usize = TEXT_MAX + 3;
-
-pub fn text_room() -> [u8; TEXT_ROOM] {
-    [0u8; TEXT_ROOM]
+pub enum Opened {
+    At(i32),
+    Misused(usize),
+    Failed(i32),
 }
 
-pub enum Filled {
-    With(usize),
-    Failed,
-}
-
-// A descriptor of the input that an argument names, or -1 after a line on why there is none.
-pub fn open(i: usize) -> i32 {
-    let mut path = io::buffer();
-    let n = os::arg(i, &mut path);
+// A descriptor of the input that an argument names.
+pub fn open(i: usize, path: &mut [u8]) -> Opened {
+    if i == 0 {
+        return Opened::At(STDIN_FILENO);
+    }
+    let n = os::arg(i, path);
+    if os::errno() != 0 {
+        return Opened::Misused(arguments::LONG_NAME);
+    }
     if n == 0 {
-        return STDIN_FILENO;
+        return Opened::Misused(arguments::EMPTY_NAME);
     }
-    if same(&path[..n], b"-") {
-        return STDIN_FILENO;
+    if n >= PATH_MAX {
+        return Opened::Misused(arguments::LONG_NAME);
     }
-    let fd = os::open_read(&path[..n]);
-    if fd < 0 {
-        os::fail(&path[..n]);
-    }
-    fd
+    open_named(&path[..n])
 }
 
-// The line on an input that can't be read.
-pub fn fail() {
-    os::fail(b"the input can't be read");
+fn open_named(path: &[u8]) -> Opened {
+    if same(path, b"-") {
+        return Opened::At(STDIN_FILENO);
+    }
+    let fd = os::open_read(path);
+    if fd < 0 {
+        return Opened::Failed(os::errno());
+    }
+    Opened::At(fd)
 }
 
 // One read of at most so many bytes: what libc::read answers.
 pub fn read_some(fd: i32, size: usize, buf: &mut [u8]) -> isize {
-    let n = outputs::within(size, buf);
+    let n = texts::within(size, buf);
     libc::read(fd, &mut buf[..n])
 }
 
@@ -57,14 +55,18 @@ fn read_from(fd: i32, buf: &mut [u8], from: usize) -> isize
     libc::read(fd, &mut buf[from..])
 }
 
+pub enum Filled {
+    With(usize),
+    Failed(i32),
+}
+
 // Reads until buf is full or the input ends.
 pub fn fill(fd: i32, buf: &mut [u8]) -> Filled {
     let mut n = 0;
     while n < buf.len() {
         let got = read_from(fd, buf, n);
         if got < 0 {
-            fail();
-            return Filled::Failed;
+            return Filled::Failed(os::errno());
         }
         let k = io::count(got, &buf[n..]);
         if k == 0 {
@@ -73,11 +75,4 @@ pub fn fill(fd: i32, buf: &mut [u8]) -> Filled {
         n += k;
     }
     Filled::With(n)
-}
-
-// The line on an input without a byte.
-pub fn note_empty(n: usize) {
-    if n == 0 {
-        outputs::say(Message::Empty);
-    }
 }

@@ -1,62 +1,68 @@
-// Any bytes to a J8 string and back.
+// Any bytes to a J8 string and back, whole.
+use crate::outcomes::Outcome;
 use crate::outputs;
-use crate::outputs::Outcome;
-use messages::messages::Message;
+use crate::texts;
 use messages::messages::Spot;
 use prelude::answers::Written;
 use prelude::limits::TEXT_MAX;
+use prelude::slices;
 use strings::answers::Decoded;
 use strings::read;
 use strings_write::write;
 
-fn refused(number: u32, place: usize) -> Outcome {
-    outputs::say(Message::Refused(number, Spot::Quoted, place));
-    Outcome::Ended(number)
+// Prints the first n bytes of the page and LF.
+fn print_string(n: usize, terminal: bool, page: &mut [u8], shown: &mut [u8]) -> Outcome {
+    let e = texts::put(b"\n", n, page);
+    let e = texts::within(e, page);
+    outputs::ended(outputs::print(&page[..e], terminal, shown))
 }
 
-pub fn quote(data: &[u8]) -> Outcome {
-    let mut out = [0u8; TEXT_MAX];
-    let written = write::write(data, &mut out);
+pub fn quote(data: &[u8], terminal: bool, page: &mut [u8], shown: &mut [u8]) -> Outcome {
+    let room = texts::within(TEXT_MAX, page);
+    let written = write::write(data, &mut page[..room]);
     match written {
-        Written::Wrote(n) => {
-            let printed = outputs::print(&out, n) && outputs::print(b"\n", 1);
-            outputs::ended(printed, 0)
-        }
-        Written::Refused(number) => refused(number, 0),
+        Written::Wrote(n) => print_string(n, terminal, page, shown),
+        Written::Refused(number) => Outcome::Refused(number, Spot::Quoted, 0),
     }
+}
+
+// The length of the first n bytes without such a byte at their end.
+fn without(x: u8, text: &[u8], n: usize) -> usize {
+    if n == 0 {
+        return 0;
+    }
+    if slices::byte_at(text, n - 1, 0) == x {
+        return n - 1;
+    }
+    n
+}
+
+// The length of a text without an LF at its end.
+pub fn without_lf(text: &[u8]) -> usize {
+    without(b'\n', text, text.len())
 }
 
 // The length of a text without a line's end behind it, LF or CR LF.
 fn without_end(text: &[u8]) -> usize {
-    let n = text.len();
-    if n == 0 {
-        return 0;
-    }
-    if text[n - 1] != b'\n' {
+    let n = without_lf(text);
+    if n == text.len() {
         return n;
     }
-    if n == 1 {
-        return 0;
-    }
-    if text[n - 2] == b'\r' {
-        return n - 2;
-    }
-    n - 1
+    without(b'\r', text, n)
 }
 
-fn unquote_text(text: &[u8]) -> Outcome {
-    let mut out = [0u8; TEXT_MAX];
-    let decoded = read::read(text, &mut out);
+fn unquote_text(text: &[u8], out: &mut [u8]) -> Outcome {
+    let decoded = read::read(text, out);
     match decoded {
         Decoded::Done(n) => {
-            let printed = outputs::print(&out, n);
-            outputs::ended(printed, 0)
+            let n = texts::within(n, out);
+            outputs::ended(outputs::print_raw(&out[..n]))
         }
-        Decoded::Refused(number, place) => refused(number, place),
+        Decoded::Refused(number, place) => Outcome::Refused(number, Spot::Quoted, place),
     }
 }
 
-pub fn unquote(text: &[u8]) -> Outcome {
-    let n = outputs::within(without_end(text), text);
-    unquote_text(&text[..n])
+pub fn unquote(text: &[u8], out: &mut [u8]) -> Outcome {
+    let n = texts::within(without_end(text), text);
+    unquote_text(&text[..n], out)
 }

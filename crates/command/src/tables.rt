@@ -1,123 +1,141 @@
 // JSON8 backups: the written form, and the strings.
+use crate::outcomes::Outcome;
 use crate::outputs;
-use crate::outputs::Outcome;
+use crate::pages;
+use crate::pages::Form;
+use crate::pages::Page;
+use crate::texts;
 use json8::answers::Parsed;
 use json8_read::read;
 use json8_show::show;
 use json8_show::show::Shown;
 use json8_write::write;
-use messages::entries;
-use messages::messages::Message;
 use messages::messages::Spot;
 use messages::positions;
 use prelude::answers::Written;
-use prelude::limits::NODE_MAX;
 use prelude::limits::TEXT_MAX;
-
-const TABLE_ROOM: usize = 4 * NODE_MAX;
-
-// A text has at most twice its bytes in the written form.
-const WRITTEN_ROOM: usize = 2 * TEXT_MAX;
-
-// The longest entry: twenty digits, a tab, a string of TEXT_MAX bytes, six for each, its quotes and LF.
-const ENTRY_ROOM: usize = 6 * TEXT_MAX + 24;
-
-fn table_room() -> [u32; TABLE_ROOM] {
-    [0u32; TABLE_ROOM]
-}
-
-fn store_room() -> [u8; TEXT_MAX] {
-    [0u8; TEXT_MAX]
-}
-
-fn written_room() -> [u8; WRITTEN_ROOM] {
-    [0u8; WRITTEN_ROOM]
-}
-
-fn entry_room() -> [u8; ENTRY_ROOM] {
-    [0u8; ENTRY_ROOM]
-}
 
 fn refused(text: &[u8], number: u32, place: usize) -> Outcome {
     let p = positions::position_of(text, place);
-    outputs::say(Message::Refused(number, Spot::Text(p.line, p.column), place));
-    Outcome::Ended(number)
+    Outcome::Refused(number, Spot::Text(p.line, p.column), place)
 }
 
-fn written(out: &[u8], n: usize) -> Outcome {
-    let printed = outputs::print(out, n) && outputs::print(b"\n", 1);
-    if n > TEXT_MAX {
-        outputs::say(Message::Long(n));
+// Puts LF behind a text, unless that would be too long with it.
+fn put_end(n: usize, page: &mut [u8]) -> usize {
+    if n < TEXT_MAX {
+        return texts::put(b"\n", n, page);
     }
-    outputs::ended(printed, 0)
+    n
+}
+
+// Prints the written form in the first n bytes of the page.
+fn print_written(n: usize, terminal: bool, page: &mut [u8], shown: &mut [u8]) -> Outcome {
+    if n > TEXT_MAX {
+        return Outcome::Long(n);
+    }
+    let e = put_end(n, page);
+    let e = texts::within(e, page);
+    outputs::ended(outputs::print(&page[..e], terminal, shown))
+}
+
+fn print_table(
+    text: &[u8],
+    table: &[u32],
+    store: &[u8],
+    terminal: bool,
+    page: &mut [u8],
+    shown: &mut [u8],
+) -> Outcome {
+    let written = write::write(table, text, store, page);
+    match written {
+        Written::Wrote(n) => print_written(n, terminal, page, shown),
+        Written::Refused(number) => refused(text, number, 0),
+    }
 }
 
 // Prints a backup in its one written form.
-pub fn rewrite(text: &[u8]) -> Outcome {
-    let mut table = table_room();
-    let mut store = store_room();
-    let parsed = read::read(text, &mut table, &mut store);
+pub fn rewrite(
+    text: &[u8],
+    terminal: bool,
+    table: &mut [u32],
+    store: &mut [u8],
+    page: &mut [u8],
+    shown: &mut [u8],
+) -> Outcome {
+    let parsed = read::read(text, table, store);
     match parsed {
+        Parsed::Done(_, _) => print_table(text, table, store, terminal, page, shown),
         Parsed::Refused(number, place) => refused(text, number, place),
-        Parsed::Done(_, _) => {
-            let mut out = written_room();
-            let wrote = write::write(&table, text, &store, &mut out);
-            match wrote {
-                Written::Wrote(n) => written(&out, n),
-                Written::Refused(number) => refused(text, number, 0),
-            }
-        }
-    }
-}
-
-fn list_bytes(node: usize, bytes: &[u8], out: &mut [u8]) -> bool {
-    let entry = entries::write(node, bytes, out);
-    match entry {
-        Written::Wrote(n) => outputs::print(out, n),
-        Written::Refused(_) => false,
     }
 }
 
 // The part of a buffer that a node shows.
-fn list_part(node: usize, buf: &[u8], place: usize, size: usize, out: &mut [u8]) -> bool {
+fn list_part(
+    p: Page,
+    node: usize,
+    buf: &[u8],
+    place: usize,
+    size: usize,
+    page: &mut [u8],
+    shown: &mut [u8],
+) -> Page {
     if buf.len() < place {
-        return false;
+        return p;
     }
     if buf.len() - place < size {
-        return false;
+        return p;
     }
     let end = place + size;
-    list_bytes(node, &buf[place..end], out)
+    pages::add(p, Form::Entry, node, &buf[place..end], page, shown)
 }
 
-fn list_node(table: &[u32], text: &[u8], store: &[u8], node: usize, out: &mut [u8]) -> bool {
-    let shown = show::shown_at(table, text.len(), store.len(), node);
-    match shown {
-        Shown::InText(place, size) => list_part(node, text, place, size, out),
-        Shown::InStore(place, size) => list_part(node, store, place, size, out),
-        Shown::Nowhere => true,
+fn list_node(
+    p: Page,
+    text: &[u8],
+    table: &[u32],
+    store: &[u8],
+    node: usize,
+    page: &mut [u8],
+    shown: &mut [u8],
+) -> Page {
+    let what = show::shown_at(table, text.len(), store.len(), node);
+    match what {
+        Shown::InText(place, size) => list_part(p, node, text, place, size, page, shown),
+        Shown::InStore(place, size) => list_part(p, node, store, place, size, page, shown),
+        Shown::Nowhere => p,
     }
 }
 
-fn list_nodes(table: &[u32], text: &[u8], store: &[u8], nodes: usize) -> Outcome {
-    let mut out = entry_room();
+fn list_nodes(
+    nodes: usize,
+    text: &[u8],
+    terminal: bool,
+    table: &[u32],
+    store: &[u8],
+    page: &mut [u8],
+    shown: &mut [u8],
+) -> Outcome {
+    let mut p = pages::fresh(terminal);
     let mut node = 0;
     while node < nodes {
-        if !list_node(table, text, store, node, &mut out) {
-            return outputs::fail();
-        }
+        p = list_node(p, text, table, store, node, page, shown);
         node += 1;
     }
-    Outcome::Ended(0)
+    pages::outcome_of(pages::flush(p, page, shown))
 }
 
 // Prints each string of a backup with its node.
-pub fn list(text: &[u8]) -> Outcome {
-    let mut table = table_room();
-    let mut store = store_room();
-    let parsed = read::read(text, &mut table, &mut store);
+pub fn list(
+    text: &[u8],
+    terminal: bool,
+    table: &mut [u32],
+    store: &mut [u8],
+    page: &mut [u8],
+    shown: &mut [u8],
+) -> Outcome {
+    let parsed = read::read(text, table, store);
     match parsed {
-        Parsed::Done(nodes, _) => list_nodes(&table, text, &store, nodes),
+        Parsed::Done(nodes, _) => list_nodes(nodes, text, terminal, table, store, page, shown),
         Parsed::Refused(number, place) => refused(text, number, place),
     }
 }

@@ -1,224 +1,370 @@
-// J8 Lines backups, read in pieces as an upload. A call takes at most one line's end, so it leaves at most one record, whose line is known;
-// the output is handed on and emptied before the next call.
-ghost use Prim.Native.Nat.{_≤_, _<_};
-ghost use lib.ListN.{length};
+// J8 Lines, in pieces: a book that is read as an upload, or names that are made one. A part of a piece has at most one end of a line or name,
+// so it leaves at most one record or string; the output is handed on and emptied before the next part.
 use crate::inputs;
-use crate::outputs;
-use crate::outputs::Outcome;
-use messages::entries;
-use messages::messages::Message;
+use crate::marks;
+use crate::names;
+use crate::outcomes::Outcome;
+use crate::outcomes::Run;
+use crate::pages;
+use crate::pages::Form;
+use crate::pages::Page;
+use crate::texts;
 use messages::messages::Spot;
-use prelude::answers::Written;
-use prelude::limits::LINE_MAX;
 use prelude::limits::UPLOAD_MAX;
-use prelude::slices::least;
 use records::HEAD;
 use upload::uploads::Answer;
 use upload::uploads::Upload;
 
-// A record's head and the longest payload, that of a line.
-const RECORD_ROOM: usize = HEAD + LINE_MAX;
-
 // No backup gives more pieces: one byte at least is taken of each, or it is refused.
 const PIECES_MAX: usize = UPLOAD_MAX + 1;
 
-// The page: its bytes that wait to be printed, and whether all before them was printed.
-struct Page {
-    at: usize,
-    printed: bool,
+// What is done with each line: it is listed, its bytes are given with a byte behind them, or it is a name, ended by a byte, that is quoted.
+pub enum Job {
+    List,
+    Give(u8),
+    Quote(u8),
 }
 
-// An upload under way: its state, the page, whether the input goes on, and whether it could be read.
-struct Listing {
-    state: Upload,
-    page: Page,
-    open: bool,
-    read: bool,
+// A job under way: its upload and page; the first line that begins with a byte order mark, and the first that can't be given (0 for none);
+// whether the input goes on, and whether it can't be read, with what the system says.
+pub struct Listing {
+    pub state: Upload,
+    pub page: Page,
+    pub mark: usize,
+    pub mixed: usize,
+    pub open: bool,
+    pub failed: bool,
+    pub error: i32,
 }
 
-// Prints the page.
-fn flush(p: Page, page: &[u8]) -> Page {
-    let printed = outputs::print(page, p.at);
-    Page {
-        at: 0,
-        printed: printed && p.printed,
+fn fresh(terminal: bool) -> Listing {
+    Listing {
+        state: Upload::fresh(),
+        page: pages::fresh(terminal),
+        mark: 0,
+        mixed: 0,
+        open: true,
+        failed: false,
+        error: 0,
     }
 }
 
-// Puts an entry on the page behind the others: the place behind it, or the same place where it doesn't fit.
-fn put_entry(n: usize, payload: &[u8], at: usize, page: &mut [u8]) -> usize {
-    if page.len() < at {
-        return at;
-    }
-    let room = page.len() - at;
-    let entry = entries::write(n, payload, &mut page[at..]);
-    match entry {
-        Written::Wrote(k) => at + least(k, room),
-        Written::Refused(_) => at,
+fn form_of(job: Job) -> Form {
+    match job {
+        Job::List => Form::Entry,
+        Job::Give(end) => Form::Raw(end),
+        Job::Quote(_) => Form::Raw(b'\n'),
     }
 }
 
-// The same, on an empty page if this one is full.
-fn list_payload(p: Page, n: usize, payload: &[u8], page: &mut [u8]) -> Page {
-    let at = put_entry(n, payload, p.at, page);
-    if p.at < at {
-        return Page {
-            at,
-            printed: p.printed,
-        };
-    }
-    let p = flush(p, page);
-    Page {
-        at: put_entry(n, payload, 0, page),
-        printed: p.printed,
+// Whether a payload can be given with such an end behind it.
+fn is_mixed(job: Job, payload: &[u8]) -> bool {
+    match job {
+        Job::Give(end) => texts::find(payload, 0, end) < payload.len(),
+        _ => false,
     }
 }
 
-// The record in the first bytes of the output, if any, under its line.
-fn list_record(p: Page, n: usize, used: usize, out: &[u8], page: &mut [u8]) -> Page {
+// A text put on the page under its line.
+pub fn put_on(
+    l: Listing,
+    job: Job,
+    n: usize,
+    s: &[u8],
+    page: &mut [u8],
+    shown: &mut [u8],
+) -> Listing {
+    let mut l = l;
+    if is_mixed(job, s) {
+        l.mixed = n;
+        l.open = false;
+        return l;
+    }
+    let p = l.page;
+    let p = pages::add(p, form_of(job), n, s, page, shown);
+    l.open = l.open && !p.failed;
+    l.page = p;
+    l
+}
+
+// The record that a call left in the output, if any, put on the page.
+fn hand_on(
+    l: Listing,
+    job: Job,
+    n: usize,
+    line: &[u8],
+    out: &[u8],
+    page: &mut [u8],
+    shown: &mut [u8],
+) -> Listing {
+    let mut l = l;
+    let mut state = l.state;
+    let used = state.used;
     if used < HEAD {
-        return p;
+        return l;
     }
     if out.len() < used {
-        return p;
+        return l;
     }
-    list_payload(p, n, &out[HEAD..used], page)
+    state.used = 0;
+    l.state = state;
+    if l.mark == 0 {
+        l.mark = marks::line_of(line, n);
+    }
+    put_on(l, job, n, &out[HEAD..used], page, shown)
 }
 
-// Feeds a part of a piece with at most one line's end, its last byte; then the output is empty again.
-fn feed_part(l: Listing, part: &[u8], line: &mut [u8], out: &mut [u8], page: &mut [u8]) -> Listing {
+// A part of a book, with at most one LF, its last byte.
+fn feed_part(
+    l: Listing,
+    job: Job,
+    part: &[u8],
+    line: &mut [u8],
+    out: &mut [u8],
+    page: &mut [u8],
+    shown: &mut [u8],
+) -> Listing {
+    let mut l = l;
     let before = l.state;
     let fed = before.feed(part, line, out);
-    let mut state = fed.state;
-    let p = list_record(l.page, state.lfs, state.used, out, page);
-    state.used = 0;
-    Listing {
-        state,
-        page: p,
-        open: l.open,
-        read: l.read,
-    }
+    let state = fed.state;
+    l.open = l.open && state.refusal == 0;
+    let n = state.lfs;
+    l.state = state;
+    hand_on(l, job, n, line, out, page, shown)
 }
 
-// The place behind the next line's end, or the piece's end.
-fn part_end(piece: &[u8], from: usize) -> usize
-    requires { ⌜ from < length (now piece) ⌝ }
-    ensures { λ r. ⌜ (from < r) × (r ≤ length (now (piece .entry))) ⌝ }
-{
-    let mut i = from;
-    while i < piece.len() {
-        if piece[i] == b'\n' {
-            return i + 1;
-        }
-        i += 1;
-    }
-    i
-}
-
-fn feed_piece(
+fn take_part(
     l: Listing,
+    job: Job,
+    part: &[u8],
+    line: &mut [u8],
+    out: &mut [u8],
+    page: &mut [u8],
+    shown: &mut [u8],
+) -> Listing {
+    match job {
+        Job::Quote(end) => names::take(l, job, end, part, line, out, page, shown),
+        _ => feed_part(l, job, part, line, out, page, shown),
+    }
+}
+
+// The byte that ends a line or name.
+fn end_of(job: Job) -> u8 {
+    match job {
+        Job::Quote(end) => end,
+        _ => b'\n',
+    }
+}
+
+fn take_piece(
+    l: Listing,
+    job: Job,
     piece: &[u8],
     line: &mut [u8],
     out: &mut [u8],
     page: &mut [u8],
+    shown: &mut [u8],
 ) -> Listing {
     let mut l = l;
+    let end = end_of(job);
     let mut from = 0;
     while from < piece.len() {
-        let end = part_end(piece, from);
-        l = feed_part(l, &piece[from..end], line, out, page);
-        from = end;
+        if !l.open {
+            return l;
+        }
+        let to = texts::behind_next(piece, from, end);
+        l = take_part(l, job, &piece[from..to], line, out, page, shown);
+        from = to;
     }
     l
 }
 
-// The same upload, where nothing more is read.
-fn closed(l: Listing, read: bool) -> Listing {
-    let state = l.state;
-    let p = l.page;
-    Listing {
-        state,
-        page: p,
-        open: false,
-        read,
-    }
+fn unread(l: Listing) -> Listing {
+    let mut l = l;
+    l.open = false;
+    l.failed = true;
+    l.error = os::errno();
+    l
 }
 
-// Reads a piece of at most so many bytes, and feeds it.
+// Reads a piece of at most so many bytes, and takes it.
 fn read_piece(
     fd: i32,
     size: usize,
     l: Listing,
+    job: Job,
+    piece: &mut [u8],
     line: &mut [u8],
     out: &mut [u8],
     page: &mut [u8],
+    shown: &mut [u8],
 ) -> Listing {
-    if l.state.refusal != 0 {
-        return closed(l, true);
-    }
-    let mut buf = io::buffer();
-    let got = inputs::read_some(fd, size, &mut buf);
+    let got = inputs::read_some(fd, size, piece);
     if got < 0 {
-        return closed(l, false);
+        return unread(l);
     }
-    let n = io::count(got, &buf);
+    let n = io::count(got, piece);
     if n == 0 {
-        return closed(l, true);
+        let mut l = l;
+        l.open = false;
+        return l;
     }
-    feed_piece(l, &buf[..n], line, out, page)
+    take_piece(l, job, &piece[..n], line, out, page, shown)
 }
 
-// All pieces up to the input's end or the first refusal.
-fn feed_all(fd: i32, size: usize, line: &mut [u8], out: &mut [u8], page: &mut [u8]) -> Listing {
-    let mut l = Listing {
-        state: Upload::fresh(),
-        page: Page {
-            at: 0,
-            printed: true,
-        },
-        open: true,
-        read: true,
-    };
+// All pieces up to the input's end or what stops the job.
+fn take_all(
+    fd: i32,
+    size: usize,
+    l: Listing,
+    job: Job,
+    piece: &mut [u8],
+    line: &mut [u8],
+    out: &mut [u8],
+    page: &mut [u8],
+    shown: &mut [u8],
+) -> Listing {
+    let mut l = l;
     let mut left = PIECES_MAX;
     while left > 0 {
         if !l.open {
             return l;
         }
-        l = read_piece(fd, size, l, line, out, page);
+        l = read_piece(fd, size, l, job, piece, line, out, page, shown);
         left -= 1;
     }
     l
 }
 
-fn answered(a: Answer, printed: bool) -> Outcome {
-    if a.number != 0 {
-        outputs::say(Message::Refused(a.number, Spot::Line(a.line), a.place));
-    }
-    outputs::ended(printed, a.number)
-}
-
-// Ends the upload: the last line's record, and the answer.
-fn finish(l: Listing, line: &mut [u8], out: &mut [u8], page: &mut [u8]) -> Outcome {
-    if !l.read {
-        inputs::fail();
-        return Outcome::Failed;
-    }
-    inputs::note_empty(l.state.taken);
+// The end of a book, whose last line may have no LF; the state then keeps every answer.
+fn finish_book(
+    l: Listing,
+    job: Job,
+    line: &[u8],
+    out: &mut [u8],
+    page: &mut [u8],
+    shown: &mut [u8],
+) -> Listing {
+    let mut l = l;
     let before = l.state;
     let fed = before.finish(line, out);
+    let answer = fed.answer;
+    let mut state = fed.state;
+    state.refusal = answer.number;
+    state.line = answer.line;
+    state.place = answer.place;
     // No more than 1,048,576 LFs are counted, so nothing wraps.
-    let n = std::num::wrapping_add_usize(fed.state.lfs, 1);
-    let p = list_record(l.page, n, fed.state.used, out, page);
-    let p = flush(p, page);
-    let a = fed.answer;
-    answered(a, p.printed)
+    let n = std::num::wrapping_add_usize(state.lfs, 1);
+    l.state = state;
+    hand_on(l, job, n, line, out, page, shown)
 }
 
-// Prints each record of a backup with its line.
-pub fn list(fd: i32, size: usize) -> Outcome {
-    let mut line = [0u8; LINE_MAX];
-    let mut out = [0u8; RECORD_ROOM];
-    let mut page = io::large_buffer();
-    let l = feed_all(fd, size, &mut line, &mut out, &mut page);
-    finish(l, &mut line, &mut out, &mut page)
+// Whether something else than the input's end or a refusal stopped the job.
+fn is_cut(l: Listing) -> bool {
+    if l.failed {
+        return true;
+    }
+    if l.mixed != 0 {
+        return true;
+    }
+    let p = l.page;
+    p.failed
+}
+
+// The end of the input, unless something else stopped the job.
+fn finish(
+    l: Listing,
+    job: Job,
+    line: &mut [u8],
+    out: &mut [u8],
+    page: &mut [u8],
+    shown: &mut [u8],
+) -> Listing {
+    if is_cut(l) {
+        return l;
+    }
+    match job {
+        Job::Quote(_) => names::finish(l, job, line, out, page, shown),
+        _ => finish_book(l, job, line, out, page, shown),
+    }
+}
+
+fn outcome_of(l: Listing) -> Outcome {
+    if l.failed {
+        return Outcome::Unread(l.error);
+    }
+    let p = l.page;
+    if p.failed {
+        return Outcome::Unwritten(p.error);
+    }
+    if l.mixed != 0 {
+        return Outcome::Mixed(l.mixed);
+    }
+    let state = l.state;
+    if state.refusal != 0 {
+        return Outcome::Refused(state.refusal, Spot::Line(state.line), state.place);
+    }
+    Outcome::Done
+}
+
+// The first line that begins with a mark: one that was put on the page, or the one that is refused.
+fn mark_of(l: Listing, line: &[u8]) -> usize {
+    let state = l.state;
+    if l.mark != 0 {
+        return l.mark;
+    }
+    if state.refusal == 0 {
+        return 0;
+    }
+    let held = texts::within(state.held, line);
+    marks::line_of(&line[..held], state.line)
+}
+
+fn run_of(l: Listing, line: &[u8]) -> Run {
+    let state = l.state;
+    Run {
+        outcome: outcome_of(l),
+        size: 0,
+        mark: mark_of(l, line),
+        empty: state.taken == 0 && !l.failed,
+    }
+}
+
+// Prints what is left on the page.
+fn flushed(l: Listing, page: &[u8], shown: &mut [u8]) -> Listing {
+    let mut l = l;
+    let p = l.page;
+    l.page = pages::flush(p, page, shown);
+    l
+}
+
+fn close(
+    l: Listing,
+    job: Job,
+    line: &mut [u8],
+    out: &mut [u8],
+    page: &mut [u8],
+    shown: &mut [u8],
+) -> Run {
+    let l = finish(l, job, line, out, page, shown);
+    let l = flushed(l, page, shown);
+    run_of(l, line)
+}
+
+// Does the job, on pieces of at most so many bytes.
+pub fn run(
+    fd: i32,
+    size: usize,
+    terminal: bool,
+    job: Job,
+    piece: &mut [u8],
+    line: &mut [u8],
+    out: &mut [u8],
+    page: &mut [u8],
+    shown: &mut [u8],
+) -> Run {
+    let l = fresh(terminal);
+    let l = take_all(fd, size, l, job, piece, line, out, page, shown);
+    close(l, job, line, out, page, shown)
 }

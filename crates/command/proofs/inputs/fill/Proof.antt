@@ -4,8 +4,8 @@ use Rattle.command.proofs.inputs.fill.Statement.{statement}
 use Rattle.command.proofs.inputs.fill.Tie as tie
 use borrow.Author.Needs.{needs}
 use Prim.Native.Nat.{_-_, _≤_}
-use mathlib.Core.Path.{_≡_}
 use lib.ListN.{length}
+use mathlib.Core.Path.{_≡_}
 
 abbrev Inv-loop : tie.InvT-loop
 Inv-loop fd buf₀ n₀ buf n =
@@ -21,8 +21,8 @@ loop-holds c = search needs
 read-from-requires : tie.Need-read-from-requires Inv-loop μ-loop
 read-from-requires c κs = search needs
 
-fail-requires : tie.Need-fail-requires Inv-loop μ-loop
-fail-requires c κs = search needs
+errno-requires : tie.Need-errno-requires Inv-loop μ-loop
+errno-requires c κs = search needs
 
 same-length : tie.Need-same-length Inv-loop μ-loop
 same-length c = search needs
@@ -71,7 +71,7 @@ fill-spec =
     μ-loop
     loop-holds
     read-from-requires
-    fail-requires
+    errno-requires
     same-length
     returns
     sub-count

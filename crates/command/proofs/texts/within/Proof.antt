@@ -1,8 +1,8 @@
 -- The lesser of both lies in the buffer.
 -- Assumes nothing.
 use borrow.Author.Needs.{needs}
-use Rattle.command.proofs.outputs.within.Statement.{statement}
-use Rattle.command.proofs.outputs.within.Tie as tie
+use Rattle.command.proofs.texts.within.Statement.{statement}
+use Rattle.command.proofs.texts.within.Tie as tie
 use mathlib.Core.Path.{sym}
 use lib.Seq.{length-take-le}
 

@@ -1,0 +1,232 @@
+// The command `j8`: prints what a backup holds, or says why it is refused, and answers a status.
+ghost use Prim.Native.Nat.{_≤_};
+
+mod arguments;
+mod help;
+mod inputs;
+mod marks;
+mod names;
+mod outcomes;
+mod outputs;
+mod pages;
+mod quoting;
+mod reports;
+mod tables;
+mod texts;
+mod uploads;
+
+use arguments::Command;
+use arguments::Options;
+use inputs::Filled;
+use inputs::Opened;
+use outcomes::Outcome;
+use outcomes::Run;
+use uploads::Job;
+
+// A command on its whole input.
+fn run_text(
+    command: Command,
+    o: Options,
+    text: &[u8],
+    terminal: bool,
+    table: &mut [u32],
+    store: &mut [u8],
+    page: &mut [u8],
+    shown: &mut [u8],
+) -> Outcome {
+    match command {
+        Command::Quote => {
+            let mut n = text.len();
+            if o.flags & arguments::LINE != 0 {
+                n = quoting::without_lf(text);
+            }
+            let n = texts::within(n, text);
+            quoting::quote(&text[..n], terminal, page, shown)
+        }
+        Command::Unquote => quoting::unquote(text, store),
+        Command::Json8 => tables::rewrite(text, terminal, table, store, page, shown),
+        _ => tables::list(text, terminal, table, store, page, shown),
+    }
+}
+
+// The line that begins with a mark in a text that is refused.
+fn mark_of(outcome: Outcome, text: &[u8]) -> usize {
+    match outcome {
+        Outcome::Refused(_, _, _) => marks::line_of(text, 1),
+        _ => 0,
+    }
+}
+
+// A command that reads its input whole.
+fn run_whole(
+    command: Command,
+    o: Options,
+    fd: i32,
+    terminal: bool,
+    text: &mut [u8],
+    table: &mut [u32],
+    store: &mut [u8],
+    page: &mut [u8],
+    shown: &mut [u8],
+) -> Run {
+    let filled = inputs::fill(fd, text);
+    match filled {
+        Filled::With(n) => {
+            let size = texts::within(n, text);
+            let outcome = run_text(
+                command,
+                o,
+                &text[..size],
+                terminal,
+                table,
+                store,
+                page,
+                shown,
+            );
+            Run {
+                outcome,
+                size,
+                mark: mark_of(outcome, &text[..size]),
+                empty: size == 0,
+            }
+        }
+        Filled::Failed(error) => outcomes::ended(Outcome::Unread(error)),
+    }
+}
+
+// The byte that ends a name.
+fn end_of(o: Options) -> u8 {
+    if o.flags & arguments::NUL != 0 {
+        return 0;
+    }
+    b'\n'
+}
+
+enum Way {
+    Whole,
+    Pieces(Job),
+}
+
+fn way_of(command: Command, o: Options) -> Way {
+    match command {
+        Command::Lines => Way::Pieces(Job::List),
+        Command::Quote => {
+            if o.flags & (arguments::LINES | arguments::NUL) == 0 {
+                return Way::Whole;
+            }
+            Way::Pieces(Job::Quote(end_of(o)))
+        }
+        Command::Unquote => {
+            if o.flags & (arguments::LINES | arguments::NUL) == 0 {
+                return Way::Whole;
+            }
+            Way::Pieces(Job::Give(end_of(o)))
+        }
+        _ => Way::Whole,
+    }
+}
+
+// A command on an input that is open.
+fn run_input(
+    command: Command,
+    o: Options,
+    fd: i32,
+    terminal: bool,
+    text: &mut [u8],
+    table: &mut [u32],
+    store: &mut [u8],
+    out: &mut [u8],
+    page: &mut [u8],
+    shown: &mut [u8],
+) -> Run {
+    let way = way_of(command, o);
+    match way {
+        Way::Whole => run_whole(command, o, fd, terminal, text, table, store, page, shown),
+        Way::Pieces(job) => uploads::run(fd, o.size, terminal, job, text, store, out, page, shown),
+    }
+}
+
+fn run_file(
+    command: Command,
+    o: Options,
+    terminal: bool,
+    text: &mut [u8],
+    table: &mut [u32],
+    store: &mut [u8],
+    out: &mut [u8],
+    page: &mut [u8],
+    shown: &mut [u8],
+) -> Run {
+    if o.flags & arguments::HELP != 0 {
+        return outcomes::ended(help::print(command));
+    }
+    if o.fault != 0 {
+        return outcomes::ended(Outcome::Misused(o.fault, o.wrong));
+    }
+    let opened = inputs::open(o.file, text);
+    match opened {
+        Opened::At(fd) => run_input(
+            command,
+            o,
+            fd,
+            terminal,
+            text,
+            table,
+            store,
+            out,
+            page,
+            shown,
+        ),
+        Opened::Misused(fault) => outcomes::ended(Outcome::Misused(fault, 0)),
+        Opened::Failed(error) => outcomes::ended(Outcome::Unread(error)),
+    }
+}
+
+// The help, for all commands or the one that is named.
+fn run_help() -> Outcome {
+    let command = arguments::command_at(2);
+    match command {
+        Command::Unknown => Outcome::Misused(arguments::NO_COMMAND, 2),
+        _ => help::print(command),
+    }
+}
+
+fn run(
+    command: Command,
+    o: Options,
+    terminal: bool,
+    text: &mut [u8],
+    table: &mut [u32],
+    store: &mut [u8],
+    out: &mut [u8],
+    page: &mut [u8],
+    shown: &mut [u8],
+) -> Run {
+    match command {
+        Command::Help => outcomes::ended(run_help()),
+        Command::Version => outcomes::ended(help::version()),
+        Command::Missing => outcomes::ended(help::missing()),
+        Command::Unknown => outcomes::ended(Outcome::Misused(arguments::NO_COMMAND, 1)),
+        _ => run_file(command, o, terminal, text, table, store, out, page, shown),
+    }
+}
+
+// The command, with the words that the program was called with: the status, 0 to 3. It is told whether standard output is a terminal, and is
+// lent its large buffers, so that it takes little of the stack.
+#[no_mangle]
+pub extern "C" fn j8_run(
+    terminal: bool,
+    text: &mut [u8],
+    table: &mut [u32],
+    store: &mut [u8],
+    out: &mut [u8],
+    page: &mut [u8],
+    shown: &mut [u8],
+) -> u32
+    ensures { λ r. ⌜ r ≤ 3 ⌝ }
+{
+    let command = arguments::command_at(1);
+    let o = arguments::options_from(2, arguments::options_of(command));
+    let ended = run(command, o, terminal, text, table, store, out, page, shown);
+    reports::report(ended, o, store, page, shown)
+}

@@ -1,0 +1,242 @@
+// What a run says on standard error.
+ghost use Prim.Native.Nat.{_≤_};
+use crate::arguments;
+use crate::arguments::Options;
+use crate::outcomes;
+use crate::outcomes::Outcome;
+use crate::outcomes::Run;
+use crate::outputs;
+use crate::texts;
+use check::same;
+use messages::messages::Head;
+use prelude::refusals;
+
+// An argument, quoted.
+fn put_argument(i: usize, at: usize, store: &mut [u8], said: &mut [u8]) -> usize {
+    let n = os::arg(i, store);
+    if os::errno() != 0 {
+        return at;
+    }
+    texts::put_quoted(&store[..n], at, said)
+}
+
+// What can be wrong with the words, in the order of the numbers in `arguments`.
+fn put_fault(fault: usize, said: &mut [u8]) -> usize {
+    texts::put_line(
+        b"\
+see 'j8 help'
+there is no such command
+there is no such option here
+one file at most
+the file's name is empty
+a file's name may have 4,095 bytes
+--pieces takes a number from 1 to 4096
+--line goes with neither --lines nor -0
+",
+        fault,
+        0,
+        said,
+    )
+}
+
+// The argument that it is about, if any.
+fn put_wrong(i: usize, at: usize, store: &mut [u8], said: &mut [u8]) -> usize {
+    if i == 0 {
+        return at;
+    }
+    let e = texts::put(b": ", at, said);
+    put_argument(i, e, store, said)
+}
+
+fn put_misuse(fault: usize, i: usize, store: &mut [u8], said: &mut [u8]) -> usize {
+    let a = put_fault(fault, said);
+    let b = put_wrong(i, a, store, said);
+    texts::put(b" (see 'j8 help')", b, said)
+}
+
+// The line of an error of reading or writing in `put_reason`, or 0 for any other.
+fn moving_reason(error: i32) -> usize {
+    if error == libc::ENOSPC {
+        return 9;
+    }
+    if error == libc::EPIPE {
+        return 10;
+    }
+    if error == libc::EIO {
+        return 11;
+    }
+    if error == libc::EBADF {
+        return 12;
+    }
+    if error == libc::EFBIG {
+        return 13;
+    }
+    if error == libc::EINVAL {
+        return 14;
+    }
+    if error == libc::EINTR {
+        return 15;
+    }
+    if error == libc::EAGAIN {
+        return 16;
+    }
+    if error == libc::ENOMEM {
+        return 17;
+    }
+    0
+}
+
+// The same of an error of opening or of any other.
+fn reason_of(error: i32) -> usize {
+    if error == libc::ENOENT {
+        return 1;
+    }
+    if error == libc::EACCES {
+        return 2;
+    }
+    if error == libc::EISDIR {
+        return 3;
+    }
+    if error == libc::ENOTDIR {
+        return 4;
+    }
+    if error == libc::EPERM {
+        return 5;
+    }
+    if error == libc::EMFILE {
+        return 6;
+    }
+    if error == libc::ELOOP {
+        return 7;
+    }
+    if error == libc::ENAMETOOLONG {
+        return 8;
+    }
+    moving_reason(error)
+}
+
+// What the system says of an error, in its own words.
+fn put_reason(error: i32, at: usize, said: &mut [u8]) -> usize {
+    texts::put_line(
+        b"\
+the system doesn't let it
+No such file or directory
+Permission denied
+Is a directory
+Not a directory
+Operation not permitted
+Too many open files
+Too many levels of symbolic links
+File name too long
+No space left on device
+Broken pipe
+Input/output error
+Bad file descriptor
+File too large
+Invalid argument
+Interrupted system call
+Resource temporarily unavailable
+Cannot allocate memory
+",
+        reason_of(error),
+        at,
+        said,
+    )
+}
+
+// The input: the file's name, quoted.
+fn put_input(file: usize, store: &mut [u8], said: &mut [u8]) -> usize {
+    let n = os::arg(file, store);
+    if os::errno() != 0 {
+        return texts::put(b"standard input", 0, said);
+    }
+    if same(&store[..n], b"-") {
+        return texts::put(b"standard input", 0, said);
+    }
+    texts::put_quoted(&store[..n], 0, said)
+}
+
+fn put_unread(file: usize, error: i32, store: &mut [u8], said: &mut [u8]) -> usize {
+    let a = put_input(file, store, said);
+    let b = texts::put(b" can't be read: ", a, said);
+    put_reason(error, b, said)
+}
+
+fn put_unwritten(error: i32, said: &mut [u8]) -> usize {
+    let a = texts::put(b"standard output can't be written: ", 0, said);
+    put_reason(error, a, said)
+}
+
+fn put_long(n: usize, said: &mut [u8]) -> usize {
+    let a = texts::put(b"too long to restore: the written form has ", 0, said);
+    let b = texts::put_number(n, a, said);
+    texts::put(b" bytes, and a JSON8 text may have 32,768", b, said)
+}
+
+fn put_mixed(line: usize, said: &mut [u8]) -> usize {
+    let a = texts::put(b"line ", 0, said);
+    let b = texts::put_number(line, a, said);
+    texts::put(b": the name holds the byte that would end it", b, said)
+}
+
+fn put_outcome(outcome: Outcome, o: Options, store: &mut [u8], said: &mut [u8]) -> usize {
+    match outcome {
+        Outcome::Done => 0,
+        Outcome::Refused(number, _, _) => texts::put_sentence(number, 0, said),
+        Outcome::Long(n) => put_long(n, said),
+        Outcome::Mixed(line) => put_mixed(line, said),
+        Outcome::Misused(fault, i) => put_misuse(fault, i, store, said),
+        Outcome::Unread(error) => put_unread(o.file, error, store, said),
+        Outcome::Unwritten(error) => put_unwritten(error, said),
+    }
+}
+
+fn head_of(outcome: Outcome) -> Head {
+    match outcome {
+        Outcome::Refused(number, spot, place) => Head::Refused(number, spot, place),
+        _ => Head::Note,
+    }
+}
+
+// The first n bytes of what was put together, as a line.
+fn say(head: Head, n: usize, o: Options, said: &[u8], line: &mut [u8]) {
+    if n == 0 {
+        return;
+    }
+    let n = texts::within(n, said);
+    outputs::say(head, &said[..n], o.flags & arguments::JSON != 0, line)
+}
+
+fn put_empty(empty: bool, said: &mut [u8]) -> usize {
+    if empty {
+        return texts::put(b"the input is empty", 0, said);
+    }
+    0
+}
+
+fn put_mark(line: usize, said: &mut [u8]) -> usize {
+    if line == 0 {
+        return 0;
+    }
+    let a = texts::put(b"line ", 0, said);
+    let b = texts::put_number(line, a, said);
+    texts::put(
+        b" begins with a byte order mark (U+FEFF), which counts as a character of it",
+        b,
+        said,
+    )
+}
+
+// Says what there is to say, and answers the status.
+pub fn report(run: Run, o: Options, store: &mut [u8], said: &mut [u8], line: &mut [u8]) -> u32
+    ensures { λ r. ⌜ r ≤ 3 ⌝ }
+{
+    let outcome = run.outcome;
+    let n = put_empty(run.empty, said);
+    say(Head::Note, n, o, said, line);
+    let n = put_outcome(outcome, o, store, said);
+    say(head_of(outcome), n, o, said, line);
+    let n = put_mark(run.mark, said);
+    say(Head::Note, n, o, said, line);
+    outcomes::status_of(outcome)
+}
