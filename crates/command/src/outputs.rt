@@ -4,6 +4,7 @@ use crate::texts;
 use libc::STDERR_FILENO;
 use libc::STDOUT_FILENO;
 use messages::messages::Head;
+use messages::shows;
 use prelude::answers::Written;
 
 // Bytes as they are.
@@ -11,9 +12,19 @@ pub fn print_raw(bytes: &[u8]) -> bool {
     io::write_all(STDOUT_FILENO, bytes)
 }
 
-// A J8 text.
+// A J8 text, with what would drive a terminal escaped where one shows it.
 pub fn print(bytes: &[u8], terminal: bool, shown: &mut [u8]) -> bool {
-    print_raw(bytes)
+    if !terminal {
+        return print_raw(bytes);
+    }
+    let written = shows::write(bytes, shown);
+    match written {
+        Written::Wrote(n) => {
+            let k = texts::within(n, shown);
+            print_raw(&shown[..k])
+        }
+        Written::Refused(_) => false,
+    }
 }
 
 pub fn ended(printed: bool) -> Outcome {

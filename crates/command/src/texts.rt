@@ -2,6 +2,7 @@
 ghost use Prim.Native.Nat.{_≤_, _<_};
 ghost use lib.ListN.{length};
 ghost use Rattle.io.specs.Counts.{Counts};
+use messages::shows;
 use prelude::answers::Written;
 use prelude::slices;
 use strings_write::write;
@@ -47,13 +48,23 @@ pub fn put_sentence(number: u32, at: usize, out: &mut [u8]) -> usize {
     behind(written, at, out)
 }
 
-// Bytes as a J8 string.
-pub fn put_quoted(s: &[u8], at: usize, out: &mut [u8]) -> usize {
+// A J8 text as a terminal is shown it, in the first n bytes of another buffer.
+fn put_shown(n: usize, text: &[u8], at: usize, out: &mut [u8]) -> usize {
     if out.len() < at {
         return at;
     }
-    let written = write::write(s, &mut out[at..]);
+    let n = within(n, text);
+    let written = shows::write(&text[..n], &mut out[at..]);
     behind(written, at, out)
+}
+
+// Bytes as a J8 string that can't drive a terminal; the string is first put in another buffer.
+pub fn put_quoted(s: &[u8], at: usize, line: &mut [u8], out: &mut [u8]) -> usize {
+    let written = write::write(s, line);
+    match written {
+        Written::Wrote(n) => put_shown(n, line, at, out),
+        Written::Refused(_) => at,
+    }
 }
 
 pub fn put_number(n: usize, at: usize, out: &mut [u8]) -> usize {
