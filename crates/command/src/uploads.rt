@@ -66,7 +66,7 @@ fn is_mixed(job: Job, payload: &[u8]) -> bool {
 }
 
 // A text put on the page under its line.
-pub fn put_on(
+pub(crate) fn put_on(
     l: Listing,
     job: Job,
     n: usize,
@@ -353,7 +353,7 @@ fn close(
 }
 
 // Does the job, on pieces of at most so many bytes.
-pub fn run(
+pub(crate) fn run(
     fd: i32,
     size: usize,
     terminal: bool,
