@@ -1,4 +1,5 @@
 /* The command j8: what crates/command proves, with its buffers as static arrays, so that it runs in little stack, and with a status. */
+#define _POSIX_C_SOURCE 200809L
 #include <stdbool.h>
 #include <stddef.h>
 #include <stdint.h>

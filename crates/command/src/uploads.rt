@@ -49,6 +49,14 @@ fn fresh(terminal: bool) -> Listing {
     }
 }
 
+// Whether a terminal is shown J8 text: bytes that are given go to it as they are.
+fn is_shown(job: Job, terminal: bool) -> bool {
+    match job {
+        Job::Give(_) => false,
+        _ => terminal,
+    }
+}
+
 fn form_of(job: Job) -> Form {
     match job {
         Job::List => Form::Entry,
@@ -364,7 +372,7 @@ pub(crate) fn run(
     page: &mut [u8],
     shown: &mut [u8],
 ) -> Run {
-    let l = fresh(terminal);
+    let l = fresh(is_shown(job, terminal));
     let l = take_all(fd, size, l, job, piece, line, out, page, shown);
     close(l, job, line, out, page, shown)
 }
