@@ -94,16 +94,16 @@ fn print_to(fd: i32, command: Command) -> bool {
 }
 
 // The help of a command, or all of it.
-pub fn print(command: Command) -> Outcome {
+pub(crate) fn print(command: Command) -> Outcome {
     outputs::ended(print_to(STDOUT_FILENO, command))
 }
 
 // No word at all: the help, where it doesn't mix with an output.
-pub fn missing() -> Outcome {
+pub(crate) fn missing() -> Outcome {
     whole(STDERR_FILENO);
     Outcome::Misused(0, 0)
 }
 
-pub fn version() -> Outcome {
+pub(crate) fn version() -> Outcome {
     outputs::ended(outputs::print_raw(b"j8 0.1.0\n"))
 }

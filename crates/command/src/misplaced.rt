@@ -112,8 +112,15 @@ fn put_there(text: &[u8], place: usize, at: usize, line: &mut [u8], said: &mut [
     texts::put_quoted(&rest[..n], at, line, said)
 }
 
-// The sentence, behind that of the number. The text's bytes from the place on are lost.
-pub fn put(
+// The sentence of the number, and what stands there.
+fn put_wrong(text: &[u8], place: usize, line: &mut [u8], said: &mut [u8]) -> usize {
+    let a = texts::put_sentence(refusals::MISPLACED, 0, said);
+    let b = texts::put(b": ", a, said);
+    put_there(text, place, b, line, said)
+}
+
+// The sentence, with what could stand at the place of a text of that size. The byte there is lost.
+pub(crate) fn put(
     place: usize,
     size: usize,
     text: &mut [u8],
@@ -123,10 +130,8 @@ pub fn put(
     line: &mut [u8],
 ) -> usize {
     let n = texts::within(size, text);
-    let a = texts::put_sentence(refusals::MISPLACED, 0, said);
-    let b = texts::put(b": ", a, said);
-    let c = put_there(&text[..n], place, b, line, said);
-    let d = texts::put(b" stands where ", c, said);
-    let e = put_choices(place, d, text, table, store, said);
-    texts::put(b" could", e, said)
+    let a = put_wrong(&text[..n], place, line, said);
+    let b = texts::put(b" stands where ", a, said);
+    let c = put_choices(place, b, text, table, store, said);
+    texts::put(b" could", c, said)
 }

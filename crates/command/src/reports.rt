@@ -282,28 +282,45 @@ fn say(head: Head, n: usize, o: Options, said: &[u8], line: &mut [u8]) {
     outputs::say(head, &said[..n], o.flags & arguments::JSON != 0, line)
 }
 
-fn put_empty(empty: bool, said: &mut [u8]) -> usize {
-    if empty {
-        return texts::put(b"the input is empty", 0, said);
+fn say_empty(empty: bool, o: Options, said: &mut [u8], line: &mut [u8]) {
+    if !empty {
+        return;
     }
-    0
+    let n = texts::put(b"the input is empty", 0, said);
+    say(Head::Note, n, o, said, line)
 }
 
-fn put_mark(line: usize, said: &mut [u8]) -> usize {
-    if line == 0 {
-        return 0;
+fn say_mark(mark: usize, o: Options, said: &mut [u8], line: &mut [u8]) {
+    if mark == 0 {
+        return;
     }
     let a = texts::put(b"line ", 0, said);
-    let b = texts::put_number(line, a, said);
-    texts::put(
+    let b = texts::put_number(mark, a, said);
+    let c = texts::put(
         b" begins with a byte order mark (U+FEFF), which counts as a character of it",
         b,
         said,
-    )
+    );
+    say(Head::Note, c, o, said, line)
+}
+
+fn say_outcome(
+    run: Run,
+    command: Command,
+    o: Options,
+    text: &mut [u8],
+    table: &mut [u32],
+    store: &mut [u8],
+    said: &mut [u8],
+    line: &mut [u8],
+) {
+    let n = put_outcome(run, command, o, text, table, store, said, line);
+    let outcome = run.outcome;
+    say(head_of(outcome), n, o, said, line)
 }
 
 // Says what there is to say, and answers the status.
-pub fn report(
+pub(crate) fn report(
     run: Run,
     command: Command,
     o: Options,
@@ -315,12 +332,9 @@ pub fn report(
 ) -> u32
     ensures { λ r. ⌜ r ≤ 3 ⌝ }
 {
+    say_empty(run.empty, o, said, line);
+    say_outcome(run, command, o, text, table, store, said, line);
+    say_mark(run.mark, o, said, line);
     let outcome = run.outcome;
-    let n = put_empty(run.empty, said);
-    say(Head::Note, n, o, said, line);
-    let n = put_outcome(run, command, o, text, table, store, said, line);
-    say(head_of(outcome), n, o, said, line);
-    let n = put_mark(run.mark, said);
-    say(Head::Note, n, o, said, line);
     outcomes::status_of(outcome)
 }
