@@ -1,4 +1,5 @@
 /* The command j8: what crates/command proves, with its buffers as static arrays, so that it runs in little stack, and with a status. */
+#define _POSIX_C_SOURCE 200809L
 #include <stdbool.h>
 #include <stddef.h>
 #include <stdint.h>
@@ -18,9 +19,9 @@ static uint8_t store[32768];
 static uint8_t record[4 + 1024];
 
 /* What is printed: a text has at most twice its bytes in the written form, and a number, a tab and LF stand around a string. On a terminal a byte
- * takes six at most. */
+ * takes eight at most. */
 static uint8_t page[2 * 32768 + 24];
-static uint8_t shown[6 * sizeof page];
+static uint8_t shown[8 * sizeof page];
 
 int main(void) {
     return (int)j8_run(isatty(1) == 1, text, sizeof text, table, sizeof table / sizeof *table, store, sizeof store, record, sizeof record, page,

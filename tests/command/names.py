@@ -115,7 +115,7 @@ def longest():
         names = [b"a" * 1021] * 1024
         made = fine(run("quote", option, text=b"".join(name + end for name in names)), "quote %s of the longest book" % option)
         held.that(len(made) == UPLOAD and run("unquote", option, text=made).out.count(end) == 1024, "the longest book doesn't read back")
-        refused(option, b"".join(name + end for name in [*names, b""]), "a book that is too long")
+        refused(option, b"".join(name + end for name in [*names[1:], b"a" * 1022]), "a book of a byte more")
         refused(option, end * (UPLOAD // 3 + 1), "a book of empty names that is too long")
         held.that(run("quote", option, text=end * (UPLOAD // 3)).status == 0, "a book of as many empty names as there can be")
 

@@ -2,8 +2,9 @@
 """sentences.py COMMAND: what is said of a text that is refused: as a line, as an object of JSON, of a slip in JSON8, of a byte order mark."""
 import json
 import os
+import re
 
-from testing import BOM, SAMPLES, Held, run, tame
+from testing import BOM, SAMPLES, Held, quoted, run, tame
 
 held = Held("sentences")
 KINDS = ("lines",), ("quote",), ("quote", "--lines"), ("quote", "-0"), ("unquote",), ("unquote", "--lines"), ("unquote", "-0"), ("json8",), ("strings",)
@@ -11,40 +12,39 @@ FIELDS = ["number", "line", "column", "place", "sentence"]
 
 # A slip in JSON8, where it stands, and which of the five things could stand there.
 SLIPS = [
-    (b"[1 2]", 3, "comma", "bracket"),
-    (b"{a: 1 b: 2}", 6, "comma", "bracket"),
+    (b"[1 2]", 3, "comma", "closing bracket"),
+    (b"{a: 1 b: 2}", 6, "comma", "closing bracket"),
     (b"{a 1}", 3, "colon"),
     (b"{a}", 2, "colon"),
     (b"{a = 1}", 3, "colon"),
     (b'{"a" "b"}', 5, "colon"),
-    (b"[1,,2]", 3, "value", "bracket"),
-    (b"[,]", 1, "value", "bracket"),
-    (b"{,}", 1, "key", "bracket"),
-    (b"{a:1,,}", 5, "key", "bracket"),
-    (b"{1: 2}", 1, "key", "bracket"),
-    (b"{[]: 2}", 1, "key", "bracket"),
-    (b"[1}", 2, "comma", "bracket"),
-    (b"{a: 1]", 5, "comma", "bracket"),
+    (b"[1,,2]", 3, "value", "closing bracket"),
+    (b"[,]", 1, "value", "closing bracket"),
+    (b"{,}", 1, "key", "closing bracket"),
+    (b"{a:1,,}", 5, "key", "closing bracket"),
+    (b"{1: 2}", 1, "key", "closing bracket"),
+    (b"{[]: 2}", 1, "key", "closing bracket"),
+    (b"[1}", 2, "comma", "closing bracket"),
+    (b"{a: 1]", 5, "comma", "closing bracket"),
     (b"]", 0, "value"),
     (b"{a: , b: 1}", 4, "value"),
     (b"{a:}", 3, "value"),
     (b"{a: desk}", 4, "value"),
     (b"desk", 0, "value"),
     (b"settings {a: 1}", 0, "value"),
-    (b"[yes]", 1, "value", "bracket"),
-    (b"[TRUE]", 1, "value", "bracket"),
-    (b"[;]", 1, "value", "bracket"),
+    (b"[yes]", 1, "value", "closing bracket"),
+    (b"[TRUE]", 1, "value", "closing bracket"),
+    (b"[;]", 1, "value", "closing bracket"),
     (b"// c\n[1]", 0, "value"),
     (b"{a: .5}", 4, "value"),
     (b"{a: +5}", 4, "value"),
-    (b"[1;2]", 2, "comma", "bracket"),
-    (b"[1 # c\n 2]", 8, "comma", "bracket"),
-    (b"[\xff]", 1, "value", "bracket"),
-    (b"[\x00]", 1, "value", "bracket"),
-    (b"[\x1b]0;gone\x07]", 1, "value", "bracket"),
-    ("[\u202e1]".encode(), 1, "value", "bracket"),
+    (b"[1;2]", 2, "comma", "closing bracket"),
+    (b"[1 # c\n 2]", 8, "comma", "closing bracket"),
+    (b"[\xff]", 1, "value", "closing bracket"),
+    (b"[\x00]", 1, "value", "closing bracket"),
+    (b"[\x1b]0;gone\x07]", 1, "value", "closing bracket"),
+    ("[\u202e1]".encode(), 1, "value", "closing bracket"),
 ]
-THINGS = {"value", "key", "comma", "colon", "bracket"}
 
 
 def plain(said):
@@ -102,15 +102,21 @@ def columns():
     held.that(said and (said[0]["line"], said[0]["column"], said[0]["place"]) == (2, 6, 11), "a column behind characters:", said)
 
 
+def told(sentence):
+    """What stands there by the sentence of 13, and what could."""
+    found = re.fullmatch(r"this can't stand here: (.*) stands where (.*) could", sentence)
+    return (found[1].encode(), set(found[2].split(" or "))) if found else (b"", set())
+
+
 def slips():
     """13 says what stands there and what could."""
     for text, place, *could in SLIPS:
         for word in "json8", "strings":
             said = objects(text, (word,), "%s of %r" % (word, text))
             held.that(said and (said[0]["number"], said[0]["place"]) == (13, place), "%s of %r says" % (word, text), said)
-            sentence = said[0]["sentence"] if said else ""
-            named = {thing for thing in THINGS if thing in sentence.split("could")[-1]}
-            held.that(set(could) == named, "%s of %r could be %s, and it says" % (word, text, could), sentence)
+            there, named = told(said[0]["sentence"] if said else "")
+            held.that(there in [quoted(text[place:place + size], True) for size in range(1, 20)], "%s of %r doesn't say what stands there:" % (word, text), said)
+            held.that(named == {"a " + thing for thing in could}, "%s of %r could be %s, and it says" % (word, text, could), said)
 
 
 def byte_order_marks():

@@ -61,7 +61,7 @@ def character(code, terminal, single):
     if code < 0x20:
         return "\\y%02x" % code if single else "\\u%04x" % code
     if terminal and code in HIDDEN:
-        return "\\u{%x}" % code if single else "\\u%04x" % code
+        return "\\u{%04x}" % code if single else "\\u%04x" % code
     return mark
 
 

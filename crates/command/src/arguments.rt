@@ -93,7 +93,7 @@ fn command_of(word: &[u8]) -> Command {
 }
 
 // The command that an argument names.
-pub fn command_at(i: usize) -> Command {
+pub(crate) fn command_at(i: usize) -> Command {
     if os::arg_count() <= i {
         return Command::Missing;
     }
@@ -106,7 +106,7 @@ pub fn command_at(i: usize) -> Command {
 }
 
 // The options that a command has.
-pub fn options_of(command: Command) -> u32 {
+pub(crate) fn options_of(command: Command) -> u32 {
     match command {
         Command::Lines => JSON | HELP | PIECES,
         Command::Quote => JSON | HELP | LINE | LINES | NUL,
@@ -279,7 +279,7 @@ fn checked(o: Options) -> Options {
 }
 
 // The words from argument i on, for a command with these options.
-pub fn options_from(i: usize, known: u32) -> Options {
+pub(crate) fn options_from(i: usize, known: u32) -> Options {
     let mut o = Options {
         flags: 0,
         size: PIECE,

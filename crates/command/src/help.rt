@@ -8,8 +8,7 @@ use libc::STDOUT_FILENO;
 fn lines(fd: i32) -> bool {
     io::write_all(
         fd,
-        b"\
-  lines [--pieces N] [FILE]
+        b"  lines [--pieces N] [FILE]
       prints each record of a J8 Lines backup: its line, a tab, a J8 string;
       reads N bytes at a time, 1 to 4096
 ",
@@ -19,8 +18,7 @@ fn lines(fd: i32) -> bool {
 fn quote(fd: i32) -> bool {
     io::write_all(
         fd,
-        b"\
-  quote [--line | --lines | -0] [FILE]
+        b"  quote [--line | --lines | -0] [FILE]
       prints the input, any bytes, as one J8 string
       --line   leaves off one LF at the end of the input
       --lines  each line is a name: a J8 Lines backup of them
@@ -32,8 +30,7 @@ fn quote(fd: i32) -> bool {
 fn unquote(fd: i32) -> bool {
     io::write_all(
         fd,
-        b"\
-  unquote [--lines | -0] [FILE]
+        b"  unquote [--lines | -0] [FILE]
       prints the bytes of one J8 string; a line's end behind it is ignored
       --lines  each record of a J8 Lines backup as it is, with LF behind it
       -0       the same with NUL behind each
@@ -44,8 +41,7 @@ fn unquote(fd: i32) -> bool {
 fn json8(fd: i32) -> bool {
     io::write_all(
         fd,
-        b"\
-  json8 [FILE]
+        b"  json8 [FILE]
       checks a JSON8 backup and prints it in its one written form
 ",
     )
@@ -54,8 +50,7 @@ fn json8(fd: i32) -> bool {
 fn strings(fd: i32) -> bool {
     io::write_all(
         fd,
-        b"\
-  strings [FILE]
+        b"  strings [FILE]
       prints each string of a JSON8 backup: its node, a tab, a J8 string
 ",
     )
@@ -75,8 +70,7 @@ j8 COMMAND [OPTION..] [FILE]: J8 Notation backups, from FILE or standard input
         && strings(fd)
         && io::write_all(
             fd,
-            b"\
-  help [COMMAND], --help, -h    prints this
+            b"  help [COMMAND], --help, -h    prints this
   --version                     prints the version
 With --json what is said on standard error is a JSON object a line. - is
 standard input, and -- ends the options.
@@ -100,16 +94,16 @@ fn print_to(fd: i32, command: Command) -> bool {
 }
 
 // The help of a command, or all of it.
-pub fn print(command: Command) -> Outcome {
+pub(crate) fn print(command: Command) -> Outcome {
     outputs::ended(print_to(STDOUT_FILENO, command))
 }
 
 // No word at all: the help, where it doesn't mix with an output.
-pub fn missing() -> Outcome {
+pub(crate) fn missing() -> Outcome {
     whole(STDERR_FILENO);
     Outcome::Misused(0, 0)
 }
 
-pub fn version() -> Outcome {
+pub(crate) fn version() -> Outcome {
     outputs::ended(outputs::print_raw(b"j8 0.1.0\n"))
 }

@@ -14,7 +14,7 @@ pub enum Opened {
 }
 
 // A descriptor of the input that an argument names.
-pub fn open(i: usize, path: &mut [u8]) -> Opened {
+pub(crate) fn open(i: usize, path: &mut [u8]) -> Opened {
     if i == 0 {
         return Opened::At(STDIN_FILENO);
     }
@@ -43,7 +43,7 @@ fn open_named(path: &[u8]) -> Opened {
 }
 
 // One read of at most so many bytes: what libc::read answers.
-pub fn read_some(fd: i32, size: usize, buf: &mut [u8]) -> isize {
+pub(crate) fn read_some(fd: i32, size: usize, buf: &mut [u8]) -> isize {
     let n = texts::within(size, buf);
     libc::read(fd, &mut buf[..n])
 }
@@ -61,7 +61,7 @@ pub enum Filled {
 }
 
 // Reads until buf is full or the input ends.
-pub fn fill(fd: i32, buf: &mut [u8]) -> Filled {
+pub(crate) fn fill(fd: i32, buf: &mut [u8]) -> Filled {
     let mut n = 0;
     while n < buf.len() {
         let got = read_from(fd, buf, n);

@@ -5,6 +5,7 @@ mod arguments;
 mod help;
 mod inputs;
 mod marks;
+mod misplaced;
 mod names;
 mod outcomes;
 mod outputs;
@@ -228,5 +229,5 @@ pub extern "C" fn j8_run(
     let command = arguments::command_at(1);
     let o = arguments::options_from(2, arguments::options_of(command));
     let ended = run(command, o, terminal, text, table, store, out, page, shown);
-    reports::report(ended, o, store, page, shown)
+    reports::report(ended, command, o, text, table, store, page, shown)
 }

@@ -12,7 +12,7 @@ fn begins(s: &[u8]) -> bool {
 }
 
 // The line n, if it begins with a mark, or 0.
-pub fn line_of(line: &[u8], n: usize) -> usize {
+pub(crate) fn line_of(line: &[u8], n: usize) -> usize {
     if begins(line) {
         return n;
     }

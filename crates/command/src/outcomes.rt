@@ -27,7 +27,7 @@ pub struct Run {
 }
 
 // A run with nothing besides its outcome.
-pub fn ended(outcome: Outcome) -> Run {
+pub(crate) fn ended(outcome: Outcome) -> Run {
     Run {
         outcome,
         size: 0,
@@ -36,7 +36,7 @@ pub fn ended(outcome: Outcome) -> Run {
     }
 }
 
-pub fn status_of(outcome: Outcome) -> u32
+pub(crate) fn status_of(outcome: Outcome) -> u32
     ensures { λ r. ⌜ r ≤ 3 ⌝ }
 {
     match outcome {

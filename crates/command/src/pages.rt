@@ -14,7 +14,7 @@ pub struct Page {
     pub error: i32,
 }
 
-pub fn fresh(terminal: bool) -> Page {
+pub(crate) fn fresh(terminal: bool) -> Page {
     Page {
         at: 0,
         terminal,
@@ -30,7 +30,7 @@ pub enum Form {
 }
 
 // Prints the page.
-pub fn flush(p: Page, page: &[u8], shown: &mut [u8]) -> Page {
+pub(crate) fn flush(p: Page, page: &[u8], shown: &mut [u8]) -> Page {
     let mut p = p;
     let n = texts::within(p.at, page);
     p.at = 0;
@@ -79,7 +79,14 @@ fn put_form(form: Form, n: usize, s: &[u8], at: usize, page: &mut [u8]) -> usize
 }
 
 // The same, on an empty page if this one is full.
-pub fn add(p: Page, form: Form, n: usize, s: &[u8], page: &mut [u8], shown: &mut [u8]) -> Page {
+pub(crate) fn add(
+    p: Page,
+    form: Form,
+    n: usize,
+    s: &[u8],
+    page: &mut [u8],
+    shown: &mut [u8],
+) -> Page {
     let mut p = p;
     let at = put_form(form, n, s, p.at, page);
     if p.at < at {
@@ -92,7 +99,7 @@ pub fn add(p: Page, form: Form, n: usize, s: &[u8], page: &mut [u8], shown: &mut
 }
 
 // What came of it.
-pub fn outcome_of(p: Page) -> Outcome {
+pub(crate) fn outcome_of(p: Page) -> Outcome {
     if p.failed {
         return Outcome::Unwritten(p.error);
     }

@@ -17,7 +17,7 @@ fn print_string(n: usize, terminal: bool, page: &mut [u8], shown: &mut [u8]) -> 
     outputs::ended(outputs::print(&page[..e], terminal, shown))
 }
 
-pub fn quote(data: &[u8], terminal: bool, page: &mut [u8], shown: &mut [u8]) -> Outcome {
+pub(crate) fn quote(data: &[u8], terminal: bool, page: &mut [u8], shown: &mut [u8]) -> Outcome {
     let room = texts::within(TEXT_MAX, page);
     let written = write::write(data, &mut page[..room]);
     match written {
@@ -38,7 +38,7 @@ fn without(x: u8, text: &[u8], n: usize) -> usize {
 }
 
 // The length of a text without an LF at its end.
-pub fn without_lf(text: &[u8]) -> usize {
+pub(crate) fn without_lf(text: &[u8]) -> usize {
     without(b'\n', text, text.len())
 }
 
@@ -62,7 +62,7 @@ fn unquote_text(text: &[u8], out: &mut [u8]) -> Outcome {
     }
 }
 
-pub fn unquote(text: &[u8], out: &mut [u8]) -> Outcome {
+pub(crate) fn unquote(text: &[u8], out: &mut [u8]) -> Outcome {
     let n = texts::within(without_end(text), text);
     unquote_text(&text[..n], out)
 }

@@ -1,7 +1,9 @@
 // What a run says on standard error.
 ghost use Prim.Native.Nat.{_≤_};
 use crate::arguments;
+use crate::arguments::Command;
 use crate::arguments::Options;
+use crate::misplaced;
 use crate::outcomes;
 use crate::outcomes::Outcome;
 use crate::outcomes::Run;
@@ -12,12 +14,12 @@ use messages::messages::Head;
 use prelude::refusals;
 
 // An argument, quoted.
-fn put_argument(i: usize, at: usize, store: &mut [u8], said: &mut [u8]) -> usize {
+fn put_argument(i: usize, at: usize, store: &mut [u8], said: &mut [u8], line: &mut [u8]) -> usize {
     let n = os::arg(i, store);
     if os::errno() != 0 {
         return at;
     }
-    texts::put_quoted(&store[..n], at, said)
+    texts::put_quoted(&store[..n], at, line, said)
 }
 
 // What can be wrong with the words, in the order of the numbers in `arguments`.
@@ -40,17 +42,20 @@ a file's name may have 4,095 bytes
 }
 
 // The argument that it is about, if any.
-fn put_wrong(i: usize, at: usize, store: &mut [u8], said: &mut [u8]) -> usize {
+fn put_wrong(i: usize, at: usize, store: &mut [u8], said: &mut [u8], line: &mut [u8]) -> usize {
     if i == 0 {
         return at;
     }
     let e = texts::put(b": ", at, said);
-    put_argument(i, e, store, said)
+    put_argument(i, e, store, said, line)
 }
 
-fn put_misuse(fault: usize, i: usize, store: &mut [u8], said: &mut [u8]) -> usize {
+fn put_misuse(fault: usize, i: usize, store: &mut [u8], said: &mut [u8], line: &mut [u8]) -> usize {
+    if fault == 0 {
+        return 0;
+    }
     let a = put_fault(fault, said);
-    let b = put_wrong(i, a, store, said);
+    let b = put_wrong(i, a, store, said, line);
     texts::put(b" (see 'j8 help')", b, said)
 }
 
@@ -145,7 +150,7 @@ Cannot allocate memory
 }
 
 // The input: the file's name, quoted.
-fn put_input(file: usize, store: &mut [u8], said: &mut [u8]) -> usize {
+fn put_input(file: usize, store: &mut [u8], said: &mut [u8], line: &mut [u8]) -> usize {
     let n = os::arg(file, store);
     if os::errno() != 0 {
         return texts::put(b"standard input", 0, said);
@@ -153,11 +158,17 @@ fn put_input(file: usize, store: &mut [u8], said: &mut [u8]) -> usize {
     if same(&store[..n], b"-") {
         return texts::put(b"standard input", 0, said);
     }
-    texts::put_quoted(&store[..n], 0, said)
+    texts::put_quoted(&store[..n], 0, line, said)
 }
 
-fn put_unread(file: usize, error: i32, store: &mut [u8], said: &mut [u8]) -> usize {
-    let a = put_input(file, store, said);
+fn put_unread(
+    file: usize,
+    error: i32,
+    store: &mut [u8],
+    said: &mut [u8],
+    line: &mut [u8],
+) -> usize {
+    let a = put_input(file, store, said, line);
     let b = texts::put(b" can't be read: ", a, said);
     put_reason(error, b, said)
 }
@@ -173,20 +184,84 @@ fn put_long(n: usize, said: &mut [u8]) -> usize {
     texts::put(b" bytes, and a JSON8 text may have 32,768", b, said)
 }
 
-fn put_mixed(line: usize, said: &mut [u8]) -> usize {
+fn put_mixed(n: usize, o: Options, said: &mut [u8]) -> usize {
     let a = texts::put(b"line ", 0, said);
-    let b = texts::put_number(line, a, said);
-    texts::put(b": the name holds the byte that would end it", b, said)
+    let b = texts::put_number(n, a, said);
+    if o.flags & arguments::NUL != 0 {
+        return texts::put(
+            b": the name holds a NUL, and couldn't be told from two",
+            b,
+            said,
+        );
+    }
+    texts::put(
+        b": the name holds an LF, and couldn't be told from two: use -0",
+        b,
+        said,
+    )
 }
 
-fn put_outcome(outcome: Outcome, o: Options, store: &mut [u8], said: &mut [u8]) -> usize {
+// What the command knows besides the sentence of a number: what `quote` would write couldn't be read back.
+fn put_beside(number: u32, command: Command, at: usize, said: &mut [u8]) -> usize {
+    match command {
+        Command::Quote => {
+            if number == refusals::NO_ROOM {
+                return texts::put(b": a J8 string may have 32,768 bytes", at, said);
+            }
+            texts::put(b": no upload could read this name back", at, said)
+        }
+        _ => at,
+    }
+}
+
+fn put_refused(
+    number: u32,
+    place: usize,
+    size: usize,
+    command: Command,
+    text: &mut [u8],
+    table: &mut [u32],
+    store: &mut [u8],
+    said: &mut [u8],
+    line: &mut [u8],
+) -> usize {
+    if number == refusals::MISPLACED {
+        return misplaced::put(place, size, text, table, store, said, line);
+    }
+    let a = texts::put_sentence(number, 0, said);
+    put_beside(number, command, a, said)
+}
+
+fn put_outcome(
+    run: Run,
+    command: Command,
+    o: Options,
+    text: &mut [u8],
+    table: &mut [u32],
+    store: &mut [u8],
+    said: &mut [u8],
+    line: &mut [u8],
+) -> usize {
+    let outcome = run.outcome;
     match outcome {
         Outcome::Done => 0,
-        Outcome::Refused(number, _, _) => texts::put_sentence(number, 0, said),
+        Outcome::Refused(number, _, place) => {
+            put_refused(
+                number,
+                place,
+                run.size,
+                command,
+                text,
+                table,
+                store,
+                said,
+                line,
+            )
+        }
         Outcome::Long(n) => put_long(n, said),
-        Outcome::Mixed(line) => put_mixed(line, said),
-        Outcome::Misused(fault, i) => put_misuse(fault, i, store, said),
-        Outcome::Unread(error) => put_unread(o.file, error, store, said),
+        Outcome::Mixed(n) => put_mixed(n, o, said),
+        Outcome::Misused(fault, i) => put_misuse(fault, i, store, said, line),
+        Outcome::Unread(error) => put_unread(o.file, error, store, said, line),
         Outcome::Unwritten(error) => put_unwritten(error, said),
     }
 }
@@ -207,36 +282,59 @@ fn say(head: Head, n: usize, o: Options, said: &[u8], line: &mut [u8]) {
     outputs::say(head, &said[..n], o.flags & arguments::JSON != 0, line)
 }
 
-fn put_empty(empty: bool, said: &mut [u8]) -> usize {
-    if empty {
-        return texts::put(b"the input is empty", 0, said);
+fn say_empty(empty: bool, o: Options, said: &mut [u8], line: &mut [u8]) {
+    if !empty {
+        return;
     }
-    0
+    let n = texts::put(b"the input is empty", 0, said);
+    say(Head::Note, n, o, said, line)
 }
 
-fn put_mark(line: usize, said: &mut [u8]) -> usize {
-    if line == 0 {
-        return 0;
+fn say_mark(mark: usize, o: Options, said: &mut [u8], line: &mut [u8]) {
+    if mark == 0 {
+        return;
     }
     let a = texts::put(b"line ", 0, said);
-    let b = texts::put_number(line, a, said);
-    texts::put(
+    let b = texts::put_number(mark, a, said);
+    let c = texts::put(
         b" begins with a byte order mark (U+FEFF), which counts as a character of it",
         b,
         said,
-    )
+    );
+    say(Head::Note, c, o, said, line)
+}
+
+fn say_outcome(
+    run: Run,
+    command: Command,
+    o: Options,
+    text: &mut [u8],
+    table: &mut [u32],
+    store: &mut [u8],
+    said: &mut [u8],
+    line: &mut [u8],
+) {
+    let n = put_outcome(run, command, o, text, table, store, said, line);
+    let outcome = run.outcome;
+    say(head_of(outcome), n, o, said, line)
 }
 
 // Says what there is to say, and answers the status.
-pub fn report(run: Run, o: Options, store: &mut [u8], said: &mut [u8], line: &mut [u8]) -> u32
+pub(crate) fn report(
+    run: Run,
+    command: Command,
+    o: Options,
+    text: &mut [u8],
+    table: &mut [u32],
+    store: &mut [u8],
+    said: &mut [u8],
+    line: &mut [u8],
+) -> u32
     ensures { λ r. ⌜ r ≤ 3 ⌝ }
 {
+    say_empty(run.empty, o, said, line);
+    say_outcome(run, command, o, text, table, store, said, line);
+    say_mark(run.mark, o, said, line);
     let outcome = run.outcome;
-    let n = put_empty(run.empty, said);
-    say(Head::Note, n, o, said, line);
-    let n = put_outcome(outcome, o, store, said);
-    say(head_of(outcome), n, o, said, line);
-    let n = put_mark(run.mark, said);
-    say(Head::Note, n, o, said, line);
     outcomes::status_of(outcome)
 }

@@ -54,7 +54,7 @@ fn print_table(
 }
 
 // Prints a backup in its one written form.
-pub fn rewrite(
+pub(crate) fn rewrite(
     text: &[u8],
     terminal: bool,
     table: &mut [u32],
@@ -125,7 +125,7 @@ fn list_nodes(
 }
 
 // Prints each string of a backup with its node.
-pub fn list(
+pub(crate) fn list(
     text: &[u8],
     terminal: bool,
     table: &mut [u32],

@@ -2,19 +2,20 @@
 ghost use Prim.Native.Nat.{_≤_, _<_};
 ghost use lib.ListN.{length};
 ghost use Rattle.io.specs.Counts.{Counts};
+use messages::shows;
 use prelude::answers::Written;
 use prelude::slices;
 use strings_write::write;
 
 // A number of a buffer's bytes: n, which is never more than it has.
-pub fn within(n: usize, buf: &[u8]) -> usize
+pub(crate) fn within(n: usize, buf: &[u8]) -> usize
     ensures { λ r. ⌜ Counts r (now (buf .entry)) ⌝ }
 {
     slices::least(n, buf.len())
 }
 
 // Puts s behind the first bytes of a buffer, and answers the place behind it.
-pub fn put(s: &[u8], at: usize, out: &mut [u8]) -> usize {
+pub(crate) fn put(s: &[u8], at: usize, out: &mut [u8]) -> usize {
     if out.len() < at {
         return at;
     }
@@ -26,7 +27,7 @@ pub fn put(s: &[u8], at: usize, out: &mut [u8]) -> usize {
 }
 
 // The place behind what was written into a buffer from a place on.
-pub fn behind(written: Written, at: usize, out: &[u8]) -> usize {
+pub(crate) fn behind(written: Written, at: usize, out: &[u8]) -> usize {
     match written {
         Written::Wrote(n) => {
             if out.len() < at {
@@ -39,7 +40,7 @@ pub fn behind(written: Written, at: usize, out: &[u8]) -> usize {
 }
 
 // The sentence of a refusal.
-pub fn put_sentence(number: u32, at: usize, out: &mut [u8]) -> usize {
+pub(crate) fn put_sentence(number: u32, at: usize, out: &mut [u8]) -> usize {
     if out.len() < at {
         return at;
     }
@@ -47,23 +48,33 @@ pub fn put_sentence(number: u32, at: usize, out: &mut [u8]) -> usize {
     behind(written, at, out)
 }
 
-// Bytes as a J8 string.
-pub fn put_quoted(s: &[u8], at: usize, out: &mut [u8]) -> usize {
+// A J8 text as a terminal is shown it, in the first n bytes of another buffer.
+fn put_shown(n: usize, text: &[u8], at: usize, out: &mut [u8]) -> usize {
     if out.len() < at {
         return at;
     }
-    let written = write::write(s, &mut out[at..]);
+    let n = within(n, text);
+    let written = shows::write(&text[..n], &mut out[at..]);
     behind(written, at, out)
 }
 
-pub fn put_number(n: usize, at: usize, out: &mut [u8]) -> usize {
+// Bytes as a J8 string that can't drive a terminal; the string is first put in another buffer.
+pub(crate) fn put_quoted(s: &[u8], at: usize, line: &mut [u8], out: &mut [u8]) -> usize {
+    let written = write::write(s, line);
+    match written {
+        Written::Wrote(n) => put_shown(n, line, at, out),
+        Written::Refused(_) => at,
+    }
+}
+
+pub(crate) fn put_number(n: usize, at: usize, out: &mut [u8]) -> usize {
     let mut digits = [0u8; 20];
     let k = io::decimal(n as u64, &mut digits);
     put(&digits[..k], at, out)
 }
 
 // The next place of a byte, or the end of the slice.
-pub fn find(s: &[u8], from: usize, x: u8) -> usize
+pub(crate) fn find(s: &[u8], from: usize, x: u8) -> usize
     requires { ⌜ from ≤ length (now s) ⌝ }
     ensures { λ r. ⌜ (from ≤ r) × (r ≤ length (now (s .entry))) ⌝ }
 {
@@ -78,7 +89,7 @@ pub fn find(s: &[u8], from: usize, x: u8) -> usize
 }
 
 // The place behind the next such byte, or the end of the slice.
-pub fn behind_next(s: &[u8], from: usize, x: u8) -> usize
+pub(crate) fn behind_next(s: &[u8], from: usize, x: u8) -> usize
     requires { ⌜ from < length (now s) ⌝ }
     ensures { λ r. ⌜ (from < r) × (r ≤ length (now (s .entry))) ⌝ }
 {
@@ -106,7 +117,7 @@ fn line_at(s: &[u8], n: usize) -> usize
 }
 
 // A line of a text, from 0, without its end.
-pub fn put_line(s: &[u8], n: usize, at: usize, out: &mut [u8]) -> usize {
+pub(crate) fn put_line(s: &[u8], n: usize, at: usize, out: &mut [u8]) -> usize {
     let from = line_at(s, n);
     let end = find(s, from, b'\n');
     put(&s[from..end], at, out)

@@ -49,6 +49,14 @@ fn fresh(terminal: bool) -> Listing {
     }
 }
 
+// Whether a terminal is shown J8 text: bytes that are given go to it as they are.
+fn is_shown(job: Job, terminal: bool) -> bool {
+    match job {
+        Job::Give(_) => false,
+        _ => terminal,
+    }
+}
+
 fn form_of(job: Job) -> Form {
     match job {
         Job::List => Form::Entry,
@@ -66,7 +74,7 @@ fn is_mixed(job: Job, payload: &[u8]) -> bool {
 }
 
 // A text put on the page under its line.
-pub fn put_on(
+pub(crate) fn put_on(
     l: Listing,
     job: Job,
     n: usize,
@@ -353,7 +361,7 @@ fn close(
 }
 
 // Does the job, on pieces of at most so many bytes.
-pub fn run(
+pub(crate) fn run(
     fd: i32,
     size: usize,
     terminal: bool,
@@ -364,7 +372,7 @@ pub fn run(
     page: &mut [u8],
     shown: &mut [u8],
 ) -> Run {
-    let l = fresh(terminal);
+    let l = fresh(is_shown(job, terminal));
     let l = take_all(fd, size, l, job, piece, line, out, page, shown);
     close(l, job, line, out, page, shown)
 }

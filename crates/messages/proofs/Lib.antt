@@ -1,5 +1,6 @@
 mod Decimals
 mod Reading
+mod Showing
 mod Lines
 mod Objects
 mod OneLines

@@ -2,4 +2,5 @@
 pub mod entries;
 pub mod messages;
 pub mod positions;
+pub mod shows;
 mod texts;

@@ -11,7 +11,7 @@ const RECORD: usize = 1028;
 
 const PAGE: usize = 65560;
 
-const SHOWN: usize = 393360;
+const SHOWN: usize = 524480;
 
 fn text() -> [u8; TEXT] {
     [0u8; TEXT]
