@@ -200,7 +200,7 @@ static const size_t fronts[] = { 0, 1, 9, 15, 16, 17, 33, 65, 130, 700 };
 
 #define COUNT(list) (sizeof(list) / sizeof((list)[0]))
 
-/* -DFEWER, for an emulator: a tenth of the inputs. On x86-64 they go as deep as all with gcc, and to 64 bytes less with clang. */
+/* -DFEWER, for an emulator: a tenth of the inputs, which on x86-64 go as deep as all. */
 #ifdef FEWER
 enum { FRONT_STEP = 3, BEHINDS = 1, JSON8_FRONT_STEP = 9, BLANK_STEP = 2, LEAST_DEPTH = J8_DEPTH_MAX };
 #else

@@ -90,7 +90,13 @@ host() {
   each "try gcc-O0 '' gcc -O0" "try gcc-O2 '' gcc -O2" "try gcc-O3 '' gcc -O3" "try gcc-Os '' gcc -Os" "try clang-O2 '' clang -O2"
 }
 
+# helpers OPTION..: the functions that the translator writes by itself.
+helpers() {
+  gcc -std=c99 -O2 "${strict[@]}" "$@" -Iinclude -I$made tests/portable/helpers.c -o $made/helpers && $made/helpers
+}
+
 checked() {
+  helpers && helpers -DJ8_PLAIN || return 1
   each "try gcc-checked '' gcc -O2 -DJ8_CHECKED" "try gcc-plain '' gcc -O2 -DJ8_PLAIN"
 }
 

@@ -107,6 +107,13 @@ def programs(name, compiler, options):
     return ""
 
 
+def helpers(option):
+    """Whether a function that the translator writes by itself isn't as defined."""
+    program = FOLDER + "/helpers"
+    run(["gcc", "-std=c99", "-O1", option, "-Iinclude", "-I" + FOLDER, "tests/portable/helpers.c", "-o", program])
+    return "tests/portable/helpers.c" if run([program]).returncode != 0 else ""
+
+
 def finder():
     """What finds the fault in the copy, or nothing."""
     with open(FOLDER + "/j8.c", "wb") as out:
@@ -119,6 +126,7 @@ def finder():
         return "gcc's warnings"
     sanitized = ["-O1", "-fsanitize=address,undefined", "-fno-sanitize-recover=all", "-DMARGIN=0"]
     return (differs("gcc", "gcc", ["-O1"]) or differs("J8_PLAIN", "gcc", ["-O1", "-DJ8_PLAIN"]) or programs("gcc", "gcc", ["-O1"])
+            or helpers("-UJ8_PLAIN") or helpers("-DJ8_PLAIN")
             or differs("J8_CHECKED", "gcc", ["-O1", "-DJ8_CHECKED"]) or differs("sanitizers", "clang", sanitized))
 
 
