@@ -1,5 +1,5 @@
 #!/usr/bin/env bash
-# install.sh [remove]: puts the command, the archive, the header and j8.pc below PREFIX, or takes them away. DESTDIR stands for / while a package
+# install.sh [remove]: puts the command, the archive, the header, j8.pc and the C file below PREFIX, or takes them away. DESTDIR stands for / while a package
 # is put together. Both may have any characters but a line's end.
 set -eu
 prefix=$(realpath -m -s -- "${PREFIX:?}")
@@ -14,7 +14,7 @@ put() {
 }
 
 if [ "${1:-}" = remove ]; then
-  rm -f -- "$root/bin/j8" "$root/lib/libj8.a" "$root/include/j8.h" "$root/lib/pkgconfig/j8.pc"
+  rm -f -- "$root/bin/j8" "$root/lib/libj8.a" "$root/include/j8.h" "$root/lib/pkgconfig/j8.pc" "$root/share/j8/j8.c"
   exit
 fi
 version=$(sed -n 's/^.define J8_VERSION "\(.*\)"$/\1/p' include/j8.h)
@@ -25,3 +25,4 @@ put 755 target/bin/command bin j8
 put 644 target/staticlib/libj8.a lib libj8.a
 put 644 include/j8.h include j8.h
 put 644 target/j8.pc lib/pkgconfig j8.pc
+put 644 target/portable/j8.c share/j8 j8.c

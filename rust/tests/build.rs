@@ -11,21 +11,46 @@ use std::time::{Duration, SystemTime};
 
 #[test]
 fn targets() {
-    for known in build::TARGETS {
-        assert_eq!(build::unknown_target(known, "x86_64", "linux"), None);
-    }
-    for (target, processor, system) in [
-        ("aarch64-unknown-linux-gnu", "aarch64", "linux"),
-        ("x86_64-pc-windows-msvc", "x86_64", "windows"),
-        ("x86_64-apple-darwin", "x86_64", "macos"),
-        ("i686-unknown-linux-gnu", "x86", "linux"),
+    assert!(build::has_archive("x86_64", "linux"));
+    for (processor, system) in [
+        ("aarch64", "linux"),
+        ("x86_64", "windows"),
+        ("x86", "linux"),
     ] {
-        let said = build::unknown_target(target, processor, system).unwrap();
-        assert!(
-            said.contains(target) && said.contains("x86_64-unknown-linux-gnu"),
-            "{said}"
-        );
+        assert!(!build::has_archive(processor, system));
     }
+}
+
+#[test]
+fn c_compilers() {
+    let host = "x86_64-unknown-linux-gnu";
+    let unset = |_: &str| String::new();
+    for (target, compiler) in [
+        ("aarch64-unknown-linux-gnu", "aarch64-linux-gnu-gcc"),
+        ("armv7-unknown-linux-gnueabihf", "arm-linux-gnueabihf-gcc"),
+        ("mips-unknown-linux-gnu", "mips-linux-gnu-gcc"),
+        ("riscv64gc-unknown-linux-gnu", "riscv64-linux-gnu-gcc"),
+        ("powerpc-unknown-linux-gnu", "powerpc-linux-gnu-gcc"),
+        ("thumbv7m-none-eabi", "arm-none-eabi-gcc"),
+    ] {
+        assert_eq!(build::compilers(target, host, unset), [compiler]);
+    }
+    assert_eq!(build::compilers(host, host, unset)[0], "cc");
+    let named = |name: &str| match name {
+        "CC_aarch64_unknown_linux_gnu" => "first".to_string(),
+        "CC" => "second".to_string(),
+        _ => String::new(),
+    };
+    assert_eq!(
+        build::compilers("aarch64-unknown-linux-gnu", host, named),
+        ["first"]
+    );
+    assert_eq!(build::compilers(host, host, named), ["second"]);
+    assert_eq!(
+        build::archiver("aarch64-linux-gnu-gcc"),
+        "aarch64-linux-gnu-ar"
+    );
+    assert_eq!(build::archiver("clang"), "ar");
 }
 
 #[test]

@@ -1,5 +1,5 @@
 /*
- * How much stack each function of j8.h takes, on x86-64: each is called on a
+ * How much stack each function of j8.h takes: each is called on a
  * stack of its own that was painted before, over inputs that go as deep as its
  * code does, and what is no longer painted was used. Counted from the caller's
  * stack pointer before the call, so arguments on the stack and the return
@@ -8,13 +8,16 @@
  * `make stack` builds it with the C library's functions bound at the start:
  * bound at their first call, the dynamic linker's own stack would be counted.
  *
- * Prints the greatest use of each function and what j8.h says of it, in bytes,
- * and fails if the first is above the second.
+ * Prints the greatest use of each function and its bound, in bytes, and fails if
+ * the first is above the second. The bounds are those that j8.h has for the
+ * archive; for another build the words of the command line name others, as
+ * j8_string_read=1536.
  */
 
 #define _XOPEN_SOURCE 700
 
 #include <stdio.h>
+#include <stdlib.h>
 #include <string.h>
 #include <ucontext.h>
 
@@ -30,7 +33,12 @@ static ucontext_t home, away;
 
 /* The stack pointer before a call. */
 static const uint8_t *top;
+#ifdef __x86_64__
 #define MARK() __asm__ volatile("mov %%rsp, %0" : "=r"(top))
+#else
+/* The frame of the function that calls, so its own share is counted too. */
+#define MARK() (top = (const uint8_t *)__builtin_frame_address(0))
+#endif
 
 /* What a call is lent, set before it runs. */
 static uint8_t input[J8_UPLOAD_MAX + 1], line[J8_LINE_ROOM];
@@ -114,7 +122,6 @@ static void json8_show(void)
 typedef struct {
     const char *name;
     void (*call)(void);
-    /* what j8.h says */
     size_t bound;
     size_t most;
 } entry;
@@ -155,7 +162,7 @@ static void measure(int which)
         for (low = start; whole.bytes[low] == paints[i]; low++) {
         }
         low -= low % 8;
-        if ((size_t)(top - (whole.bytes + low)) > entries[which].most) {
+        if (top > whole.bytes + low && (size_t)(top - (whole.bytes + low)) > entries[which].most) {
             entries[which].most = (size_t)(top - (whole.bytes + low));
         }
     }
@@ -192,6 +199,13 @@ static const char *const marks[] = { "\"", "'", "u'", "b'", "" };
 static const size_t fronts[] = { 0, 1, 9, 15, 16, 17, 33, 65, 130, 700 };
 
 #define COUNT(list) (sizeof(list) / sizeof((list)[0]))
+
+/* -DFEWER, for an emulator: a tenth of the inputs, which on x86-64 go as deep as all. */
+#ifdef FEWER
+enum { FRONT_STEP = 3, BEHINDS = 1, JSON8_FRONT_STEP = 9, BLANK_STEP = 2, LEAST_DEPTH = J8_DEPTH_MAX };
+#else
+enum { FRONT_STEP = 1, BEHINDS = 3, JSON8_FRONT_STEP = 3, BLANK_STEP = 1, LEAST_DEPTH = 0 };
+#endif
 
 /* One string: a mark, plain letters, a unit, plain letters and the closing quote. */
 static void make_string(size_t mark, size_t front, size_t unit, size_t behind)
@@ -251,9 +265,9 @@ static void measure_strings(void)
     size_t mark, front, unit, behind;
 
     for (mark = 0; mark < COUNT(marks); mark++) {
-        for (front = 0; front < COUNT(fronts); front++) {
+        for (front = 0; front < COUNT(fronts); front += FRONT_STEP) {
             for (unit = 0; unit < COUNT(units); unit++) {
-                for (behind = 0; behind < 3; behind++) {
+                for (behind = 0; behind < BEHINDS; behind++) {
                     input_len = 0;
                     make_string(mark, front, unit, behind * 3);
                     if (input_len > J8_LINE_ROOM) {
@@ -320,11 +334,11 @@ static void measure_json8(void)
     size_t depth, unit, mark, blanks, front;
     int sort;
 
-    for (depth = 0; depth <= J8_DEPTH_MAX + 1; depth += depth < J8_DEPTH_MAX ? J8_DEPTH_MAX : 1) {
+    for (depth = LEAST_DEPTH; depth <= J8_DEPTH_MAX + 1; depth += depth < J8_DEPTH_MAX ? J8_DEPTH_MAX : 1) {
         for (sort = 0; sort < 3; sort++) {
-            for (blanks = 0; blanks < COUNT(behind); blanks++) {
+            for (blanks = 0; blanks < COUNT(behind); blanks += BLANK_STEP) {
                 for (mark = 0; mark < COUNT(marks); mark++) {
-                    for (front = 0; front < COUNT(fronts); front += 3) {
+                    for (front = 0; front < COUNT(fronts); front += JSON8_FRONT_STEP) {
                         for (unit = 0; unit < COUNT(units); unit++) {
                             input_len = 0;
                             make_string(mark, front, unit, 2);
@@ -360,11 +374,30 @@ static void measure_sentences(void)
     }
 }
 
-int main(void)
+/* A word of the command line: a function's name, = and its bound. */
+static void set_bound(const char *word)
+{
+    size_t i, length;
+
+    for (i = 0; i < COUNT(entries); i++) {
+        length = strlen(entries[i].name);
+        if (strncmp(word, entries[i].name, length) == 0 && word[length] == '=') {
+            entries[i].bound = (size_t)strtoul(word + length + 1, NULL, 10);
+            return;
+        }
+    }
+    fprintf(stderr, "no bound: %s\n", word);
+    exit(2);
+}
+
+int main(int argc, char **argv)
 {
     size_t i;
-    int within = 1;
+    int within = 1, at;
 
+    for (at = 1; at < argc; at++) {
+        set_bound(argv[at]);
+    }
     measure(FRESH);
     measure(VERSION);
     measure_sentences();
