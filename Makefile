@@ -1,5 +1,5 @@
 # `make` alone prints what there is to make.
-.PHONY: help test demo archive command examples portable install uninstall stack size axioms compare load faults limits bench clean
+.PHONY: help test demo archive command examples portable portable-all fuzz install uninstall stack size axioms compare load faults limits bench clean
 # Two runs of rt would share target/.
 .NOTPARALLEL:
 
@@ -15,13 +15,13 @@ help:
 	@echo "make archive     target/staticlib/libj8.a, for C and Rust"
 	@echo "make portable    target/portable/j8.c, the library as one C99 file for any processor"
 	@echo "make command     the command j8, target/bin/j8"
-	@echo "make install     command, man page, completion, archive, header and j8.pc to PREFIX ($(PREFIX)), below DESTDIR;"
+	@echo "make install     command, man page, completion, archive, header, j8.pc and j8.c to PREFIX ($(PREFIX)), below DESTDIR;"
 	@echo "                 make uninstall takes them away"
 	@echo "make examples    the programs of examples/c"
 	@echo "make stack size  what the functions take"
 	@echo "make bench       their speed beside others: docs/BENCHMARKS.md"
 	@echo "make axioms      what the proofs rest on"
-	@echo "make compare load faults limits   longer tests: docs/TESTING.md"
+	@echo "make compare load faults fuzz limits portable-all   longer tests: docs/TESTING.md"
 	@echo "make clean       removes all that was built"
 
 test:
@@ -37,6 +37,14 @@ portable: target/portable/j8.c
 
 target/portable/j8.c: crates.txt include/j8.h $(wildcard tools/portable/*) $(shell find crates -type f)
 	@bash tools/portable/make.sh
+
+# The C file's tests, those of the gate and on rarer processors.
+portable-all: portable archive
+	bash tests/portable/check.sh stops warnings host checked sanitizers others stack rust rarer rarer_stack cortex
+
+# libFuzzer over the C file, each answer compared with the archive's: J8_SECONDS for each function (600).
+fuzz: portable archive
+	bash tests/portable/fuzz.sh
 
 command: target/bin/j8
 
@@ -55,7 +63,7 @@ examples: archive
 	done
 	@echo "built: target/examples/upload, target/examples/restore"
 
-install: archive command
+install: archive command portable
 	@bash tools/install.sh
 
 uninstall:
@@ -89,9 +97,11 @@ compare: archive
 load: archive
 	@cd rust && cargo run --offline --release --quiet -p j8-compare --bin load
 
-# Faults put into a copy of the reference, of the layer over C or of a generator: the comparison must find each.
-faults: archive
+# Faults put into a copy of the reference, of the layer over C or of a generator, which the comparison must find; and into a copy of the translator of the
+# MIR, which the C file's tests must.
+faults: archive portable
 	@bash rust/compare/faults.sh
+	@bash tests/portable/check.sh && python3 tests/portable/faults.py
 
 # What the program limits must print for the rows of its stdin, by the reference.
 limits:

@@ -3,7 +3,8 @@
  *
  * C99 and C++. Link with libj8.a; `pkg-config --cflags --libs j8` says how. The
  * archive is for x86-64 (any, SSE2 suffices), with the calling convention of
- * Linux, and needs nothing but memcpy and memset.
+ * Linux, and needs nothing but memcpy and memset. For any other processor compile
+ * j8.c, the whole library in one C99 file, with this header beside it.
  *
  *   strings   j8_string_read, j8_string_write
  *   lines     j8_upload_fresh, j8_upload_feed, j8_upload_finish: a text that
@@ -32,9 +33,10 @@
  *  - Nothing is kept between calls: no global state, no I/O, no errno. Every
  *    call is reentrant: threads and signal handlers may call at the same time,
  *    each with its own parts.
- *  - Stack on x86-64, in bytes, at most: j8_json8_read 16,384; j8_json8_write
+ *  - Stack of the archive, in bytes, at most: j8_json8_read 16,384; j8_json8_write
  *    12,288; j8_upload_feed, j8_upload_finish and j8_sentence 2,048; every other
- *    call 1,024. `make stack` measures it.
+ *    call 1,024. `make stack` measures it. Of j8.c it depends on processor and
+ *    compiler: docs/TRUST.md of the repository has a table.
  */
 #ifndef J8_H
 #define J8_H
@@ -46,8 +48,8 @@
 #error "j8 needs a size_t of 32 bits or more"
 #endif
 
-/* The version of this header and of the archive beside it; j8_version() asks the
-   archive. */
+/* The version of this header and of the library beside it; j8_version() asks the
+   library. */
 #define J8_VERSION "0.1.0"
 #define J8_VERSION_MAJOR 0
 #define J8_VERSION_MINOR 1
@@ -210,7 +212,7 @@ typedef struct {
 } j8_result;
 
 /*
- * The version of the archive: major times 1,000,000, minor times 1,000, patch.
+ * The version of the library: major times 1,000,000, minor times 1,000, patch.
  * So 0.1.0 is 1000. A program that was compiled with another header sees it here:
  *
  *     if (j8_version() / 1000 != J8_VERSION_MAJOR * 1000 + J8_VERSION_MINOR) {

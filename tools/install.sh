@@ -1,6 +1,6 @@
 #!/usr/bin/env bash
-# install.sh [remove]: puts the command with its man page and completion, the archive, the header and j8.pc below PREFIX, or takes them away.
-# DESTDIR stands for / while a package is put together. Both may have any characters but a line's end.
+# install.sh [remove]: puts the command with its man page and completion, the archive, the header, j8.pc and the C file below PREFIX, or takes them
+# away. DESTDIR stands for / while a package is put together. Both may have any characters but a line's end.
 set -eu
 prefix=$(realpath -m -s -- "${PREFIX:?}")
 cd "$(dirname "$0")/.."
@@ -14,6 +14,7 @@ each() {
   "$@" 644 target/staticlib/libj8.a lib/libj8.a
   "$@" 644 include/j8.h include/j8.h
   "$@" 644 target/j8.pc lib/pkgconfig/j8.pc
+  "$@" 644 target/portable/j8.c share/j8/j8.c
 }
 
 put() {

@@ -424,10 +424,16 @@ static void make_call(const char *name)
     }
 }
 
-int main(void)
+/* With a word, prints how many bits a size_t has. */
+int main(int argc, char **argv)
 {
     size_t calls = 0;
 
+    (void)argv;
+    if (argc > 1) {
+        printf("%lu\n", (unsigned long)(8 * sizeof(size_t)));
+        return 0;
+    }
     while (fgets(line, sizeof line, stdin) != NULL) {
         make_call(strtok(line, " \n"));
         putchar('\n');

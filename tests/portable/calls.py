@@ -4,7 +4,8 @@
     calls.py vectors            every case of tests/vectors, and all sentences
     calls.py expected           what calls.c must print for these; ? stands for a word that the vectors don't settle
     calls.py held EXPECTED GOT  holds what was printed to what was expected
-    calls.py random SEED COUNT  calls made by chance, the same for the same seed
+    calls.py random SEED COUNT  calls made by chance, the same for the same seed; every number fits 32 bits
+    calls.py wide SEED COUNT    the same of the functions that take numbers, which here fill 64 bits
 """
 import os
 import random
@@ -144,8 +145,8 @@ TOKENS = [token.strip("\n").encode("latin-1") or b"\n" for token in TOKENS] + [b
 
 
 class Chance:
-    def __init__(self, seed):
-        self.r = random.Random(seed)
+    def __init__(self, seed, top=2**32 - 1):
+        self.r, self.top = random.Random(seed), top
         self.makers = [self.string_read, self.string_write, self.lines_write, self.upload, self.state, self.read, self.write, self.show, self.sentence]
 
     def noise(self, most):
@@ -193,9 +194,9 @@ class Chance:
         return " ".join(["upload", str(self.r.choice([1023, 1024, 1024, 1024, 1030])), str(self.r.choice([0, 20, 300, 9000]))] + list(self.words(8)))
 
     def state(self):
-        """From a state by hand: each field small, at its limit, past it, or as large as 32 bits hold."""
+        """From a state by hand: each field small, at its limit, past it, or about the middle and the end of all numbers."""
         def field(limit):
-            return self.r.choice([0, 0, 1, 3, limit - 1, limit, limit + 1, 2**32 - 1])
+            return self.r.choice([0, 0, 1, 3, limit - 1, limit, limit + 1, self.top // 2, self.top // 2 + 1, self.top])
         numbers = [field(1048576), field(3), field(1024), field(20), self.r.choice([0, 0, 0, 1, 7]), self.r.choice([0, 0, 0, 1, 5, 18, 99]), field(3), field(9)]
         return " ".join(["upload", "1024", str(self.r.choice([0, 20, 300])), "S" + ",".join(map(str, numbers))] + list(self.words(4)))
 
@@ -213,7 +214,7 @@ class Chance:
 
     def show(self):
         table = [self.r.choice([0, 5, 6, 5, 6, 7, 1, 2, 3]) for _ in range(self.r.randrange(14))]
-        node = self.r.choice([0, 1, 2, 3, 2**30, 2**31, 2**32 - 1])
+        node = self.r.choice([0, 1, 2, 3, self.top // 4 + 1, self.top // 2 + 1, self.top])
         return "json8_show %s %s %s %d" % (shown_table(table), shown(self.noise(9)), shown(self.noise(9)), node)
 
     def sentence(self):
@@ -227,8 +228,10 @@ def main(words):
         print("\n".join(listed + ["%d calls" % len(listed)] * at))
     elif len(words) == 3 and words[0] == "held":
         held(words[1], words[2])
-    elif len(words) == 3 and words[0] == "random":
-        chance = Chance(int(words[1]))
+    elif len(words) == 3 and words[0] in ("random", "wide"):
+        chance = Chance(int(words[1]), 2**64 - 1 if words[0] == "wide" else 2**32 - 1)
+        if words[0] == "wide":
+            chance.makers = [chance.state, chance.show]
         for _ in range(int(words[2])):
             print(chance.r.choice(chance.makers)())
     else:

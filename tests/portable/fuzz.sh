@@ -1,6 +1,6 @@
 #!/usr/bin/env bash
 # fuzz.sh [ENTRY..]: libFuzzer over the C file with the address and undefined-behaviour sanitizers, one harness a function, each answer compared with the
-# archive's. J8_SECONDS for each (600), J8_JOBS at once (the cores). What was found is made small and written to tests/portable/corpus/ENTRY.calls,
+# archive's. J8_SECONDS for each (600), J8_JOBS at once (the cores). Of what was found one input for each edge is written to tests/portable/corpus/ENTRY.calls,
 # which the gate runs on every target.
 set -u
 cd "$(dirname "$0")/../.." || exit 1
@@ -29,7 +29,7 @@ fuzz() {
   }
   rm -rf "$own/small"
   mkdir "$own/small"
-  "$own/fuzz" -merge=1 -max_len=2500 "$own/small" "$own/found" >"$own/merge.log" 2>&1 || return 1
+  "$own/fuzz" -merge=1 -use_counters=0 -max_len=2500 "$own/small" "$own/found" >"$own/merge.log" 2>&1 || return 1
   "$own/print" "$own/small"/* | LC_ALL=C sort -u >"tests/portable/corpus/$name.calls" || return 1
   echo "$name: $(sed -n 's/^stat::number_of_executed_units: *//p' "$own/log") runs in $seconds s, $(grep -oE 'cov: [0-9]+' "$own/log" | tail -n 1), corpus $(wc -l <"tests/portable/corpus/$name.calls")"
 }

@@ -101,7 +101,7 @@ def times(text, factor):
 # ---- operands: evalOpdM
 
 
-WORDS = {"true": Value("true", Bool()), "false": Value("false", Bool()), "unit": Value("", Unit())}
+WORDS = {"true": Value("1", Bool()), "false": Value("0", Bool()), "unit": Value("", Unit())}
 
 
 def operand(w, term):
@@ -211,8 +211,8 @@ def op2_right(w, term, target):
     if isinstance(ty, Int):
         words.update(max="UINT%d_MAX" % ty.width, bits=ty.width, wide="uint%d_t" % max(32, ty.width))
     text = form.c.format(**words)
-    if made == ty and ty != Int(64):
-        text = "(%s)(%s)" % (w.shapes.name(ty), text)
+    if made != Int(64):
+        text = "(%s)(%s)" % (w.shapes.name(made), text)
     return Value(text, made, "", a.checks + b.checks + asked(form.check.format(**words)))
 
 
@@ -242,8 +242,8 @@ def not_one(w, op, value, target):
     """bitNot: of a truth value the other one, of a number (2 ^ w - 1) - a: every bit turned, C's ~ cut back to the width."""
     need(isinstance(value.type, (Bool, Int)), "not of", value.type)
     same(target.type, value.type, "not")
-    text = "!" + value.text if value.type == Bool() else "(%s)~%s" % (w.shapes.name(value.type), value.text)
-    return Value(text, value.type, "", value.checks)
+    sign = "!" if value.type == Bool() else "~"
+    return Value("(%s)%s%s" % (w.shapes.name(value.type), sign, value.text), value.type, "", value.checks)
 
 
 def cast_one(w, op, value, target):

@@ -74,8 +74,9 @@ def int_name(shapes, ty):
 
 
 def bool_name(shapes, ty):
-    """vbool b."""
-    return "bool"
+    """vbool b: a byte, 1 if b is true and else 0. Every operation here gives 0 or 1, and so do C's comparisons and !. No bool of C: gcc compares the bytes of a
+    block at once only where what was found is a byte like them."""
+    return "uint8_t"
 
 
 def unit_name(shapes, ty):

@@ -35,7 +35,6 @@ HEAD = """\
  *
  * v0 is a function's result, v1 and so on its parameters and then its variables. A function's comment names its file.
  */
-#include <stdbool.h>
 #include <stddef.h>
 #include <stdint.h>
 
@@ -166,8 +165,9 @@ class Writer:
         need(Raw() not in self.locals, "a raw pointer that was made of nothing")
 
     def head(self):
+        """Inline, so that gcc -O2 puts a block's loop where its length is a number that it knows."""
         params = [self.shapes.declare(self.locals[at], "v%d" % at) for at in range(1, self.function.params + 1)]
-        return ("static %s %s(%s)" % (self.shapes.name(self.locals[0]), c_name(self.function.symbol), ", ".join(params) or "void")).replace("* ", "*")
+        return ("static inline %s %s(%s)" % (self.shapes.name(self.locals[0]), c_name(self.function.symbol), ", ".join(params) or "void")).replace("* ", "*")
 
     def whole(self):
         """The function in C."""

@@ -9,9 +9,9 @@ use native.Mathlib.Omega.{arith}
 use borrow.Author.Tests.{not-true, not-false}
 use lib.Dec.{lit≤}
 use lib.ListN.{length, getD, take, drop, set, length-drop}
-use lib.Seq.{sets, set-set, set-comm, drop-cons, drop-drop, take-add, length-take-le}
+use lib.Seq.{sets, drop-cons, drop-drop, take-add, length-take-le}
 use Rattle.prelude.specs.Bytes.{doubleQuote}
-use Rattle.prelude.proofs.Stores.{sets-append, copied}
+use Rattle.prelude.proofs.Stores.{sets-append, copied, further}
 use Rattle.notation.specs.declared.styles.Style.the-variants.{Json}
 use Rattle.utf8.specs.Utf8.{tail}
 use Rattle.runs.specs.inner.Blocks.{Running, Alone, AllAlone, AllTripled, Begun, owed}
@@ -20,21 +20,8 @@ use Rattle.runs.proofs.BlockLaws.{over-block}
 use Rattle.runs.proofs.ThreeBytes.{over-threes}
 use Rattle.bytewise.specs.inner.Bytewise.{Fronted, Onward, owedAt}
 
-set-before : (b t : List ℕ) (i j y : ℕ) → j < i → set (sets t i b) j y ≡ sets (set t j y) i b
-set-before [] t i j y h = refl
-set-before (x ∷ b) t i j y h =
-    set-before b (set t i x) (suc i) j y (omega arith) ∙ ap (λ (l : List ℕ). sets l (suc i) b) (set-comm t i j x y (λ e. omega arith))
-
 one-stored : (s out : List ℕ) (at : ℕ) → at < length s → set out (at + 1) (getD s at 0) ≡ sets out (at + 1) (take 1 (drop at s))
 one-stored s out at h = rw (drop-cons s at 0 h) refl
-
--- stored over by at least as many bytes
-pub sets-again : (b d t : List ℕ) (j : ℕ) → length b ≤ length d → sets (sets t j b) j d ≡ sets t j d
-sets-again [] d t j h = refl
-sets-again (x ∷ b) [] t j h = absurd (omega arith)
-sets-again (x ∷ b) (y ∷ d) t j h =
-    ap (λ (l : List ℕ). sets l (suc j) d) (set-before b (set t j x) (suc j) j y (omega arith) ∙ ap (λ (l : List ℕ). sets l (suc j) b) (set-set t j x y))
-    ∙ sets-again b d (set t j y) (suc j) (omega arith)
 
 pub sixteen-stored : (s out o1 o2 : List ℕ) (at : ℕ) → at + 16 ≤ length s → o1 ≡ sets out (at + 1) (take 8 (drop at s)) → o2 ≡ sets o1 (at + 9) (take 8 (drop (at + 8) s))
     → o2 ≡ sets out (at + 1) (take 16 (drop at s))
@@ -48,16 +35,7 @@ module _ (s : List ℕ) where
   over : (p at n : ℕ) (o out new : List ℕ) → p ≤ at → at ≤ p + n → p + n ≤ length s → out ≡ sets o 0 (doubleQuote ∷ take at s)
       → new ≡ sets out (p + 1) (take n (drop p s)) → new ≡ sets o 0 (doubleQuote ∷ take (p + n) s)
   over p at n o out new h l g e f =
-      let t : List ℕ = sets (set o 0 doubleQuote) 1 (take p s) in
-      let b : List ℕ = take (at - p) (drop p s) in
-      let d : List ℕ = take n (drop p s) in
-      let m : p + (at - p) ≡ at = omega arith in
-      let q : 1 + length (take p s) ≡ p + 1 = omega (arith, length-take-le p s (omega arith)) in
-      let u : take at s ≡ take p s ++ b = ap (λ (i : ℕ). take i s) (sym m) ∙ take-add p (at - p) s in
-      let v : sets (set o 0 doubleQuote) 1 (take at s) ≡ sets t (p + 1) b = ap (sets (set o 0 doubleQuote) 1) u ∙ sym (sets-append (take p s) b (set o 0 doubleQuote) 1 (p + 1) q) in
-      let k : length b ≤ length d = omega (arith, length-take-le (at - p) (drop p s) (rw (length-drop p s) (omega arith)), length-take-le n (drop p s) (rw (length-drop p s) (omega arith))) in
-      f ∙ ap (λ (x : List ℕ). sets x (p + 1) d) (e ∙ v) ∙ sets-again b d t (p + 1) k
-      ∙ sets-append (take p s) d (set o 0 doubleQuote) 1 (p + 1) q ∙ ap (sets (set o 0 doubleQuote) 1) (sym (take-add p n s))
+      further s (set o 0 doubleQuote) 0 1 out new at p n (p + n) p (p + 1) h l refl (omega arith) (omega arith) (omega arith) e f
 
   pub front-none : (o : List ℕ) → Fronted s o 0 (set o 0 doubleQuote)
   front-none o = record { run = here Json s 0 (omega arith); stored = refl }

@@ -15,9 +15,9 @@ use crate::bare::Checked;
 use crate::strip;
 use notation::marks::Mark;
 use notation::styles::Style;
+use prelude::copies;
 use prelude::limits::LINE_MAX;
 use prelude::refusals;
-use prelude::slices;
 use runs::blocks;
 use runs::literals;
 use strings::answers::Decoded;
@@ -94,7 +94,7 @@ fn read_bare(s: &[u8], out: &mut [u8]) -> Line
             if out.len() < n {
                 return Line::Refused(refusals::NO_ROOM, 0);
             }
-            slices::copy_run(s, 0, n, 0, out);
+            copies::copy_long(s, 0, n, 0, out);
             Line::Holds(1, n)
         }
         Checked::Faulty(number, place) => Line::Refused(number, place),

@@ -10,7 +10,7 @@ use borrow.Author.Tests.{leb-true, leb-false}
 use lib.Dec.{leb}
 use borrow.Rule.Slice.PartMut.{putMid, put-same}
 use lib.ListN.{length, getD, take, drop, set, length-drop, length-take, drop-of-length-le, take-append-drop}
-use lib.Seq.{sets, sets-eq, take-suc, take-add, set-out, length-sets, getD-drop, take-all, length-take-le}
+use lib.Seq.{sets, sets-eq, take-suc, take-add, set-out, set-set, set-comm, length-sets, getD-drop, drop-drop, take-all, length-take-le}
 use Rattle.prelude.proofs.Cases.{split}
 
 pub sets-append : (xs ys t : List ℕ) (i j : ℕ) → i + length xs ≡ j → sets (sets t i xs) j ys ≡ sets t i (xs ++ ys)
@@ -45,9 +45,56 @@ copied-all r t o m n h l f g =
     (λ e. let q : length t - o < n = leb-false n (length t - o) e in
     let p : m ≡ length t - o = g (omega arith) in clipped r t o m n h l (λ z. omega arith) (omega arith))
 
+-- the same, with the lesser of two numbers
+pub copied-least : (r t new : List ℕ) (o m n k : ℕ) → n ≤ length r → k ≡ length t - o → (m ≤ n) × (m ≤ k) × (n ≤ k → m ≡ n) × (k ≤ n → m ≡ k)
+    → new ≡ sets t o (take m r) → new ≡ sets t o (take n r)
+copied-least r t new o m n k h e l f =
+    f ∙ copied-all r t o m n h (l .0) (λ q. l .2 (omega arith)) (λ q. let z : m ≡ k = l .3 (omega arith) in omega arith)
+
 -- stores that fit, over the front of a buffer
 pub sets-over : (vs l : List ℕ) → length vs ≤ length l → sets l 0 vs ≡ vs ++ drop (length vs) l
 sets-over vs l h = sets-eq vs l 0 (omega arith) ∙ rw zero-add
+
+-- stored over by at least as many bytes
+set-before : (b t : List ℕ) (i j y : ℕ) → j < i → set (sets t i b) j y ≡ sets (set t j y) i b
+set-before [] t i j y h = refl
+set-before (x ∷ b) t i j y h =
+    set-before b (set t i x) (suc i) j y (omega arith) ∙ ap (λ (l : List ℕ). sets l (suc i) b) (set-comm t i j x y (λ e. omega arith))
+
+pub sets-again : (b d t : List ℕ) (j : ℕ) → length b ≤ length d → sets (sets t j b) j d ≡ sets t j d
+sets-again [] d t j h = refl
+sets-again (x ∷ b) [] t j h = absurd (omega arith)
+sets-again (x ∷ b) (y ∷ d) t j h =
+    ap (λ (l : List ℕ). sets l (suc j) d) (set-before b (set t j x) (suc j) j y (omega arith) ∙ ap (λ (l : List ℕ). sets l (suc j) b) (set-set t j x y))
+    ∙ sets-again b d (set t j y) (suc j) (omega arith)
+
+-- a run of s from a place on whose first i bytes stand at o: k bytes more from its place j on, the first of which may be stored already
+module _ (s t : List ℕ) (at o : ℕ) where
+  pub further : (out new : List ℕ) (i j k m a p : ℕ) → j ≤ i → i ≤ m → j + k ≡ m → at + m ≤ length s → at + j ≡ a → o + j ≡ p
+      → out ≡ sets t o (take i (drop at s)) → new ≡ sets out p (take k (drop a s)) → new ≡ sets t o (take m (drop at s))
+  further out new i j k m a p h l n g u q e f =
+      let x : List ℕ = drop at s in
+      let b : List ℕ = take (i - j) (drop j x) in
+      let d : List ℕ = take k (drop j x) in
+      let z : length x ≡ length s - at = length-drop at s in
+      let y : j + (i - j) ≡ i = omega arith in
+      let c : o + length (take j x) ≡ p = omega (arith, length-take-le j x (omega arith)) in
+      let v : sets t o (take i x) ≡ sets (sets t o (take j x)) p b =
+      ap (λ (r : ℕ). sets t o (take r x)) (sym y) ∙ ap (sets t o) (take-add j (i - j) x) ∙ sym (sets-append (take j x) b t o p c) in
+      let w : length b ≤ length d = omega (arith, length-take-le (i - j) (drop j x) (rw (length-drop j x) (omega arith)), length-take-le k (drop j x) (rw (length-drop j x) (omega arith))) in
+      let r : take k (drop a s) ≡ d = ap (take k) (ap (λ (r : ℕ). drop r s) (sym u) ∙ sym (drop-drop j at s)) in
+      f ∙ ap (sets out p) r ∙ ap (λ (r : List ℕ). sets r p d) (e ∙ v) ∙ sets-again b d (sets t o (take j x)) p w
+      ∙ sets-append (take j x) d t o p c ∙ ap (sets t o) (sym (take-add j k x)) ∙ ap (λ (r : ℕ). sets t o (take r x)) n
+
+-- n bytes that were put over a buffer of n, and then stored
+pub staged : (x z b out new : List ℕ) (n o : ℕ) → n ≤ length x → length z ≡ n → b ≡ sets z 0 (take n x) → new ≡ sets out o (take n (drop 0 b))
+    → new ≡ sets out o (take n x)
+staged x z b out new n o h l e f =
+    let m : length (take n x) ≡ n = length-take-le n x h in
+    let c : b ≡ take n x =
+    e ∙ sets-over (take n x) z (omega arith)
+    ∙ ap (λ (r : List ℕ). take n x ++ r) (drop-of-length-le z {i = length (take n x)} (omega arith)) ∙ append-nil (take n x) in
+    f ∙ ap (λ (r : List ℕ). sets out o (take n r)) c ∙ ap (sets out o) (take-all n (take n x) (omega arith))
 
 pub empty-front : (xs l : List ℕ) → length xs ≡ 0 → xs ++ l ≡ l
 empty-front [] l e = refl

@@ -1,4 +1,5 @@
 pub mod Bytes
+pub mod inner
 pub mod Limits
 pub mod Pick
 pub mod Refusals

@@ -1,5 +1,6 @@
-// What every layer uses: the refusal numbers, the limits, total reads and clipped stores.
+// What every layer uses: the refusal numbers, the limits, total reads, clipped stores and copies.
 pub mod answers;
+pub mod copies;
 pub mod limits;
 pub mod refusals;
 pub mod slices;

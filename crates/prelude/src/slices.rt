@@ -43,21 +43,30 @@ pub fn soon(length: usize, at: usize, n: usize) -> usize
     at + n
 }
 
-fn left(length: usize, o: usize) -> usize
+// How many places behind a place find room.
+pub(crate) fn left(length: usize, o: usize) -> usize
     ensures { λ r. ⌜ r ≡ length - o ⌝ }
 {
     if o < length { length - o } else { 0 }
 }
 
-// Stores n bytes of s from a place on, each if there is room for it.
+// Stores n bytes of s from a place on, one by one.
+pub(crate) fn copy_all(s: &[u8], at: usize, n: usize, o: usize, out: &mut [u8])
+    requires { ⌜ (at + n ≤ length (now s)) × (n ≤ length (now out) - o) ⌝ }
+    ensures { λ r. ⌜ now (out .exit) ≡ sets (now (out .entry)) o (take n (drop at (now (s .entry)))) ⌝ }
+{
+    let mut i = 0;
+    while i < n {
+        out[o + i] = s[at + i];
+        i += 1;
+    }
+}
+
+// The same of few bytes, each if there is room for it.
 pub fn copy_run(s: &[u8], at: usize, n: usize, o: usize, out: &mut [u8])
     requires { ⌜ at + n ≤ length (now s) ⌝ }
     ensures { λ r. ⌜ now (out .exit) ≡ sets (now (out .entry)) o (take n (drop at (now (s .entry)))) ⌝ }
 {
     let m = least(n, left(out.len(), o));
-    let mut i = 0;
-    while i < m {
-        out[o + i] = s[at + i];
-        i += 1;
-    }
+    copy_all(s, at, m, o, out);
 }

@@ -80,12 +80,7 @@ first-more q s at k first place next found f g e a b =
     below-more (λ j. j < next → Alone q (getD s (at + j) 0)) k (λ j h l. f j h (omega arith))
     (λ l. split found (λ y. let z : place ≡ k = e y in let x : ⊥ = omega arith in absurd x) g)
 
--- the least of two numbers above 0
-pub least-some : (n a b : ℕ) → (a ≤ b → n ≡ a) → (b ≤ a → n ≡ b) → 0 < a → 0 < b → 0 < n
-least-some n a b f g h i =
-    split (leb a b) (λ e. omega (arith, f (leb-true a b e))) (λ e. let l : b < a = leb-false a b e in omega (arith, g (omega arith)))
-
--- and it is at most so far below the second as the first is
+-- the least of two numbers is at most so far below the second as the first is
 pub least-near : (n a b d : ℕ) → (a ≤ b → n ≡ a) → (b ≤ a → n ≡ b) → b ≤ a + d → b ≤ n + d
 least-near n a b d f g h =
     split (leb a b) (λ e. omega (arith, f (leb-true a b e))) (λ e. let l : b < a = leb-false a b e in omega (arith, g (omega arith)))

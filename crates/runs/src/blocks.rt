@@ -50,7 +50,7 @@ pub fn any_odd(q: u8, s: &[u8], at: usize, n: usize) -> bool
 }
 
 fn narrow(k: usize) -> u8
-    requires { ⌜ k < 16 ⌝ }
+    requires { ⌜ k < 32 ⌝ }
     ensures { λ r. ⌜ r ≡ k ⌝ }
 {
     k as u8
@@ -66,7 +66,7 @@ fn wide(k: u8) -> usize
 fn place_of(found: bool, k: u8) -> u8
     ensures { λ r. ⌜ (found ≡ true → r ≡ k) ⌝ }
 {
-    if found { k } else { 16 }
+    if found { k } else { 32 }
 }
 
 fn lesser(a: u8, b: u8) -> u8
@@ -75,14 +75,15 @@ fn lesser(a: u8, b: u8) -> u8
     if a < b { a } else { b }
 }
 
-// The first odd one of up to sixteen bytes, 16 where none is: the least of their places, so that all are compared at once.
-pub(crate) fn first_odd(q: u8, s: &[u8], at: usize, n: usize) -> usize
-    requires { ⌜ (at + n ≤ length (now s)) × (n ≤ 16) ⌝ }
-    ensures { λ r. ⌜ ((k : ℕ) → k < n → k < r → Alone q (getD (now (s .entry)) (at + k) 0)) ⌝ }
+// The first odd one of 32 bytes, 32 where none is: the least of their places, so that all are compared at once. Of a loop of sixteen turns
+// the compiler would take the bytes apart.
+pub(crate) fn first_odd(q: u8, s: &[u8], at: usize) -> usize
+    requires { ⌜ at + 32 ≤ length (now s) ⌝ }
+    ensures { λ r. ⌜ ((k : ℕ) → k < 32 → k < r → Alone q (getD (now (s .entry)) (at + k) 0)) ⌝ }
 {
-    let mut first: u8 = 16;
+    let mut first: u8 = 32;
     let mut k: usize = 0;
-    while k < n {
+    while k < 32 {
         first = lesser(first, place_of(odd(q, s[at + k]), narrow(k)));
         k += 1;
     }
@@ -129,21 +130,20 @@ fn alone_blocks(s: &[u8], from: usize, style: Style, n: usize) -> usize
     at
 }
 
-// A place behind blocks of sixteen, for runs inside a longer text, which are likely to end soon.
-pub(crate) fn sixteens(s: &[u8], from: usize, style: Style) -> usize
+// A place behind blocks of 32, for runs inside a longer text, which are likely to end soon; what is left of the text goes one by one.
+pub(crate) fn thirty_twos(s: &[u8], from: usize, style: Style) -> usize
     requires { ⌜ from ≤ length (now s) ⌝ }
     ensures { λ r. ⌜ Running style (now (s .entry)) from r ⌝ }
 {
     let mut at = from;
-    while at < s.len() {
-        let n = slices::least(16, s.len() - at);
-        let k = first_odd(styles::quote_of(style), s, at, n);
-        if k < n {
+    while 32 <= s.len() - at {
+        let k = first_odd(styles::quote_of(style), s, at);
+        if k < 32 {
             return at + k;
         }
-        at += n;
+        at += 32;
     }
-    at
+    shorts::one_by_one(s, at, style)
 }
 
 // Whether a byte stands at a place that is no part of a literal character.

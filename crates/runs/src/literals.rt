@@ -148,14 +148,14 @@ pub fn literal_run(t: &[u8; 256], s: &[u8], from: usize, style: Style) -> usize
     at
 }
 
-// The same by blocks of sixteen, which tell where they end.
+// The same by blocks of 32, which tell where they end.
 fn run_on(t: &[u8; 256], s: &[u8], from: usize, style: Style) -> usize
     requires { ⌜ IsTable (now t) × (from ≤ length (now s)) ⌝ }
     ensures { λ r. ⌜ r ≡ from + literalRun style 0 (drop from (now (s .entry))) ⌝ }
 {
     let mut at = from;
     while at < s.len() {
-        let mid = blocks::sixteens(s, at, style);
+        let mid = blocks::thirty_twos(s, at, style);
         if blocks::ends(s, mid, style) {
             return mid;
         }
@@ -176,15 +176,17 @@ pub fn inner_run(t: &[u8; 256], s: &[u8], from: usize, style: Style) -> usize
     requires { ⌜ IsTable (now t) × (from ≤ length (now s)) ⌝ }
     ensures { λ r. ⌜ r ≡ from + literalRun style 0 (drop from (now (s .entry))) ⌝ }
 {
-    let n = slices::least(16, s.len() - from);
-    let k = blocks::first_odd(styles::quote_of(style), s, from, n);
-    if k < n {
-        if blocks::ends(s, from + k, style) {
-            return from + k;
-        }
-        return run_on(t, s, from + k, style);
+    if s.len() - from < 32 {
+        return run_on(t, s, from, style);
     }
-    run_on(t, s, from + n, style)
+    let k = blocks::first_odd(styles::quote_of(style), s, from);
+    if 32 <= k {
+        return run_on(t, s, from + 32, style);
+    }
+    if blocks::ends(s, from + k, style) {
+        return from + k;
+    }
+    run_on(t, s, from + k, style)
 }
 
 // The same where few are likely, as behind an escape: blocks come only behind the first sixteen bytes.

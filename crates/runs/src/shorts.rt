@@ -19,7 +19,7 @@ fn leads(b: u8) -> bool
 }
 
 // ASCII and characters of two bytes one by one.
-fn one_by_one(s: &[u8], from: usize, style: Style) -> usize
+pub(crate) fn one_by_one(s: &[u8], from: usize, style: Style) -> usize
     requires { ⌜ from ≤ length (now s) ⌝ }
     ensures { λ r. ⌜ Running style (now (s .entry)) from r ⌝ }
 {

@@ -19,6 +19,7 @@ use notation::marks::Mark;
 use notation::styles;
 use notation::styles::Style;
 use notation::styles::Unit;
+use prelude::copies;
 use prelude::limits::TEXT_MAX;
 use prelude::refusals;
 use prelude::slices;
@@ -101,7 +102,7 @@ fn turn(
     ensures stored { λ r. ⌜ now (out .exit) ≡ sets (now (out .entry)) o (turnBytes style (drop at (now (s .entry)))) ⌝ }
 {
     let n = e - at;
-    slices::copy_run(s, at, n, o, out);
+    copies::copy_long(s, at, n, o, out);
     unit_turn(t, s, e, style, o + n, out)
 }
 
@@ -238,7 +239,7 @@ pub fn read_run(s: &[u8], from: usize, e: usize, style: Style, out: &mut [u8]) -
     if out.len() < count {
         return Decoded::Refused(refusals::NO_ROOM, 0);
     }
-    slices::copy_run(s, from, count, 0, out);
+    copies::copy_long(s, from, count, 0, out);
     Decoded::Done(count)
 }
 

@@ -8,7 +8,7 @@ use native.Mathlib.Omega.{arith}
 use lib.ListN.{length, take, drop, set, length-append, length-drop, drop-of-length-le}
 use lib.Seq.{sets, take-add, take-all, take-length, drop-drop, length-take-le}
 use Rattle.prelude.specs.Bytes.{doubleQuote}
-use Rattle.prelude.proofs.Stores.{sets-append}
+use Rattle.prelude.proofs.Stores.{sets-append, sets-again}
 use Rattle.utf8.specs.Utf8.{validFrom, validUtf8}
 use Rattle.utf8.specs.inner.Checks.{ValidAs}
 use Rattle.notation.specs.declared.styles.Style.the-variants.{Json}
@@ -21,7 +21,6 @@ use Rattle.strings_write.specs.inner.Passes.{Passed}
 use Rattle.bytewise.specs.inner.Bytewise.{bytesText, textOf, Texted, Fronted}
 use Rattle.strings_write.proofs.WriteLengths.{quoted-length, quoted-least, write-length}
 use Rattle.strings_write.proofs.WriteSteps.{write-run}
-use Rattle.bytewise.proofs.Fronts.{sets-again}
 use Rattle.strings_write.proofs.ValidTexts.{bytewise}
 use Rattle.strings_write.proofs.Writing.{valid-text, other-text, finished, stored-whole, literal-part}
 

@@ -20,6 +20,7 @@ use notation::styles;
 use notation::styles::Form;
 use notation::styles::Style;
 use prelude::answers::Written;
+use prelude::copies;
 use prelude::refusals;
 use prelude::slices;
 use runs::blocks;
@@ -73,7 +74,7 @@ fn pass(t: &[u8; 256], form: Form, s: &[u8], room: usize, out: &mut [u8]) -> usi
             at += 1;
         } else {
             let n = e - at;
-            slices::copy_run(s, at, n, o, out);
+            copies::copy_long(s, at, n, o, out);
             if cap - o < n {
                 return 0;
             }
@@ -114,7 +115,7 @@ fn literal_front(s: &[u8], room: usize, out: &mut [u8])
         return;
     }
     slices::put(b'"', 0, out);
-    slices::copy_run(s, 0, room - 1, 1, out);
+    copies::copy_long(s, 0, room - 1, 1, out);
 }
 
 // The text of such data: its length, or 0 where it passes the room.
@@ -128,7 +129,7 @@ fn literal_part(s: &[u8], room: usize, out: &mut [u8]) -> usize
         return 0;
     }
     slices::put(b'"', 0, out);
-    slices::copy_run(s, 0, size, 1, out);
+    copies::copy_long(s, 0, size, 1, out);
     slices::put(b'"', size + 1, out);
     size + 2
 }
@@ -264,7 +265,7 @@ fn write_literal(s: &[u8], out: &mut [u8]) -> Written
         return Written::Refused(refusals::NO_ROOM);
     }
     slices::put(b'"', 0, out);
-    slices::copy_run(s, 0, n, 1, out);
+    copies::copy_long(s, 0, n, 1, out);
     slices::put(b'"', n + 1, out);
     Written::Wrote(n + 2)
 }

@@ -7,6 +7,7 @@ ghost use Rattle.prelude.specs.Limits.{uploadMax, lineMax};
 ghost use Rattle.upload.specs.Calls.{lent, withRefusal, stored, atEnd, feedByte, feedBytes, finishAll};
 ghost use Rattle.upload.specs.inner.Fitness.{Fit};
 use crate::uploads::Upload;
+use prelude::copies;
 use prelude::limits::LINE_MAX;
 use prelude::limits::UPLOAD_MAX;
 use prelude::refusals;
@@ -86,7 +87,7 @@ fn take_run(s: Upload, piece: &[u8], i: usize, a: usize, line: &mut [u8]) -> Upl
     requires { ⌜ (i + a ≤ length (now piece)) × (s .held + a ≤ lineMax) × (s .taken + a ≤ uploadMax) ⌝ }
     ensures { λ r. ⌜ ((out : List ℕ) → lent r (now (line .exit)) out ≡ stored (lent s (now (line .entry)) out) (take a (drop i (now (piece .entry))))) ⌝ }
 {
-    slices::copy_run(piece, i, a, s.held, line);
+    copies::copy_long(piece, i, a, s.held, line);
     Upload {
         taken: s.taken + a,
         lfs: s.lfs,

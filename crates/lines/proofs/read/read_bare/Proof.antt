@@ -15,8 +15,8 @@ returns : tie.Need-returns
 returns c =
     search bare-tight
 
-copy-run-requires : tie.Need-copy-run-requires
-copy-run-requires c κs = search needs
+copy-long-requires : tie.Need-copy-long-requires
+copy-long-requires c κs = search needs
 
 enum-known-checked : tie.Need-enum-known-checked
 enum-known-checked c = search needs
@@ -39,7 +39,7 @@ read-bare-spec =
     check-bare-requires
     enum-told
     returns
-    copy-run-requires
+    copy-long-requires
     enum-known-checked
     same-length
     returns-2

@@ -11,12 +11,12 @@ use Rattle.runs.specs.inner.Blocks.{Alone}
 use Rattle.runs.proofs.BlockLaws.{first-more}
 
 abbrev Inv-loop : tie.InvT-loop
-Inv-loop q s at n first₀ k₀ first k =
-    (k ≤ n) × ((j : ℕ) → j < k → j < first → Alone q (getD s (at + j) 0))
+Inv-loop q s at first₀ k₀ first k =
+    (k ≤ 32) × ((j : ℕ) → j < k → j < first → Alone q (getD s (at + j) 0))
 
 abbrev μ-loop : tie.MeasureT-loop
-μ-loop q s at n first₀ k₀ first k =
-    n - k
+μ-loop q s at first₀ k₀ first k =
+    32 - k
 
 loop-holds : tie.Need-loop-holds Inv-loop μ-loop
 loop-holds c =

@@ -20,8 +20,8 @@ loop-holds : tie.Need-loop-holds Inv-loop μ-loop
 loop-holds c =
     here _ _ _ (c .before .pre .1)
 
-sixteens-requires : tie.Need-sixteens-requires Inv-loop μ-loop
-sixteens-requires c κs =
+thirty-twos-requires : tie.Need-thirty-twos-requires Inv-loop μ-loop
+thirty-twos-requires c κs =
     c .before .loop .inv .inside
 
 ends-requires : tie.Need-ends-requires Inv-loop μ-loop
@@ -30,15 +30,15 @@ ends-requires c κs =
 
 returns : tie.Need-returns Inv-loop μ-loop
 returns c =
-    stopped _ _ _ _ (further _ _ _ _ _ (c .before .before .before .before .loop .inv) (c .before .before .sixteens .ensures)) (c .before .ends .ensures (c .if1 .taken))
+    stopped _ _ _ _ (further _ _ _ _ _ (c .before .before .before .before .loop .inv) (c .before .before .thirty-twos .ensures)) (c .before .ends .ensures (c .if1 .taken))
 
 soon-requires : tie.Need-soon-requires Inv-loop μ-loop
 soon-requires c κs =
-    (c .before .before .sixteens .ensures .inside, omega arith)
+    (c .before .before .thirty-twos .ensures .inside, omega arith)
 
 common-before-requires : tie.Need-common-before-requires Inv-loop μ-loop
 common-before-requires c κs =
-    (c .before .before .before .before .before .before .before .pre .0, c .before .before .before .sixteens .ensures .inside, c .soon .ensures .0 .0)
+    (c .before .before .before .before .before .before .before .pre .0, c .before .before .before .thirty-twos .ensures .inside, c .soon .ensures .0 .0)
 
 chars-before-requires : tie.Need-chars-before-requires Inv-loop μ-loop
 chars-before-requires c κs =
@@ -67,7 +67,7 @@ run-on-spec =
     Inv-loop
     μ-loop
     loop-holds
-    sixteens-requires
+    thirty-twos-requires
     ends-requires
     returns
     soon-requires

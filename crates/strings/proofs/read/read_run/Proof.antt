@@ -14,8 +14,8 @@ returns : tie.Need-returns
 returns c =
     run-tight _ _ _ _ _ (c .before .before .before .pre .0) (c .before .before .before .pre .1) (c .before .before .before .pre .2) (omega arith)
 
-copy-run-requires : tie.Need-copy-run-requires
-copy-run-requires c κs =
+copy-long-requires : tie.Need-copy-long-requires
+copy-long-requires c κs =
     omega (arith, c .before .before .before .before .pre .1 .onward, c .before .before .before .before .pre .1 .inside)
 
 same-length : tie.Need-same-length
@@ -23,7 +23,7 @@ same-length c = search needs
 
 returns-2 : tie.Need-returns-2
 returns-2 c =
-    run-good _ _ _ _ _ (c .before .before .before .before .before .before .before .pre .0) (c .before .before .before .before .before .before .before .pre .1) (c .before .before .before .before .before .before .before .pre .2) _ (omega arith) (c .before .before .copy-run .ensures)
+    run-good _ _ _ _ _ (c .before .before .before .before .before .before .before .pre .0) (c .before .before .before .before .before .before .before .pre .1) (c .before .before .before .before .before .before .before .pre .2) _ (omega arith) (c .before .before .copy-long .ensures)
 
 pub read-run-spec : {M : Type 1} → statement M
-read-run-spec = tie.close (tie.spec sub-count returns copy-run-requires same-length returns-2)
+read-run-spec = tie.close (tie.spec sub-count returns copy-long-requires same-length returns-2)

@@ -24,8 +24,8 @@ returns c =
 put-requires : tie.Need-put-requires
 put-requires c κs = search needs
 
-copy-run-requires : tie.Need-copy-run-requires
-copy-run-requires c κs = search needs
+copy-long-requires : tie.Need-copy-long-requires
+copy-long-requires c κs = search needs
 
 add-put : tie.Need-add-put
 add-put c = search needs
@@ -41,7 +41,7 @@ same-length-2 c = search needs
 
 returns-2 : tie.Need-returns-2
 returns-2 c =
-    literal-part (now (c .before .before .before .before .before .before .before .before .before .before .before .before .before .before .before .args .s)) (now (c .before .before .before .before .before .before .before .before .before .before .before .before .before .before .before .args .out)) (c .before .before .before .before .before .before .before .before .before .before .before .before .before .before .before .pre) (omega arith) (c .before .before .before .before .before .before .before .before .before .before .put .ensures) (c .before .before .before .before .before .before .copy-run .ensures) (c .before .before .put2 .ensures)
+    literal-part (now (c .before .before .before .before .before .before .before .before .before .before .before .before .before .before .before .args .s)) (now (c .before .before .before .before .before .before .before .before .before .before .before .before .before .before .before .args .out)) (c .before .before .before .before .before .before .before .before .before .before .before .before .before .before .before .pre) (omega arith) (c .before .before .before .before .before .before .before .before .before .before .put .ensures) (c .before .before .before .before .before .before .copy-long .ensures) (c .before .before .put2 .ensures)
 
 pub literal-part-spec : {M : Type 1} → statement M
 literal-part-spec =
@@ -52,7 +52,7 @@ literal-part-spec =
     same-length
     returns
     put-requires
-    copy-run-requires
+    copy-long-requires
     add-put
     put-requires-2
     add-result

@@ -17,8 +17,8 @@ returns c =
 put-requires : tie.Need-put-requires
 put-requires c κs = search needs
 
-copy-run-requires : tie.Need-copy-run-requires
-copy-run-requires c κs = search needs
+copy-long-requires : tie.Need-copy-long-requires
+copy-long-requires c κs = search needs
 
 add-put : tie.Need-add-put
 add-put c = search needs
@@ -34,7 +34,7 @@ same-length c = search needs
 
 returns-2 : tie.Need-returns-2
 returns-2 c =
-    literal-wrote (now (c .before .before .before .before .before .before .before .before .before .before .before .before .before .before .before .args .s)) (now (c .before .before .before .before .before .before .before .before .before .before .before .before .before .before .before .args .out)) (c .before .before .before .before .before .before .before .before .before .before .before .before .before .before .before .pre) (omega arith) (c .before .before .before .before .before .before .before .before .before .before .put .ensures) (c .before .before .before .before .before .before .copy-run .ensures) (c .before .before .put2 .ensures)
+    literal-wrote (now (c .before .before .before .before .before .before .before .before .before .before .before .before .before .before .before .args .s)) (now (c .before .before .before .before .before .before .before .before .before .before .before .before .before .before .before .args .out)) (c .before .before .before .before .before .before .before .before .before .before .before .before .before .before .before .pre) (omega arith) (c .before .before .before .before .before .before .before .before .before .before .put .ensures) (c .before .before .before .before .before .before .copy-long .ensures) (c .before .before .put2 .ensures)
 
 pub write-literal-spec : {M : Type 1} → statement M
 write-literal-spec =
@@ -43,7 +43,7 @@ write-literal-spec =
     add-if1
     returns
     put-requires
-    copy-run-requires
+    copy-long-requires
     add-put
     put-requires-2
     add-t5
