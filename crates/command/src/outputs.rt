@@ -4,7 +4,6 @@ use crate::texts;
 use libc::STDERR_FILENO;
 use libc::STDOUT_FILENO;
 use messages::messages::Head;
-use messages::shows;
 use prelude::answers::Written;
 
 // Bytes as they are.
@@ -17,7 +16,7 @@ pub(crate) fn print(bytes: &[u8], terminal: bool, shown: &mut [u8]) -> bool {
     if !terminal {
         return print_raw(bytes);
     }
-    let written = shows::write(bytes, shown);
+    let written = terminals::write(bytes, shown);
     match written {
         Written::Wrote(n) => {
             let k = texts::within(n, shown);

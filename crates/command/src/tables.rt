@@ -11,7 +11,6 @@ use json8_show::show;
 use json8_show::show::Shown;
 use json8_write::write;
 use messages::messages::Spot;
-use messages::positions;
 use prelude::answers::Written;
 use prelude::limits::TEXT_MAX;
 

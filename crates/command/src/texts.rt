@@ -2,7 +2,6 @@
 ghost use Prim.Native.Nat.{_≤_, _<_};
 ghost use lib.ListN.{length};
 ghost use Rattle.io.specs.Counts.{Counts};
-use messages::shows;
 use prelude::answers::Written;
 use prelude::slices;
 use strings_write::write;
@@ -54,7 +53,7 @@ fn put_shown(n: usize, text: &[u8], at: usize, out: &mut [u8]) -> usize {
         return at;
     }
     let n = within(n, text);
-    let written = shows::write(&text[..n], &mut out[at..]);
+    let written = terminals::write(&text[..n], &mut out[at..]);
     behind(written, at, out)
 }
 

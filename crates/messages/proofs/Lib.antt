@@ -1,6 +1,4 @@
 mod Decimals
-mod Reading
-mod Showing
 mod Lines
 mod Objects
 mod OneLines
