@@ -6,6 +6,7 @@ packages=(
   librust-serde-json-dev                                  # strings and JSON8
   libsimdjson-dev rapidjson-dev libyajl-dev libcjson-dev  # JSON8
   g++ binutils                                            # compile the C and C++ ones
+  gcc clang                                               # compile the C file
   valgrind                                                # counts instructions
 )
 

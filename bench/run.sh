@@ -1,9 +1,11 @@
 #!/usr/bin/env bash
-# The whole benchmark: builds of several code layouts, their times, the instructions, and from these docs/BENCHMARKS.md and docs/plots.
+# The whole benchmark: the C file, builds of several code layouts, their times, the instructions, and from these docs/BENCHMARKS.md and docs/plots.
 # J8_ROUNDS: rounds for each layout (120). J8_LAYOUTS: how many (12). J8_DOCS: another folder for document and plots.
 set -eu
 docs=$(realpath -m "${J8_DOCS:-$(dirname "$0")/../docs}")
 cd "$(dirname "$0")"
+
+make --no-print-directory -C .. portable
 
 rounds=${J8_ROUNDS:-120}
 layouts=${J8_LAYOUTS:-12}

@@ -1,7 +1,8 @@
 //! Reading settings backups, plain JSON texts all, to a node table, beside the
 //! reference, serde_json and the C and C++ peers.
 
-use super::race::{keep, Call, Case, Plan, OURS};
+use super::library::libraries;
+use super::race::{keep, Call, Case, Plan};
 use super::texts::{kind, texts_of, LIMIT};
 use serde::de::IgnoredAny;
 use serde_json::Value;
@@ -47,21 +48,6 @@ const PEERS: [Peer; 0] = [];
 
 /// simdjson reads up to so many bytes behind a text.
 const BEHIND: usize = 64;
-
-/// Ours through the C interface itself.
-fn ours(text: &[u8], table: &mut [u32], store: &mut [u8]) -> j8::raw::j8_nodes {
-    // SAFETY: all parts come from slices that don't overlap.
-    unsafe {
-        j8::raw::j8_json8_read(
-            text.as_ptr(),
-            text.len(),
-            table.as_mut_ptr(),
-            table.len(),
-            store.as_mut_ptr(),
-            store.len(),
-        )
-    }
-}
 
 /// The peers' names, in their order.
 const PEER_NAMES: [&str; 5] = ["yajl", "cJSON", "RapidJSON", "RapidJSON+UTF-8", "simdjson"];
@@ -113,12 +99,20 @@ pub fn case(plan: Plan) -> Case {
     // All must take the texts, and see the same nodes.
     let mut nodes = 0;
     for text in texts {
-        let got = ours(text.bytes(), &mut table, &mut store);
-        assert_eq!(got.number, 0);
-        let filled = j8_reference::json8::read(text.bytes(), &mut their_table, &mut their_store)
+        their_table.fill(0);
+        their_store.fill(0);
+        let got = j8_reference::json8::read(text.bytes(), &mut their_table, &mut their_store)
             .expect("the reference takes the text");
-        assert_eq!((filled.nodes, filled.stored), (got.nodes, got.stored));
-        assert!(table == their_table && store == their_store);
+        for (_, library) in libraries() {
+            let filled = library.json8_read(text.bytes(), &mut table, &mut store);
+            assert_eq!(
+                (filled.number, filled.nodes, filled.stored),
+                (0, got.nodes, got.stored)
+            );
+            assert!(table == their_table && store == their_store);
+            table.fill(0);
+            store.fill(0);
+        }
         let value: Value = serde_json::from_slice(text.bytes()).expect("the text is JSON");
         assert_eq!(nodes_of(&value), got.nodes);
         for peer in PEERS {
@@ -128,24 +122,23 @@ pub fn case(plan: Plan) -> Case {
     }
     assert!(!kind(plan.kind).dense() || bytes <= NODE_BYTES * nodes);
 
-    let mut calls: Vec<(&'static str, Call)> = vec![
-        (
-            OURS,
+    let mut calls: Vec<(&'static str, Call)> = Vec::new();
+    for (who, library) in libraries() {
+        let (mut table, mut store) = (table.clone(), store.clone());
+        calls.push((
+            who,
             in_turn(texts, move |text| {
-                black_box(ours(
-                    text.bytes(),
-                    black_box(&mut table),
-                    black_box(&mut store),
-                ));
+                let (table, store) = (black_box(&mut table), black_box(&mut store));
+                black_box(library.json8_read(text.bytes(), table, store));
             }),
-        ),
-        (
-            "Value",
-            in_turn(texts, |text| {
-                let _ = black_box(serde_json::from_slice::<Value>(text.bytes()));
-            }),
-        ),
-    ];
+        ));
+    }
+    calls.push((
+        "Value",
+        in_turn(texts, |text| {
+            let _ = black_box(serde_json::from_slice::<Value>(text.bytes()));
+        }),
+    ));
     for (name, peer) in PEER_NAMES.into_iter().zip(PEERS) {
         calls.push((
             name,

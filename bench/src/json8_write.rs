@@ -1,7 +1,8 @@
 //! Writing the tables of the reader's settings backups, beside the reference,
 //! serde_json and the C and C++ peers.
 
-use super::race::{keep, Call, Case, Plan, OURS};
+use super::library::{libraries, ARCHIVE};
+use super::race::{keep, Call, Case, Plan};
 use super::texts::texts_of;
 use serde_json::Value;
 use std::ffi::{c_char, c_void, CStr};
@@ -93,24 +94,6 @@ fn same(one: &Value, other: &Value) -> bool {
     }
 }
 
-/// Ours through the C interface itself.
-fn ours(nodes: j8::Nodes, out: &mut [u8]) -> j8::raw::j8_result {
-    let (table, text, store) = (nodes.table(), nodes.text(), nodes.store());
-    // SAFETY: all parts come from slices that don't overlap.
-    unsafe {
-        j8::raw::j8_json8_write(
-            table.as_ptr(),
-            table.len(),
-            text.as_ptr(),
-            text.len(),
-            store.as_ptr(),
-            store.len(),
-            out.as_mut_ptr(),
-            out.len(),
-        )
-    }
-}
-
 fn reference(nodes: j8::Nodes, out: &mut [u8]) -> usize {
     let (table, text, store) = (nodes.table(), nodes.text(), nodes.store());
     j8_reference::json8::write(table, text, store, out).expect("what was read is fit")
@@ -125,19 +108,23 @@ pub fn case(plan: Plan) -> Case {
     let value: Value = serde_json::from_slice(text).expect("the text is JSON");
     // Six for each node and byte suffice for any table, so nobody has to measure.
     let room = 6 * (nodes.len() + text.len() + nodes.store().len());
-    let (mut our_out, mut their_out) = (vec![0; room], vec![0; room]);
+    let mut out = vec![0; room];
     let mut serde_out = Vec::new();
     let mut trees = PEERS.map(|peer| Tree::new(peer, text));
 
     // All must write JSON that says the same.
-    let put = ours(nodes, &mut our_out);
-    assert_eq!(put.number, 0);
-    let written = our_out[..put.length].to_vec();
+    let length = reference(nodes, &mut out);
+    let written = out[..length].to_vec();
     let mut exact_out = vec![0; written.len()];
-    assert_eq!(ours(nodes, &mut exact_out), put);
-    assert!(exact_out == written);
-    let length = reference(nodes, &mut their_out);
-    assert!(their_out[..length] == written);
+    for (_, library) in libraries() {
+        out.fill(0);
+        exact_out.fill(0);
+        for room in [&mut out, &mut exact_out] {
+            let put = library.json8_write(nodes, room);
+            assert_eq!((put.number, put.length), (0, length));
+            assert!(room[..length] == written);
+        }
+    }
     serde_json::to_writer(&mut serde_out, &value).expect("a vector takes all");
     let mut texts = vec![written.clone(), serde_out.clone()];
     texts.extend(trees.iter_mut().map(Tree::text));
@@ -149,22 +136,24 @@ pub fn case(plan: Plan) -> Case {
     let back = j8::Json8::read(written.as_slice()).expect("our reader takes what we write");
     assert!(back.root().to_value() == nodes.root().to_value());
 
-    let mut calls: Vec<(&'static str, Call)> = vec![
-        (
-            OURS,
+    let mut calls: Vec<(&'static str, Call)> = Vec::new();
+    for (who, library) in libraries() {
+        let mut out = out.clone();
+        calls.push((
+            who,
             Box::new(move || {
-                black_box(ours(black_box(nodes), black_box(&mut our_out)));
+                black_box(library.json8_write(black_box(nodes), black_box(&mut out)));
             }),
-        ),
-        (
-            "Value",
-            Box::new(move || {
-                serde_out.clear();
-                let _ = black_box(serde_json::to_writer(&mut serde_out, black_box(&value)));
-                black_box(&serde_out);
-            }),
-        ),
-    ];
+        ));
+    }
+    calls.push((
+        "Value",
+        Box::new(move || {
+            serde_out.clear();
+            let _ = black_box(serde_json::to_writer(&mut serde_out, black_box(&value)));
+            black_box(&serde_out);
+        }),
+    ));
     for (name, mut tree) in PEER_NAMES.into_iter().zip(trees) {
         calls.push((
             name,
@@ -176,13 +165,13 @@ pub fn case(plan: Plan) -> Case {
     calls.push((
         "reference",
         Box::new(move || {
-            black_box(reference(black_box(nodes), black_box(&mut their_out)));
+            black_box(reference(black_box(nodes), black_box(&mut out)));
         }),
     ));
     calls.push((
         "j8 exact",
         Box::new(move || {
-            black_box(ours(black_box(nodes), black_box(&mut exact_out)));
+            black_box(ARCHIVE.json8_write(black_box(nodes), black_box(&mut exact_out)));
         }),
     ));
     Case {

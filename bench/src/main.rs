@@ -3,6 +3,7 @@
 
 mod json8;
 mod json8_write;
+mod library;
 mod plot;
 mod race;
 mod report;

@@ -1,6 +1,7 @@
 //! docs/BENCHMARKS.md and its plots, from the times of all layouts and the
 //! counted instructions. No figure of the document stands anywhere else.
 
+use super::library::BUILDS;
 use super::plot::{self, bytes, Curve, Range, Row};
 use super::race::OURS;
 use super::upload::PACKET;
@@ -214,6 +215,21 @@ fn met(job: &Job, key: &Key, figures: &Figures) -> Option<(usize, usize)> {
     all.map(|all| (all.iter().filter(|good| **good).count(), all.len()))
 }
 
+/// The most that the C file may take by gcc -O2, as a multiple of the archive's time.
+fn most(job: &Job, key: &Key) -> f64 {
+    match (job.word, key.kind.as_str()) {
+        ("read" | "write", "plain") => 4.0,
+        _ => 2.0,
+    }
+}
+
+/// The same as `met` of the C file by gcc -O2.
+fn met_in_c(job: &Job, key: &Key, figures: &Figures) -> Option<(usize, usize)> {
+    let ratios = ratio(figures, BUILDS[0])?;
+    let good = |r: &&f64| **r <= most(job, key);
+    Some((ratios.iter().filter(good).count(), ratios.len()))
+}
+
 fn verdict(met: Option<(usize, usize)>) -> String {
     match met {
         None => "-".into(),
@@ -248,6 +264,23 @@ fn span(range: Range) -> String {
         cut(range.median),
         cut(range.least),
         cut(range.greatest)
+    )
+}
+
+/// The same of what may be at most so much: rounded up, so that 2.001 is not 2.00.
+fn up(value: f64) -> String {
+    match value {
+        v if v >= 10.0 => format!("{:.1}", (v * 10.0).ceil() / 10.0),
+        v => format!("{:.2}", (v * 100.0).ceil() / 100.0),
+    }
+}
+
+fn span_up(range: Range) -> String {
+    format!(
+        "{} ({}–{})",
+        up(range.median),
+        up(range.least),
+        up(range.greatest)
     )
 }
 
@@ -309,6 +342,66 @@ fn ratio_table(out: &mut String, job: &Job, rows: &Rows) {
     }
 }
 
+/// The C file's times as multiples of the archive's, and its instructions by gcc -O2.
+fn c_tables(out: &mut String, tables: &BTreeMap<String, Rows>, counted: &BTreeMap<String, Rows>) {
+    for job in &JOBS {
+        let _ = writeln!(out, "\n{}:\n", job.title);
+        let mut columns = vec!["text".to_string(), job.rows.into()];
+        columns.extend(BUILDS.map(String::from));
+        columns.push("mark, gcc -O2".into());
+        columns.push("instructions, gcc -O2".into());
+        head(out, &columns);
+        for (key, figures) in &tables[job.word] {
+            let mut cells = vec![key.kind.clone(), row_size(key)];
+            let over = |name: &&str| range(figures, name).map_or("-".into(), span_up);
+            cells.extend(BUILDS.iter().map(over));
+            let met = verdict(met_in_c(job, key, figures));
+            cells.push(format!("{:.0}: {met}", most(job, key)));
+            let counted = counted.get(job.word).into_iter().flatten();
+            let count = counted
+                .filter(|(k, _)| k == key)
+                .find_map(|(_, f)| ratio(f, BUILDS[0]));
+            cells.push(count.map_or("-".into(), |count| up(count[0])));
+            let _ = writeln!(out, "| {} |", cells.join(" | "));
+        }
+    }
+}
+
+/// A row for each job: how many of its rows keep the C file's mark.
+fn c_marks(out: &mut String, tables: &BTreeMap<String, Rows>) {
+    let columns = [
+        "job",
+        "rows",
+        "kept in every layout",
+        "in some",
+        "in none",
+        "most",
+    ];
+    head(out, &columns.map(String::from));
+    for job in &JOBS {
+        let (mut every, mut some, mut none, mut greatest) = (0, 0, 0, 0.0);
+        for (key, figures) in &tables[job.word] {
+            let Some((good, all)) = met_in_c(job, key, figures) else {
+                continue;
+            };
+            match good {
+                g if g == all => every += 1,
+                0 => none += 1,
+                _ => some += 1,
+            }
+            let range = range(figures, BUILDS[0]).expect("it was measured");
+            greatest = range.greatest.max(greatest);
+        }
+        let _ = writeln!(
+            out,
+            "| {} | {} | {every} | {some} | {none} | {} |",
+            job.title,
+            every + some + none,
+            up(greatest)
+        );
+    }
+}
+
 fn ratio_plot(job: &Job, rows: &Rows) -> String {
     let peers: Vec<&str> = job
         .peers
@@ -341,7 +434,7 @@ fn spread_table(out: &mut String, tables: &BTreeMap<String, Rows>) {
     );
     for job in &JOBS {
         let rows = &tables[job.word];
-        for name in [OURS].iter().chain(job.peers) {
+        for name in [OURS].iter().chain(job.peers).chain(&BUILDS) {
             let mut moved: Vec<(f64, String)> = Vec::new();
             for (key, figures) in rows {
                 if let Some(times) = figures.values.get(*name) {
@@ -489,7 +582,8 @@ fn machine(out: &mut String, facts: &BTreeMap<String, String>) {
         ("memory", after("/proc/meminfo", "MemTotal")),
         ("kernel", said("uname", &["-sr"])),
         ("Rust", said("rustc", &["--version"])),
-        ("C++", said("g++", &["--version"])),
+        ("C and C++", said("g++", &["--version"])),
+        ("clang", said("clang", &["--version"])),
         ("valgrind", said("valgrind", &["--version"])),
         ("serde_json", version("librust-serde-json-dev")),
         ("simdjson", version("libsimdjson-dev")),
@@ -623,6 +717,16 @@ pub fn write(folder: &Path, docs: &Path) {
         save(&format!("{}.svg", job.word), ratio_plot(job, rows));
     }
 
+    let (c_text, behind) = behind
+        .split_once("<!-- c marks -->")
+        .expect("a place for the marks of the C file");
+    let (c_tables_text, behind) = behind
+        .split_once("<!-- c tables -->")
+        .expect("a place for the tables of the C file");
+    out.push_str(&fill(c_text.trim_start()));
+    c_marks(&mut out, &tables);
+    out.push_str(&fill(c_tables_text));
+    c_tables(&mut out, &tables, &counted);
     let (counts_text, rest) = behind
         .split_once("<!-- counts -->")
         .expect("a place for the counts");
@@ -635,7 +739,7 @@ pub fn write(folder: &Path, docs: &Path) {
     let (machine_text, rest) = rest
         .split_once("<!-- machine -->")
         .expect("a place for the machine");
-    out.push_str(&fill(counts_text.trim_start()));
+    out.push_str(&fill(counts_text));
     count_tables(&mut out, &counted);
     out.push_str(&fill(curve_text));
     let of = |word: &str| &curves[word];

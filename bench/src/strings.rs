@@ -1,6 +1,7 @@
 //! Reading and writing J8 strings, beside serde_json and the reference.
 
-use super::race::{keep, Call, Case, Plan, OURS};
+use super::library::libraries;
+use super::race::{keep, Call, Case, Plan};
 use std::hint::black_box;
 
 pub const SIZES: [usize; 5] = [16, 64, 1_024, 8_192, LIMIT];
@@ -62,33 +63,28 @@ pub fn case(plan: Plan) -> Case {
 
 fn read(name: &'static [u8], text: &'static [u8]) -> Vec<(&'static str, Call)> {
     let mut out = vec![0; text.len()];
-    let length = j8::read(text, &mut out).expect("our reader takes the text");
-    assert_eq!(&out[..length], name);
     let length = j8_reference::read(text, &mut out).expect("the reference takes the text");
     assert_eq!(&out[..length], name);
 
-    let (mut our_out, mut their_out) = (out.clone(), out);
-    let mut calls: Vec<(&'static str, Call)> = vec![
-        (
-            OURS,
+    let mut calls: Vec<(&'static str, Call)> = Vec::new();
+    for (who, library) in libraries() {
+        let got = library.string_read(text, &mut out);
+        assert_eq!((got.number, &out[..got.length]), (0, name));
+        let mut out = out.clone();
+        calls.push((
+            who,
             Box::new(move || {
-                // Through the C interface itself.
-                let text = black_box(text);
-                let out = black_box(&mut our_out[..]);
-                // SAFETY: both parts come from slices that don't overlap.
-                black_box(unsafe {
-                    j8::raw::j8_string_read(text.as_ptr(), text.len(), out.as_mut_ptr(), out.len())
-                });
+                black_box(library.string_read(black_box(text), black_box(&mut out)));
             }),
-        ),
-        (
-            "reference",
-            Box::new(move || {
-                let out = black_box(&mut their_out[..]);
-                let _ = black_box(j8_reference::read(black_box(text), out));
-            }),
-        ),
-    ];
+        ));
+    }
+    calls.push((
+        "reference",
+        Box::new(move || {
+            let out = black_box(&mut out[..]);
+            let _ = black_box(j8_reference::read(black_box(text), out));
+        }),
+    ));
     if std::str::from_utf8(name).is_ok() {
         let theirs: String = serde_json::from_slice(text).expect("the text is JSON");
         assert_eq!(theirs.as_bytes(), name);
@@ -107,27 +103,25 @@ fn write(name: &'static [u8], text: &'static [u8]) -> Vec<(&'static str, Call)> 
     let length = j8_reference::write(name, &mut out).expect("the room suffices");
     assert_eq!(&out[..length], text);
 
-    let (mut our_out, mut their_out) = (out.clone(), out);
-    let mut calls: Vec<(&'static str, Call)> = vec![
-        (
-            OURS,
+    let mut calls: Vec<(&'static str, Call)> = Vec::new();
+    for (who, library) in libraries() {
+        let put = library.string_write(name, &mut out);
+        assert_eq!((put.number, &out[..put.length]), (0, text));
+        let mut out = out.clone();
+        calls.push((
+            who,
             Box::new(move || {
-                let name = black_box(name);
-                let out = black_box(&mut our_out[..]);
-                // SAFETY: both parts come from slices that don't overlap.
-                black_box(unsafe {
-                    j8::raw::j8_string_write(name.as_ptr(), name.len(), out.as_mut_ptr(), out.len())
-                });
+                black_box(library.string_write(black_box(name), black_box(&mut out)));
             }),
-        ),
-        (
-            "reference",
-            Box::new(move || {
-                let out = black_box(&mut their_out[..]);
-                let _ = black_box(j8_reference::write(black_box(name), out));
-            }),
-        ),
-    ];
+        ));
+    }
+    calls.push((
+        "reference",
+        Box::new(move || {
+            let out = black_box(&mut out[..]);
+            let _ = black_box(j8_reference::write(black_box(name), out));
+        }),
+    ));
     if let Ok(name) = std::str::from_utf8(name) {
         let mut serde_out = Vec::new();
         serde_json::to_writer(&mut serde_out, name).expect("a vector takes all");

@@ -1,7 +1,8 @@
 //! Feeding a backup of J8 Lines in pieces, beside the reference and a plain
 //! loop over the whole text.
 
-use super::race::{keep, Case, Plan, OURS};
+use super::library::{libraries, Library};
+use super::race::{keep, Call, Case, Plan};
 use j8_reference::lines;
 use std::hint::black_box;
 
@@ -66,34 +67,8 @@ impl Buffers {
 }
 
 /// A whole upload through the C interface itself. Gives the bytes used.
-fn ours(text: &[u8], piece: usize, buffers: &mut Buffers) -> usize {
-    let Buffers { line, out } = buffers;
-    // SAFETY: all parts come from slices that don't overlap.
-    unsafe {
-        let mut upload = j8::raw::j8_upload_fresh();
-        for piece in text.chunks(piece) {
-            let fed = j8::raw::j8_upload_feed(
-                upload,
-                piece.as_ptr(),
-                piece.len(),
-                line.as_mut_ptr(),
-                line.len(),
-                out.as_mut_ptr(),
-                out.len(),
-            );
-            assert_eq!(fed.answer.number, 0);
-            upload = fed.upload;
-        }
-        let fed = j8::raw::j8_upload_finish(
-            upload,
-            line.as_mut_ptr(),
-            line.len(),
-            out.as_mut_ptr(),
-            out.len(),
-        );
-        assert_eq!(fed.answer.number, 0);
-        fed.upload.used
-    }
+fn ours(library: &Library, text: &[u8], piece: usize, buffers: &mut Buffers) -> usize {
+    library.upload(text, piece, &mut buffers.line, &mut buffers.out)
 }
 
 /// A whole upload by the reference.
@@ -127,11 +102,14 @@ fn plain(text: &[u8], out: &mut Vec<u8>) {
 /// the plain loop has where the names are bare.
 fn agree(text: &[u8], quoted: bool, piece: usize) {
     let (mut ours_in, mut theirs_in) = (Buffers::new(), Buffers::new());
-    let used = ours(text, PACKET, &mut ours_in);
-    assert_eq!(used, reference(text, PACKET, &mut theirs_in));
-    assert!(ours_in.out[..used] == theirs_in.out[..used]);
-    assert_eq!(used, ours(text, piece, &mut theirs_in));
-    assert!(ours_in.out[..used] == theirs_in.out[..used]);
+    let used = reference(text, PACKET, &mut theirs_in);
+    for (_, library) in libraries() {
+        for piece in [PACKET, piece] {
+            ours_in.out.fill(0);
+            assert_eq!(used, ours(&library, text, piece, &mut ours_in));
+            assert!(ours_in.out[..used] == theirs_in.out[..used]);
+        }
+    }
     let mut copied = Vec::new();
     plain(text, &mut copied);
     let names = j8::Records::new(&ours_in.out[..used]);
@@ -148,35 +126,34 @@ pub fn case(plan: Plan) -> Case {
     agree(text, quoted, plan.piece);
     let text = text.as_slice();
     let piece = plan.piece;
-    let (mut our_lent, mut their_lent) = (Buffers::new(), Buffers::new());
+    let mut calls: Vec<(&'static str, Call)> = Vec::new();
+    for (who, library) in libraries() {
+        let mut lent = Buffers::new();
+        calls.push((
+            who,
+            Box::new(move || {
+                black_box(ours(&library, black_box(text), piece, black_box(&mut lent)));
+            }),
+        ));
+    }
+    let mut lent = Buffers::new();
+    calls.push((
+        "reference",
+        Box::new(move || {
+            black_box(reference(black_box(text), piece, black_box(&mut lent)));
+        }),
+    ));
     let mut copied = Vec::with_capacity(j8::UPLOAD_OUTPUT_MAX);
+    calls.push((
+        "loop",
+        Box::new(move || {
+            plain(black_box(text), &mut copied);
+            black_box(&copied);
+        }),
+    ));
     Case {
         plan,
         bytes: text.len(),
-        contestants: vec![
-            (
-                OURS,
-                Box::new(move || {
-                    black_box(ours(black_box(text), piece, black_box(&mut our_lent)));
-                }),
-            ),
-            (
-                "reference",
-                Box::new(move || {
-                    black_box(reference(
-                        black_box(text),
-                        piece,
-                        black_box(&mut their_lent),
-                    ));
-                }),
-            ),
-            (
-                "loop",
-                Box::new(move || {
-                    plain(black_box(text), &mut copied);
-                    black_box(&copied);
-                }),
-            ),
-        ],
+        contestants: calls,
     }
 }
