@@ -14,6 +14,7 @@ os.chdir(ROOT)
 MADE = "target/portable"
 FOLDER = MADE + "/faults"
 TOOLS = FOLDER + "/tools"
+CALLS = MADE + "/faults-calls"
 WARNED = "-std=c99 -O1 -Wall -Wextra -Wconversion -Werror -pedantic -Iinclude".split()
 
 # What, the file, what stands there once, and what stands there then.
@@ -47,7 +48,7 @@ FAULTS = [
     ("keys one off", "forms.py", 'w.line("case %d:" % key)', 'w.line("case %d:" % (key + 1))'),
     ("an exit to the next block out", "translate.py", "self.targets[-1 - n][1] = True\n        return self.targets[-1 - n][0]", "n = min(n + 1, len(self.targets) - 1)\n        self.targets[-1 - n][1] = True\n        return self.targets[-1 - n][0]"),
     ("a call whose result is dropped", "forms.py", 'w.line(made if types[0] == Unit() else', 'w.line(made if types[0] in (Unit(), Bool()) else'),
-    ("the operands of a call turned round", "forms.py", '", ".join(value.text for value in values)))\n    w.line', '", ".join(value.text for value in values[::-1])))\n    w.line'),
+    ("the operands of a call turned round", "forms.py", '", ".join(value.text for value in values))\n    w.line', '", ".join(value.text for value in values[::-1]))\n    w.line'),
     ("a load one element on", "forms.py", 'return Value("*" + spot.text, spot.type.to', 'return Value("1[" + spot.text + "]", spot.type.to'),
     ("a store one element on", "forms.py", 'target = Value("*" + target.text, target.type.to)', 'target = Value("1[" + target.text + "]", target.type.to)'),
     ("the length of a slice one less", "forms.py", 'return Value(spot.text + ".len", Int(64), "", spot.checks)', 'return Value("(%s.len - (%s.len > 700))" % (spot.text, spot.text), Int(64), "", spot.checks)'),
@@ -56,7 +57,7 @@ FAULTS = [
     ("usize in 32 bits", "shapes.py", 'return "uint%d_t" % ty.width', 'return "uint%d_t" % min(ty.width, 32)'),
     ("constants in 32 bits", "forms.py", 'return Value("UINT%d_C(%d)" % (width, value), ty)', 'return Value("UINT%d_C(%d)" % (width, value % 2**32), ty)'),
     ("a table that repeats a row", "translate.py", 'numbers[at : at + 16]', 'numbers[at % 240 : at % 240 + 16]'),
-    ("NULL handed on", "header.py", '{ %s_len != 0 ? %s : &no_u%d, %s_len }" % (shapes.name(ty), own, own, ty.of.width, own)', '{ %s, %s_len }" % (shapes.name(ty), own, own)'),
+    ("NULL handed on", "header.py", '{ %s_len != 0 ? %s : &no_u%d, %s_len }" % (shapes.name(ty), own, own, ty.of.width, own)', '{ %s_len != 0 || no_u%d == 0 ? %s : &no_u%d, %s_len }" % (shapes.name(ty), own, ty.of.width, own, ty.of.width, own)'),
     ("an answer's number in 16 bits", "header.py", 'lines.append("    %s.%s = (size_t)%s.%s;"', 'lines.append("    %s.%s = (uint16_t)%s.%s;"'),
     ("an answer's first field twice", "header.py", 'lines.append("    %s.%s = %s.%s;" % (to, name, of, name))', 'lines.append("    %s.%s = %s.%s;" % (to, name, of, "number" if name == "stored" else name))'),
     ("a parameter's length as its neighbour's", "header.py", ": &no_u%d, %s_len }\" % (shapes.name(ty), own, own, ty.of.width, own)", ": &no_u%d, %s_len }\" % (shapes.name(ty), own, own, ty.of.width, \"text\" if own == \"store\" else own)"),
@@ -71,7 +72,7 @@ def answers(program, calls):
     """What a program prints for calls, or nothing if it dies or doesn't end."""
     with open(calls, "rb") as given:
         try:
-            done = run([program], stdin=given, timeout=30)
+            done = run([program], stdin=given, timeout=20)
         except subprocess.TimeoutExpired:
             return b""
     return done.stdout if done.returncode == 0 else b""
@@ -89,7 +90,7 @@ def differs(name, compiler, options):
     if run(words).returncode != 0:
         return name + ", which doesn't compile it"
     for kind, said in (("vectors", "the vectors"), ("other", "calls beside the archive"), ("wide", "calls with numbers of 64 bits")):
-        if answers(program, "%s/%s.calls" % (MADE, kind)) != whole("%s/%s.answers" % (MADE, kind)):
+        if answers(program, "%s/%s.calls" % (CALLS, kind)) != whole("%s/%s.answers" % (CALLS, kind)):
             return said + ("" if name == "gcc" else ", " + name)
     return ""
 
@@ -144,6 +145,10 @@ def put_in(name, old, new):
 def main():
     only = sys.argv[1] if len(sys.argv) > 1 else ""
     found = missed = 0
+    os.makedirs(CALLS, exist_ok=True)
+    for kind in ("vectors", "other", "wide"):
+        for part in ("calls", "answers"):
+            shutil.copy("%s/%s.%s" % (MADE, kind, part), CALLS)
     for what, name, old, new in FAULTS:
         if only not in what:
             continue

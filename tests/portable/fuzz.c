@@ -1,5 +1,5 @@
 /*
- * libFuzzer's harness, one for each function: -DENTRY=string_read and so on. The
+ * libFuzzer's harness: -DENTRY=string_read and so on makes that of a function. The
  * fuzzer's bytes become one call, which is made by the C file under test and by
  * the archive, whose symbols are renamed to archive_j8_..; answers and all lent
  * bytes must be equal. Every part is allocated to its very length.
@@ -180,13 +180,10 @@ static void same_parts(part a, part b)
 
 /* ------------------------------------------------------------ the functions */
 
-#if defined ENTRY_string_read
 TEXT_ENTRY(string_read)
-#elif defined ENTRY_string_write
 TEXT_ENTRY(string_write)
-#elif defined ENTRY_lines_write
 TEXT_ENTRY(lines_write)
-#elif defined ENTRY_sentence
+
 static void sentence(void)
 {
     uint32_t which = number();
@@ -200,7 +197,7 @@ static void sentence(void)
     same_parts(a, b);
 #endif
 }
-#elif defined ENTRY_json8_read
+
 static void json8_read(void)
 {
     size_t nodes = two(), store = two();
@@ -220,7 +217,7 @@ static void json8_read(void)
     free(text.at);
 #endif
 }
-#elif defined ENTRY_json8_write
+
 static void json8_write(void)
 {
     size_t room = two();
@@ -244,7 +241,7 @@ static void json8_write(void)
     free(store.at);
 #endif
 }
-#elif defined ENTRY_json8_show
+
 static void json8_show(void)
 {
     size_t node = number();
@@ -267,7 +264,7 @@ static void json8_show(void)
     free(store.at);
 #endif
 }
-#elif defined ENTRY_upload
+
 /* A state by hand: small numbers, and for the two with great limits some about these. */
 static j8_upload by_hand(void)
 {
@@ -299,14 +296,32 @@ static void same_state(j8_upload a, j8_upload b)
 }
 #endif
 
-/* 0: a finish. 1: used set to 0. 2: a state by hand. 255: a feed of the next two bytes' count. Else a feed of so many bytes. */
+/* The output's room, and the line buffer's length. Then calls: 0 a finish, 1 used set to 0, 2 a state by hand, 255 a feed of the next two bytes' count, else a feed of
+   three bytes less than it says. */
+static size_t out_room, held;
+
+static void lengths(void)
+{
+    size_t kind;
+
+    out_room = two();
+    kind = one();
+    held = kind < 8 ? J8_LINE_ROOM - 4 + kind : J8_LINE_ROOM;
+}
+
+static part piece_of(size_t op)
+{
+    return bytes(op == 255 ? two() : op - 3);
+}
+
+#ifdef PRINT
 static void upload(void)
 {
-    size_t room = two(), op = one(), held = op < 8 ? J8_LINE_ROOM - 4 + op : J8_LINE_ROOM;
-#ifdef PRINT
+    size_t op;
     part piece;
 
-    printf("upload %lu %lu", (unsigned long)held, (unsigned long)room);
+    lengths();
+    printf("upload %lu %lu", (unsigned long)held, (unsigned long)out_room);
     while (at < end) {
         op = one();
         if (op < 2) {
@@ -314,16 +329,44 @@ static void upload(void)
         } else if (op == 2) {
             print_state(by_hand());
         } else {
-            piece = bytes(op == 255 ? two() : op - 3);
+            piece = piece_of(op);
             printf(" F");
             print_bytes(&piece);
         }
     }
     putchar('\n');
+}
 #else
-    part line[2] = { lend(held, 1, 0xaa), lend(held, 1, 0xaa) }, out[2] = { lend(room, 1, 0xbb), lend(room, 1, 0xbb) }, piece;
+static part line[2], out[2];
+
+/* A finish, or a feed, by both. */
+static void call_both(size_t op, j8_fed *a, j8_fed *b)
+{
+    part piece;
+
+    if (op == 0) {
+        *a = j8_upload_finish(a->upload, line[0].at, held, out[0].at, out_room);
+        *b = archive_j8_upload_finish(b->upload, line[1].at, held, out[1].at, out_room);
+    } else {
+        piece = piece_of(op);
+        *a = j8_upload_feed(a->upload, piece.at, piece.count, line[0].at, held, out[0].at, out_room);
+        *b = archive_j8_upload_feed(b->upload, piece.at, piece.count, line[1].at, held, out[1].at, out_room);
+        free(piece.at);
+    }
+    same_state(a->upload, b->upload);
+    need(a->answer.number == b->answer.number && a->answer.line == b->answer.line && a->answer.place == b->answer.place);
+}
+
+static void upload(void)
+{
+    size_t op, i;
     j8_fed a, b;
 
+    lengths();
+    for (i = 0; i < 2; i++) {
+        line[i] = lend(held, 1, 0xaa);
+        out[i] = lend(out_room, 1, 0xbb);
+    }
     a.upload = j8_upload_fresh();
     b.upload = archive_j8_upload_fresh();
     same_state(a.upload, b.upload);
@@ -331,37 +374,50 @@ static void upload(void)
         op = one();
         if (op == 1) {
             a.upload.used = b.upload.used = 0;
-            continue;
-        }
-        if (op == 2) {
+        } else if (op == 2) {
             a.upload = b.upload = by_hand();
-            continue;
-        }
-        if (op == 0) {
-            a = j8_upload_finish(a.upload, line[0].at, held, out[0].at, room);
-            b = archive_j8_upload_finish(b.upload, line[1].at, held, out[1].at, room);
         } else {
-            piece = bytes(op == 255 ? two() : op - 3);
-            a = j8_upload_feed(a.upload, piece.at, piece.count, line[0].at, held, out[0].at, room);
-            b = archive_j8_upload_feed(b.upload, piece.at, piece.count, line[1].at, held, out[1].at, room);
-            free(piece.at);
+            call_both(op, &a, &b);
         }
-        same_state(a.upload, b.upload);
-        need(a.answer.number == b.answer.number && a.answer.line == b.answer.line && a.answer.place == b.answer.place);
     }
     same_parts(line[0], line[1]);
     same_parts(out[0], out[1]);
-#endif
 }
-#else
-#error "name a function by -DENTRY_string_read or so, and -DENTRY=string_read"
 #endif
+
+/* ----------------------------------------------------------- the one asked */
+
+#define QUOTED(name) #name
+#define ASKED(name) QUOTED(name)
+
+static void make_call(const uint8_t *data, size_t size)
+{
+    static const struct {
+        const char *name;
+        void (*call)(void);
+    } entries[] = {
+        { "string_read", string_read }, { "string_write", string_write }, { "lines_write", lines_write }, { "sentence", sentence },
+        { "json8_read", json8_read }, { "json8_write", json8_write }, { "json8_show", json8_show }, { "upload", upload },
+    };
+    size_t i;
+
+    at = data;
+    end = data + size;
+    for (i = 0; i < sizeof entries / sizeof entries[0]; i++) {
+        if (strcmp(entries[i].name, ASKED(ENTRY)) == 0) {
+            entries[i].call();
+            return;
+        }
+    }
+    abort();
+}
 
 #ifdef PRINT
 int main(int argc, char **argv)
 {
     static uint8_t all[1 << 20];
     FILE *file;
+    size_t size;
     int i;
 
     for (i = 1; i < argc; i++) {
@@ -370,10 +426,9 @@ int main(int argc, char **argv)
             perror(argv[i]);
             return 1;
         }
-        at = all;
-        end = all + fread(all, 1, sizeof all, file);
+        size = fread(all, 1, sizeof all, file);
         fclose(file);
-        ENTRY();
+        make_call(all, size);
     }
     return 0;
 }
@@ -382,9 +437,7 @@ int LLVMFuzzerTestOneInput(const uint8_t *data, size_t size);
 
 int LLVMFuzzerTestOneInput(const uint8_t *data, size_t size)
 {
-    at = data;
-    end = data + size;
-    ENTRY();
+    make_call(data, size);
     return 0;
 }
 #endif

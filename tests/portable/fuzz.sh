@@ -21,8 +21,8 @@ clang "${sanitized[@]}" -fsanitize=fuzzer-no-link -c target/portable/j8.c -o $fo
 fuzz() {
   local name=$1 own=$folder/$1
   mkdir -p "$own/found" "$own/small"
-  clang "${sanitized[@]}" -fsanitize=fuzzer -DENTRY="$name" "-DENTRY_$name" tests/portable/fuzz.c $folder/j8.o $folder/libarchive.a -o "$own/fuzz" || return 1
-  gcc -std=c99 -O1 -Iinclude -DPRINT -DENTRY="$name" "-DENTRY_$name" tests/portable/fuzz.c -o "$own/print" || return 1
+  clang "${sanitized[@]}" -fsanitize=fuzzer -DENTRY="$name" tests/portable/fuzz.c $folder/j8.o $folder/libarchive.a -o "$own/fuzz" || return 1
+  gcc -std=c99 -O1 -Iinclude -DPRINT -DENTRY="$name" tests/portable/fuzz.c -o "$own/print" || return 1
   "$own/fuzz" -max_total_time="$seconds" -max_len=2500 -dict=tests/portable/fuzz.dict -artifact_prefix="$own/" -print_final_stats=1 "$own/found" >"$own/log" 2>&1 || {
     tail -n 30 "$own/log"
     return 1

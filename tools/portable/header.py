@@ -20,8 +20,9 @@ class Header:
         self.version = re.search(r'^#define J8_VERSION "(.*)"$', text, re.M).group(1)
         text = re.sub(r"/\*.*?\*/", "", text, flags=re.S)
         text = re.sub(r"^#.*(\\\n.*)*$", "", text, flags=re.M)
-        self.structs = {name: [tuple(one.split()) for one in body.split(";") if one.strip()] for body, name in re.findall(r"typedef struct \{([^}]*)\} (\w+);", text)}
-        self.functions = {}
+        self.structs, self.functions = {}, {}
+        for body, name in re.findall(r"typedef struct \{([^}]*)\} (\w+);", text):
+            self.structs[name] = [tuple(one.split()) for one in body.split(";") if one.strip()]
         for result, name, params in re.findall(r"^(\w+) (j8_\w+)\(([^)]*)\);", text, re.M):
             listed = [] if params == "void" else [re.sub(r"\s+", " ", one.strip()) for one in params.split(",")]
             self.functions[name] = (result, [re.fullmatch(r"(.*?)(\w+)", one).groups() for one in listed])

@@ -214,7 +214,9 @@ class File:
             wrappers.append(with_name(name, lambda: self.header.wrapper(self.shapes, self.sources, name, self.functions[symbol])))
         names = [c_name(symbol) for symbol in self.functions] + list(self.shapes.made) + list(self.header.functions)
         need(len(set(names)) == len(names), "two things of one name in C")
-        made = [HEAD % {"version": self.header.version}, "\n".join(self.shapes.made.values()), "\n".join(self.constants), "\n".join(HELPERS[one] for one in sorted(self.helpers)), "".join(heads), "\n".join(bodies + wrappers)]
+        types, helpers = self.shapes.made.values(), [HELPERS[one] for one in sorted(self.helpers)]
+        made = [HEAD % {"version": self.header.version}, "\n".join(types), "\n".join(self.constants), "\n".join(helpers), "".join(heads)]
+        made.append("\n".join(bodies + wrappers))
         return "\n".join(one for one in made if one)
 
 
