@@ -30,7 +30,7 @@ pub const LINES: u32 = 16;
 
 pub const NUL: u32 = 32;
 
-// What can be wrong with the words: the lines of `reports::FAULTS`.
+// What can be wrong with the words: the lines of `reports::put_fault`.
 pub const NO_COMMAND: usize = 1;
 
 pub const NO_OPTION: usize = 2;

@@ -103,83 +103,49 @@ fn end_of(o: Options) -> u8 {
     b'\n'
 }
 
-enum Way {
-    Whole,
-    Pieces(Job),
+// What is to be done: nothing more, or to read an input whole or in pieces.
+enum Plan {
+    Ended(Outcome),
+    Whole(i32),
+    Pieces(i32, Job),
 }
 
-fn way_of(command: Command, o: Options) -> Way {
+fn in_names(o: Options) -> bool {
+    o.flags & (arguments::LINES | arguments::NUL) != 0
+}
+
+fn plan_input(command: Command, o: Options, fd: i32) -> Plan {
     match command {
-        Command::Lines => Way::Pieces(Job::List),
+        Command::Lines => Plan::Pieces(fd, Job::List),
         Command::Quote => {
-            if o.flags & (arguments::LINES | arguments::NUL) == 0 {
-                return Way::Whole;
+            if in_names(o) {
+                return Plan::Pieces(fd, Job::Quote(end_of(o)));
             }
-            Way::Pieces(Job::Quote(end_of(o)))
+            Plan::Whole(fd)
         }
         Command::Unquote => {
-            if o.flags & (arguments::LINES | arguments::NUL) == 0 {
-                return Way::Whole;
+            if in_names(o) {
+                return Plan::Pieces(fd, Job::Give(end_of(o)));
             }
-            Way::Pieces(Job::Give(end_of(o)))
+            Plan::Whole(fd)
         }
-        _ => Way::Whole,
+        _ => Plan::Whole(fd),
     }
 }
 
-// A command on an input that is open.
-fn run_input(
-    command: Command,
-    o: Options,
-    fd: i32,
-    terminal: bool,
-    text: &mut [u8],
-    table: &mut [u32],
-    store: &mut [u8],
-    out: &mut [u8],
-    page: &mut [u8],
-    shown: &mut [u8],
-) -> Run {
-    let way = way_of(command, o);
-    match way {
-        Way::Whole => run_whole(command, o, fd, terminal, text, table, store, page, shown),
-        Way::Pieces(job) => uploads::run(fd, o.size, terminal, job, text, store, out, page, shown),
-    }
-}
-
-fn run_file(
-    command: Command,
-    o: Options,
-    terminal: bool,
-    text: &mut [u8],
-    table: &mut [u32],
-    store: &mut [u8],
-    out: &mut [u8],
-    page: &mut [u8],
-    shown: &mut [u8],
-) -> Run {
+// A command that reads; the buffer is for the file's name.
+fn plan_file(command: Command, o: Options, path: &mut [u8]) -> Plan {
     if o.flags & arguments::HELP != 0 {
-        return outcomes::ended(help::print(command));
+        return Plan::Ended(help::print(command));
     }
     if o.fault != 0 {
-        return outcomes::ended(Outcome::Misused(o.fault, o.wrong));
+        return Plan::Ended(Outcome::Misused(o.fault, o.wrong));
     }
-    let opened = inputs::open(o.file, text);
+    let opened = inputs::open(o.file, path);
     match opened {
-        Opened::At(fd) => run_input(
-            command,
-            o,
-            fd,
-            terminal,
-            text,
-            table,
-            store,
-            out,
-            page,
-            shown,
-        ),
-        Opened::Misused(fault) => outcomes::ended(Outcome::Misused(fault, 0)),
-        Opened::Failed(error) => outcomes::ended(Outcome::Unread(error)),
+        Opened::At(fd) => plan_input(command, o, fd),
+        Opened::Misused(fault) => Plan::Ended(Outcome::Misused(fault, 0)),
+        Opened::Failed(error) => Plan::Ended(Outcome::Unread(error)),
     }
 }
 
@@ -189,6 +155,16 @@ fn run_help() -> Outcome {
     match command {
         Command::Unknown => Outcome::Misused(arguments::NO_COMMAND, 2),
         _ => help::print(command),
+    }
+}
+
+fn plan_command(command: Command, o: Options, path: &mut [u8]) -> Plan {
+    match command {
+        Command::Help => Plan::Ended(run_help()),
+        Command::Version => Plan::Ended(help::version()),
+        Command::Missing => Plan::Ended(help::missing()),
+        Command::Unknown => Plan::Ended(Outcome::Misused(arguments::NO_COMMAND, 1)),
+        _ => plan_file(command, o, path),
     }
 }
 
@@ -203,12 +179,21 @@ fn run(
     page: &mut [u8],
     shown: &mut [u8],
 ) -> Run {
-    match command {
-        Command::Help => outcomes::ended(run_help()),
-        Command::Version => outcomes::ended(help::version()),
-        Command::Missing => outcomes::ended(help::missing()),
-        Command::Unknown => outcomes::ended(Outcome::Misused(arguments::NO_COMMAND, 1)),
-        _ => run_file(command, o, terminal, text, table, store, out, page, shown),
+    let made = plan_command(command, o, text);
+    match made {
+        Plan::Ended(outcome) => outcomes::ended(outcome),
+        Plan::Whole(fd) => run_whole(command, o, fd, terminal, text, table, store, page, shown),
+        Plan::Pieces(fd, job) => uploads::run(
+            fd,
+            o.size,
+            terminal,
+            job,
+            text,
+            store,
+            out,
+            page,
+            shown,
+        ),
     }
 }
 

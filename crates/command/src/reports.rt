@@ -11,6 +11,7 @@ use crate::outputs;
 use crate::texts;
 use check::same;
 use messages::messages::Head;
+use prelude::limits::TEXT_MAX;
 use prelude::refusals;
 
 // An argument, quoted.
@@ -214,50 +215,22 @@ fn put_beside(number: u32, command: Command, at: usize, said: &mut [u8]) -> usiz
     }
 }
 
-fn put_refused(
-    number: u32,
-    place: usize,
-    size: usize,
-    command: Command,
-    text: &mut [u8],
-    table: &mut [u32],
-    store: &mut [u8],
-    said: &mut [u8],
-    line: &mut [u8],
-) -> usize {
-    if number == refusals::MISPLACED {
-        return misplaced::put(place, size, text, table, store, said, line);
-    }
+fn put_refused(number: u32, command: Command, said: &mut [u8]) -> usize {
     let a = texts::put_sentence(number, 0, said);
     put_beside(number, command, a, said)
 }
 
 fn put_outcome(
-    run: Run,
+    outcome: Outcome,
     command: Command,
     o: Options,
-    text: &mut [u8],
-    table: &mut [u32],
     store: &mut [u8],
     said: &mut [u8],
     line: &mut [u8],
 ) -> usize {
-    let outcome = run.outcome;
     match outcome {
         Outcome::Done => 0,
-        Outcome::Refused(number, _, place) => {
-            put_refused(
-                number,
-                place,
-                run.size,
-                command,
-                text,
-                table,
-                store,
-                said,
-                line,
-            )
-        }
+        Outcome::Refused(number, _, _) => put_refused(number, command, said),
         Outcome::Long(n) => put_long(n, said),
         Outcome::Mixed(n) => put_mixed(n, o, said),
         Outcome::Misused(fault, i) => put_misuse(fault, i, store, said, line),
@@ -304,7 +277,20 @@ fn say_mark(mark: usize, o: Options, said: &mut [u8], line: &mut [u8]) {
     say(Head::Note, c, o, said, line)
 }
 
-fn say_outcome(
+// The place of a refusal 13, or a place that no text has.
+fn misplaced_at(outcome: Outcome) -> usize {
+    match outcome {
+        Outcome::Refused(number, _, place) => {
+            if number == refusals::MISPLACED {
+                return place;
+            }
+            TEXT_MAX
+        }
+        _ => TEXT_MAX,
+    }
+}
+
+fn put_all(
     run: Run,
     command: Command,
     o: Options,
@@ -313,10 +299,19 @@ fn say_outcome(
     store: &mut [u8],
     said: &mut [u8],
     line: &mut [u8],
-) {
-    let n = put_outcome(run, command, o, text, table, store, said, line);
+) -> usize {
     let outcome = run.outcome;
-    say(head_of(outcome), n, o, said, line)
+    let place = misplaced_at(outcome);
+    if place < TEXT_MAX {
+        return misplaced::put(place, run.size, text, table, store, said, line);
+    }
+    put_outcome(outcome, command, o, store, said, line)
+}
+
+// What was put together, and a note behind it.
+fn say_last(outcome: Outcome, n: usize, mark: usize, o: Options, said: &mut [u8], line: &mut [u8]) {
+    say(head_of(outcome), n, o, said, line);
+    say_mark(mark, o, said, line)
 }
 
 // Says what there is to say, and answers the status.
@@ -333,8 +328,8 @@ pub(crate) fn report(
     ensures { λ r. ⌜ r ≤ 3 ⌝ }
 {
     say_empty(run.empty, o, said, line);
-    say_outcome(run, command, o, text, table, store, said, line);
-    say_mark(run.mark, o, said, line);
+    let n = put_all(run, command, o, text, table, store, said, line);
     let outcome = run.outcome;
+    say_last(outcome, n, run.mark, o, said, line);
     outcomes::status_of(outcome)
 }
