@@ -150,12 +150,12 @@ Cannot allocate memory
     )
 }
 
-// The input: the file's name, quoted.
+// The input: standard input, or the file's name, quoted.
 fn put_input(file: usize, store: &mut [u8], said: &mut [u8], line: &mut [u8]) -> usize {
-    let n = os::arg(file, store);
-    if os::errno() != 0 {
+    if file == 0 {
         return texts::put(b"standard input", 0, said);
     }
+    let n = os::arg(file, store);
     if same(&store[..n], b"-") {
         return texts::put(b"standard input", 0, said);
     }
