@@ -58,7 +58,7 @@ class Shell:
     def type(self, text):
         os.write(self.fd, text.encode())
 
-    def until(self, mark, seconds=20):
+    def until(self, mark, seconds=300):
         """What is printed up to a mark."""
         seen, end = "", time.time() + seconds
         while mark not in seen:

@@ -74,10 +74,11 @@ def read_errors():
     for kind in KINDS:
         failed_alike("%s of memory" % (kind,), *kind, "/proc/self/mem", names=b'"/proc/self/mem"', reason=b"Input/output error")
         descriptor = os.open(SAMPLES, os.O_RDONLY)
-        failed_alike("%s of a folder as standard input" % (kind,), *kind, stdin=descriptor, reason=b"Is a directory")
+        failed_alike("%s of a folder as standard input" % (kind,), *kind, stdin=descriptor, names=b"standard input", reason=b"Is a directory")
         os.close(descriptor)
         closed = subprocess.run(["sh", "-c", 'exec "$0" "$@" <&-', COMMAND, *kind], capture_output=True)
-        held.that(closed.returncode == 3 and closed.stdout == b"" and b"Bad file descriptor" in closed.stderr, "%s of a closed input" % (kind,), closed)
+        held.that(closed.returncode == 3 and closed.stdout == b"" and b"Bad file descriptor" in closed.stderr and b"standard input" in closed.stderr,
+                  "%s of a closed input" % (kind,), closed)
 
 
 def full():

@@ -29,7 +29,7 @@ def on_terminal(*words, text=b"", error=False):
     reader = threading.Thread(target=read)
     reader.start()
     other = subprocess.DEVNULL
-    done = subprocess.run([COMMAND, *words], input=text, stdout=other if error else theirs, stderr=theirs if error else other, timeout=60)
+    done = subprocess.run([COMMAND, *words], input=text, stdout=other if error else theirs, stderr=theirs if error else other, timeout=600)
     os.close(theirs)
     reader.join()
     os.close(ours)

@@ -47,7 +47,7 @@ def run(*words, text=b"", out=subprocess.PIPE, err=subprocess.PIPE, stdin=None, 
     """Runs the command with its input as bytes or from stdin, in the folder of the samples or another."""
     given = {"input": text} if stdin is None else {"stdin": stdin}
     change = limits(**changes) if changes else None
-    done = subprocess.run([command, *words], stdout=out, stderr=err, cwd=folder, env={"LC_ALL": "C"}, timeout=60, preexec_fn=change, **given)
+    done = subprocess.run([command, *words], stdout=out, stderr=err, cwd=folder, env={"LC_ALL": "C"}, timeout=600, preexec_fn=change, **given)
     return Run(done.returncode, done.stdout, done.stderr)
 
 
