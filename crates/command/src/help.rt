@@ -1,7 +1,7 @@
 // What the commands do.
-use crate::arguments::Command;
-use crate::outcomes::Outcome;
-use crate::outputs;
+use command_reports::outcomes::Outcome;
+use command_reports::outputs;
+use command_words::arguments::Command;
 use libc::STDERR_FILENO;
 use libc::STDOUT_FILENO;
 

@@ -1,28 +1,24 @@
 // The command `j8`: prints what a backup holds, or says why it is refused, and answers a status.
 ghost use Prim.Native.Nat.{_≤_};
 
-mod arguments;
 mod help;
-mod inputs;
-mod marks;
-mod misplaced;
-mod names;
-mod outcomes;
-mod outputs;
-mod pages;
 mod quoting;
-mod reports;
 mod tables;
-mod texts;
-mod uploads;
 
-use arguments::Command;
-use arguments::Options;
-use inputs::Filled;
-use inputs::Opened;
-use outcomes::Outcome;
-use outcomes::Run;
-use uploads::Job;
+use command_books::inputs;
+use command_books::inputs::Filled;
+use command_books::inputs::Opened;
+use command_books::marks;
+use command_books::uploads;
+use command_books::uploads::Job;
+use command_reports::outcomes;
+use command_reports::outcomes::Outcome;
+use command_reports::outcomes::Run;
+use command_reports::reports;
+use command_words::arguments;
+use command_words::arguments::Command;
+use command_words::arguments::Options;
+use command_words::texts;
 
 // A command on its whole input.
 fn run_text(

@@ -1,7 +1,7 @@
 // Any bytes to a J8 string and back, whole.
-use crate::outcomes::Outcome;
-use crate::outputs;
-use crate::texts;
+use command_reports::outcomes::Outcome;
+use command_reports::outputs;
+use command_words::texts;
 use messages::messages::Spot;
 use prelude::answers::Written;
 use prelude::limits::TEXT_MAX;

@@ -1,10 +1,10 @@
 // JSON8 backups: the written form, and the strings.
-use crate::outcomes::Outcome;
-use crate::outputs;
-use crate::pages;
-use crate::pages::Form;
-use crate::pages::Page;
-use crate::texts;
+use command_books::pages;
+use command_books::pages::Form;
+use command_books::pages::Page;
+use command_reports::outcomes::Outcome;
+use command_reports::outputs;
+use command_words::texts;
 use json8::answers::Parsed;
 use json8_read::read;
 use json8_show::show;

@@ -1,0 +1,3 @@
+// The words behind the command's name, and texts put together in a buffer.
+pub mod arguments;
+pub mod texts;
