@@ -142,7 +142,8 @@ static entry entries[] = {
 
 enum { STRING_READ, STRING_WRITE, FRESH, FEED, FINISH, LINES_WRITE, JSON8_READ, JSON8_WRITE, JSON8_SHOW, VERSION, SENTENCE };
 
-/* Twice, over two paints: a byte that is written as it was painted once isn't so the other time. More is painted than is allowed; whole
+/* Twice, over two paints: a byte that is written as it was painted once isn't so the other time. More is painted than is allowed, so a figure 8,192 above
+   its bound may stand for more; whole
    words are counted. */
 static void measure(int which)
 {
