@@ -27,12 +27,12 @@ transcript() {
   echo "-- status $ended"
 }
 
-# held NAME: standard input is what expected/NAME has.
+# held NAME: standard input is what expected/NAME has. It ends a pipe, and so in a shell of its own: whoever calls it fails.
 held() {
   if [ "${write:-}" = yes ]; then
     cat >"$here/expected/$1"
   else
-    diff "$here/expected/$1" - || fail "expected/$1 differs"
+    diff "$here/expected/$1" -
   fi
 }
 
@@ -43,7 +43,7 @@ for sample in samples/*; do
   case $sample in *.sh | *.expected) continue ;; esac
   for words in lines quote "quote --lines" "quote -0" unquote "unquote --lines" "unquote -0" json8 strings; do
     transcript $words "$sample"
-  done | held "${sample#samples/}"
+  done | held "${sample#samples/}" || fail "expected/${sample#samples/} differs"
 done
 
 # How a backup is cut makes no difference, nor whether it comes from a file or through a pipe that hands over what is there.
@@ -76,7 +76,7 @@ done
   transcript lines samples
   transcript quote - <samples/name.bin
   transcript quote --line samples/name.bin
-} | held words
+} | held words || fail "expected/words differs"
 {
   yes a | head -c 1048577 | transcript lines | tail -n 3
   head -c 32767 /dev/zero | tr '\0' a | transcript quote
@@ -85,12 +85,12 @@ done
   printf '"two\\u0000ends"\n' | transcript unquote -0
   # An unquoted key of one letter and its colon double.
   { printf '[{'; for i in $(seq 1 500); do printf 'a:1,'; done; printf "'"; head -c 30000 /dev/zero | tr '\0' '"'; printf "':1}]"; } | transcript json8
-} | held limits
+} | held limits || fail "expected/limits differs"
 for words in "lines samples/folders.j8l" "quote samples/name.bin" "unquote samples/name.j8" "json8 samples/settings.json8" "strings samples/settings.json8" help; do
   echo "\$ j8 $words >/dev/full"
   "$command" $words 2>&1 >/dev/full
   echo "-- status $?"
-done | held full
+done | held full || fail "expected/full differs"
 
 # The others look for more than a sample can show.
 for part in arguments files terminal names edges sentences; do

@@ -43,7 +43,7 @@ fn open_named(path: &[u8]) -> Opened {
 }
 
 // One read of at most so many bytes: what libc::read answers.
-pub fn read_some(fd: i32, size: usize, buf: &mut [u8]) -> isize {
+pub(crate) fn read_some(fd: i32, size: usize, buf: &mut [u8]) -> isize {
     let n = texts::within(size, buf);
     libc::read(fd, &mut buf[..n])
 }

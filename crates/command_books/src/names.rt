@@ -83,7 +83,7 @@ fn hold(l: Listing, part: &[u8], line: &mut [u8]) -> Listing {
 }
 
 // A part of the names, with at most one end, its last byte.
-pub fn take(
+pub(crate) fn take(
     l: Listing,
     job: Job,
     end: u8,
@@ -105,7 +105,7 @@ pub fn take(
 }
 
 // The last name, which may have no end, unless it is empty.
-pub fn finish(
+pub(crate) fn finish(
     l: Listing,
     job: Job,
     line: &[u8],

@@ -74,7 +74,7 @@ fn is_mixed(job: Job, payload: &[u8]) -> bool {
 }
 
 // A text put on the page under its line.
-pub fn put_on(
+pub(crate) fn put_on(
     l: Listing,
     job: Job,
     n: usize,
@@ -335,7 +335,7 @@ fn run_of(l: Listing, line: &[u8]) -> Run {
         outcome: outcome_of(l),
         size: 0,
         mark: mark_of(l, line),
-        empty: state.taken == 0 && !l.failed,
+        empty: state.taken == 0 && state.refusal == 0 && !l.failed,
     }
 }
 

@@ -39,7 +39,7 @@ fn put_or(first: usize, at: usize, said: &mut [u8]) -> usize {
     texts::put(b" or ", at, said)
 }
 
-// The k-th thing, if it could stand there. Each byte begins it and goes on no word or number before it.
+// The k-th thing, if it could stand there. Each byte begins it and goes on no word or number before it. A quote begins a key, and a value too.
 fn put_choice(
     k: usize,
     place: usize,
@@ -50,7 +50,10 @@ fn put_choice(
     store: &mut [u8],
     said: &mut [u8],
 ) -> usize {
-    let x = slices::byte_at(b"[a,:]}", 0, k);
+    if k == 1 && first < at {
+        return at;
+    }
+    let x = slices::byte_at(b"[\",:]}", 0, k);
     if !could(x, place, text, table, store) {
         return at;
     }
@@ -120,7 +123,7 @@ fn put_wrong(text: &[u8], place: usize, line: &mut [u8], said: &mut [u8]) -> usi
 }
 
 // The sentence, with what could stand at the place of a text of that size. The byte there is lost.
-pub fn put(
+pub(crate) fn put(
     place: usize,
     size: usize,
     text: &mut [u8],

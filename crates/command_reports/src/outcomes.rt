@@ -36,7 +36,7 @@ pub fn ended(outcome: Outcome) -> Run {
     }
 }
 
-pub fn status_of(outcome: Outcome) -> u32
+pub(crate) fn status_of(outcome: Outcome) -> u32
     ensures { λ r. ⌜ r ≤ 3 ⌝ }
 {
     match outcome {

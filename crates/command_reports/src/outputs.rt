@@ -34,7 +34,7 @@ pub fn ended(printed: bool) -> Outcome {
 }
 
 // A line on standard error. If that can't be written there is nobody to tell.
-pub fn say(head: Head, sentence: &[u8], json: bool, line: &mut [u8]) {
+pub(crate) fn say(head: Head, sentence: &[u8], json: bool, line: &mut [u8]) {
     let written = messages::messages::write(head, sentence, json, line);
     match written {
         Written::Wrote(n) => {
