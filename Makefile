@@ -11,7 +11,7 @@ STRICT = -O2 -Wall -Wextra -Werror -pedantic -Iinclude
 
 help:
 	@echo "make demo        the main job, on samples"
-	@echo "make test        the gate: every proof, wrong edit, test and example; 25 minutes on two cores"
+	@echo "make test        the gate: every proof, wrong edit, test and example; 40 minutes on two cores"
 	@echo "make archive     target/staticlib/libj8.a, for C and Rust"
 	@echo "make portable    target/portable/j8.c, the library as one C99 file for any processor"
 	@echo "make command     the command j8, target/bin/j8"
