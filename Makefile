@@ -1,5 +1,5 @@
 # `make` alone prints what there is to make.
-.PHONY: help test demo archive command examples portable portable-all fuzz install uninstall stack size axioms compare load faults limits bench clean
+.PHONY: help test demo archive command examples portable portable-all fuzz install uninstall stack size axioms compare load faults limits bench before clean
 # Two runs of rt would share target/.
 .NOTPARALLEL:
 
@@ -20,6 +20,7 @@ help:
 	@echo "make examples    the programs of examples/c"
 	@echo "make stack size  what the functions take"
 	@echo "make bench       their speed beside others: docs/BENCHMARKS.md"
+	@echo "make before BEFORE=FILE   their speed beside that of an earlier archive"
 	@echo "make axioms      what the proofs rest on"
 	@echo "make compare load faults fuzz limits portable-all   longer tests: docs/TESTING.md"
 	@echo "make clean       removes all that was built"
@@ -111,6 +112,10 @@ limits:
 bench: archive
 	bash bench/install.sh
 	bash bench/run.sh
+
+before: archive
+	bash bench/install.sh
+	bash bench/before.sh "$(BEFORE)"
 
 clean:
 	rm -rf target rust/target bench/target

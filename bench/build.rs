@@ -1,6 +1,7 @@
 //! Compiles the C and C++ peers if their packages are there, and the C file of
 //! this library by several compilers if `make portable` has written it; without
-//! them the benchmark runs with what is there. Every function has a section of
+//! them the benchmark runs with what is there. J8_BEFORE names another archive of
+//! this library, an earlier one, that runs beside. Every function has a section of
 //! its own, so that the linker can shuffle them.
 
 use std::path::{Path, PathBuf};
@@ -52,29 +53,51 @@ fn peers(folder: &Path) -> bool {
     runs(compile.arg(&object)) && link(folder, "peers", &[object])
 }
 
+/// Compiles a C file with the functions of j8.h under the names of a table.
+fn compile(source: &Path, object: &Path, (table, compiler, level): (&str, &str, &str)) -> bool {
+    let mut compile = Command::new(compiler);
+    compile.args([
+        "-std=c99",
+        level,
+        "-ffunction-sections",
+        "-fPIC",
+        "-I../include",
+    ]);
+    for function in FUNCTIONS {
+        compile.arg(format!("-Dj8_{function}={table}_j8_{function}"));
+    }
+    compile.arg(format!("-DTABLE={table}"));
+    runs(compile.arg("-c").arg(source).arg("-o").arg(object))
+}
+
 /// One build of the C file, with its table.
-fn build(folder: &Path, file: &Path, (table, compiler, level): (&str, &str, &str)) -> bool {
-    let object = |source: &str| folder.join(format!("{table}_{source}.o"));
-    let compiled = [(file, "j8"), (Path::new("src/library.c"), "library")].map(|(source, name)| {
-        let mut compile = Command::new(compiler);
-        compile.args([
-            "-std=c99",
-            level,
-            "-ffunction-sections",
-            "-fPIC",
-            "-I../include",
-        ]);
-        for function in FUNCTIONS {
-            compile.arg(format!("-Dj8_{function}={table}_j8_{function}"));
-        }
-        compile.arg(format!("-DTABLE={table}"));
-        runs(compile.arg("-c").arg(source).arg("-o").arg(object(name)))
-    });
-    compiled == [true; 2] && link(folder, table, &[object("j8"), object("library")])
+fn build(folder: &Path, file: &Path, one: (&str, &str, &str)) -> bool {
+    let object = |source: &str| folder.join(format!("{}_{source}.o", one.0));
+    let compiled = [(file, "j8"), (Path::new("src/library.c"), "library")]
+        .map(|(source, name)| compile(source, &object(name), one));
+    compiled == [true; 2] && link(folder, one.0, &[object("j8"), object("library")])
+}
+
+/// An archive with its functions under the names of a table, and the table.
+fn rename(folder: &Path, archive: &str, table: &str) -> bool {
+    let renamed = folder.join(format!("lib{table}_functions.a"));
+    let mut objcopy = Command::new("objcopy");
+    for function in FUNCTIONS {
+        objcopy.arg(format!(
+            "--redefine-sym=j8_{function}={table}_j8_{function}"
+        ));
+    }
+    let object = folder.join(format!("{table}_library.o"));
+    let made = runs(objcopy.arg(archive).arg(renamed))
+        && compile(Path::new("src/library.c"), &object, (table, "gcc", "-O2"))
+        && link(folder, table, &[object]);
+    println!("cargo:rustc-link-lib=static={table}_functions");
+    made
 }
 
 fn main() {
-    println!("cargo:rustc-check-cfg=cfg(peers, gcc, clang)");
+    println!("cargo:rustc-check-cfg=cfg(peers, gcc, clang, before)");
+    println!("cargo:rerun-if-env-changed=J8_BEFORE");
     let folder = std::env::var("OUT_DIR").expect("cargo sets OUT_DIR");
     println!("cargo:rustc-link-search=native={folder}");
     let folder = Path::new(&folder);
@@ -100,6 +123,14 @@ fn main() {
     }
     if built[2] {
         println!("cargo:rustc-cfg=clang");
+    }
+    if let Ok(archive) = std::env::var("J8_BEFORE") {
+        println!("cargo:rerun-if-changed={archive}");
+        assert!(
+            rename(folder, &archive, "before"),
+            "{archive} is an archive of this library"
+        );
+        println!("cargo:rustc-cfg=before");
     }
     if built != [true; 3] {
         println!(

@@ -1,5 +1,5 @@
-//! The C interface of the archive, and of the C file by each compiler: the same
-//! calls for all.
+//! The C interface of the archive, of the C file by each compiler, and of an
+//! earlier archive: the same calls for all.
 
 use super::race::OURS;
 use j8::raw::{j8_fed, j8_nodes, j8_result, j8_upload};
@@ -40,7 +40,10 @@ pub const ARCHIVE: Library = Library {
 /// The C file's builds, by compiler and options.
 pub const BUILDS: [&str; 3] = ["gcc -O2", "gcc -O3", "clang -O2"];
 
-/// The archive, and the builds that are there.
+/// The archive that J8_BEFORE named when this was built.
+pub const BEFORE: &str = "before";
+
+/// The archive, and the others that are there.
 pub fn libraries() -> Vec<(&'static str, Library)> {
     #[allow(unused_mut)]
     let mut all = vec![(OURS, ARCHIVE)];
@@ -60,6 +63,14 @@ pub fn libraries() -> Vec<(&'static str, Library)> {
         }
         // SAFETY: as above.
         all.push((BUILDS[2], unsafe { clang_o2 }));
+    }
+    #[cfg(before)]
+    {
+        extern "C" {
+            static before: Library;
+        }
+        // SAFETY: as above.
+        all.push((BEFORE, unsafe { before }));
     }
     all
 }

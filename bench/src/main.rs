@@ -210,6 +210,23 @@ fn measure(pass: usize) {
     }
 }
 
+/// The times of the archive and of the earlier one, a line each, raced alone.
+fn beside(pass: usize, wanted: &[String]) {
+    race::keep(std::hint::black_box([0u8; HEAP_SHIFT].repeat(pass)));
+    let rounds = rounds();
+    let among = |job: &&str| wanted.is_empty() || wanted.iter().any(|word| word == job);
+    for plan in JOBS.into_iter().filter(among).flat_map(plans) {
+        let mut case = case(plan);
+        case.contestants
+            .retain(|(name, _)| [OURS, library::BEFORE].contains(name));
+        assert_eq!(case.contestants.len(), 2, "J8_BEFORE names an archive");
+        let least = race_case(&mut case, rounds);
+        for ((name, _), time) in case.contestants.iter().zip(least) {
+            line("beside", plan, case.bytes, name, time);
+        }
+    }
+}
+
 /// Callgrind counts while this runs, and dumps what it counted when it ends.
 #[no_mangle]
 #[inline(never)]
@@ -248,8 +265,10 @@ fn count(words: &[String]) {
 
 fn main() {
     let words: Vec<String> = std::env::args().skip(1).collect();
+    let pass = || words.get(1).map_or(0, |pass| pass.parse().expect("a pass"));
     match words.first().map(String::as_str) {
-        Some("measure") => measure(words.get(1).map_or(0, |pass| pass.parse().expect("a pass"))),
+        Some("measure") => measure(pass()),
+        Some("beside") => beside(pass(), words.get(2..).unwrap_or_default()),
         Some("count") => count(&words[1..]),
         Some("report") => report::write(Path::new(&words[1]), Path::new(&words[2])),
         _ => tables(&words),

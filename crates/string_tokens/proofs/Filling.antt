@@ -210,19 +210,20 @@ module _ (s out : List ℕ) (at o : ℕ) where
         stored = w;
       }
 
-  pub front-none : at < length s → o < length out → getD s at 0 ≡ 0x5c → Fronted s at o out 0 out
-  front-none h f q =
-      record { bytes = []; inside = omega arith; known = omega arith; fits = omega arith; same = refl; clean = λ j i z. absurd (omega arith); none = λ z. q; stored = refl }
+  pub front-none : (b : ℕ) → at < length s → o < length out → b ≡ getD (drop at s) 0 0 → b ≡ 0x5c → Fronted s at o out 0 out
+  front-none b h f e q =
+      let n : getD s at 0 ≡ 0x5c = ap (λ (k : ℕ). getD s k 0) (omega arith) ∙ sym (getD-drop at s 0 0) ∙ sym e ∙ q in
+      record { bytes = []; inside = omega arith; known = omega arith; fits = omega arith; same = refl; clean = λ j i z. absurd (omega arith); none = λ z. n; stored = refl }
 
-  pub front-one : at < length s → o < length out → (getD s at 0 ≡ 0x5c → ⊥) → Fronted s at o out 1 (set out o (getD s at 0))
-  front-one h f q =
+  pub front-one : (b : ℕ) → at < length s → o < length out → b ≡ getD (drop at s) 0 0 → (b ≡ 0x5c → ⊥) → Fronted s at o out 1 (set out o b)
+  front-one b h f e q =
       record {
-        bytes = getD s at 0 ∷ [];
+        bytes = b ∷ [];
         inside = omega arith;
         known = omega arith;
         fits = omega arith;
-        same = rw (drop-cons s at 0 h) refl;
-        clean = λ j i z. let e : at + j ≡ at = omega arith in q (sym (ap (λ (k : ℕ). getD s k 0) e) ∙ z);
+        same = rw e (rw (drop-cons s at 0 h) refl);
+        clean = λ j i z. let d : at + j ≡ at + 0 = omega arith in q (e ∙ getD-drop at s 0 0 ∙ sym (ap (λ (k : ℕ). getD s k 0) d) ∙ z);
         none = λ z. absurd (omega arith);
         stored = refl;
       }

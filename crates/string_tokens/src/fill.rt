@@ -37,7 +37,8 @@ fn front(s: &[u8], at: usize, o: usize, out: &mut [u8]) -> usize
             return eights::place(a);
         }
     }
-    let b = s[at];
+    // By `byte_at`: a plain read of the first byte would be made before the tests above, and the copy of eight then by four parts.
+    let b = slices::byte_at(s, at, 0);
     if b == b'\\' {
         return 0;
     }

@@ -49,12 +49,12 @@ returns-2 : tie.Need-returns-2
 returns-2 c =
     front-eight (now (c .before .before .before .before .before .before .before .before .before .before .before .before .args .s)) (now (c .before .before .before .before .before .before .before .before .before .before .before .before .args .out)) _ _ _ _ (omega (arith, c .before .before .before .before .before .before .before .before .before .before .before .before .pre .0, c .before .before .before .before .before .before .before .before .before .if1 .taken)) (omega (arith, c .before .before .before .before .before .before .before .before .before .before .before .before .pre .1, c .before .before .before .before .before .before .before .before .if2 .taken)) (c .place .ensures (λ j. eqb (getD (now (c .before .before .before .before .before .before .before .before .before .before .before .before .args .s)) (c .before .before .before .before .before .before .before .before .before .before .before .before .args .at + j) 0) 0x5c) (c .before .before .slashes .ensures (λ j. getD (now (c .before .before .before .before .before .before .before .before .before .before .before .before .args .s)) (c .before .before .before .before .before .before .before .before .before .before .before .before .args .at + j) 0) (c .before .before .before .eight .ensures .1) (c .before .before .before .eight .ensures .0))) (c .before .before .before .before .before .before .copy .ensures)
 
-shared-slice-read-b : tie.Need-shared-slice-read-b
-shared-slice-read-b c = search needs
+byte-at-requires : tie.Need-byte-at-requires
+byte-at-requires c κs = search needs
 
 returns-3 : tie.Need-returns-3
 returns-3 c =
-    front-none (now (c .before .before .before .before .before .args .s)) (now (c .before .before .before .before .before .args .out)) _ _ (c .before .before .before .before .before .pre .0) (c .before .before .before .before .before .pre .1) (c .if4 .taken)
+    front-none (now (c .before .before .before .before .before .args .s)) (now (c .before .before .before .before .before .args .out)) _ _ _ (c .before .before .before .before .before .pre .0) (c .before .before .before .before .before .pre .1) (c .before .byte-at .ensures) (c .if4 .taken)
 
 slice-write-out : tie.Need-slice-write-out
 slice-write-out c = search needs
@@ -64,7 +64,7 @@ same-length-3 c = search needs
 
 returns-4 : tie.Need-returns-4
 returns-4 c =
-    front-one (now (c .before .before .before .before .before .args .s)) (now (c .before .before .before .before .before .args .out)) _ _ (c .before .before .before .before .before .pre .0) (c .before .before .before .before .before .pre .1) (c .if4 .left)
+    front-one (now (c .before .before .before .before .before .args .s)) (now (c .before .before .before .before .before .args .out)) _ _ _ (c .before .before .before .before .before .pre .0) (c .before .before .before .before .before .pre .1) (c .before .byte-at .ensures) (c .if4 .left)
 
 pub front-spec : {M : Type 1} → statement M
 front-spec =
@@ -80,7 +80,7 @@ front-spec =
     place-requires
     same-length-2
     returns-2
-    shared-slice-read-b
+    byte-at-requires
     returns-3
     slice-write-out
     same-length-3
