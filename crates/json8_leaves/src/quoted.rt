@@ -63,7 +63,7 @@ fn any_key(t: &[u8; 256], text: &[u8], at: usize, n: usize, notes: &mut [u64; NO
     let start = starts::start_at(text, at);
     match start {
         Start::Ended => Out::Refused(refusals::CUT_OFF, at),
-        Start::String => string_node(t, text, at, n, notes),
+        Start::String => string_leaf(t, text, at, n, notes),
         Start::Word => leaves::plain_node(5, words::word_len(text, at), at, n, notes),
         Start::Number => Out::Refused(refusals::MISPLACED, at),
         Start::List => Out::Refused(refusals::MISPLACED, at),
@@ -94,6 +94,17 @@ pub fn key_node(
     any_key(t, text, at, n, notes)
 }
 
+// The same, its answer put together anew: handed on as it is, the bytes between its fields would be copied with it, for every leaf of a text.
+fn string_leaf(t: &[u8; 256], text: &[u8], at: usize, n: usize, notes: &mut [u64; NODE_MAX]) -> Out
+    requires { ⌜ IsTable (now t) × Place (now text) at n ⌝ }
+    ensures { λ r. ⌜ ((m : ℕ) → Told (now (text .entry)) (limited string at n m (drop at (now (text .entry)))) at n m r (now (notes .entry)) (now (notes .exit))) ⌝ }
+{
+    match string_node(t, text, at, n, notes) {
+        Out::Got(q, i) => Out::Got(q, i),
+        Out::Refused(number, q) => Out::Refused(number, q),
+    }
+}
+
 // A value that is no list or dict, by what begins at a place.
 fn any_scalar(t: &[u8; 256], text: &[u8], at: usize, n: usize, notes: &mut [u64; NODE_MAX]) -> Out
     requires { ⌜ IsTable (now t) × Place (now text) at n ⌝ }
@@ -102,7 +113,7 @@ fn any_scalar(t: &[u8; 256], text: &[u8], at: usize, n: usize, notes: &mut [u64;
     let start = starts::start_at(text, at);
     match start {
         Start::Ended => Out::Refused(refusals::CUT_OFF, at),
-        Start::String => string_node(t, text, at, n, notes),
+        Start::String => string_leaf(t, text, at, n, notes),
         Start::Word => leaves::word_node(text, at, n, notes),
         Start::Number => leaves::number_node(text, at, n, notes),
         Start::List => Out::Refused(refusals::MISPLACED, at),

@@ -18,8 +18,8 @@ enum-told c = search needs
 enum-told-2 : tie.Need-enum-told-2
 enum-told-2 c = search needs
 
-string-node-requires : tie.Need-string-node-requires
-string-node-requires c κs = search needs
+string-leaf-requires : tie.Need-string-leaf-requires
+string-leaf-requires c κs = search needs
 
 enum-told-3 : tie.Need-enum-told-3
 enum-told-3 c = search needs
@@ -49,7 +49,7 @@ returns c =
 
 returns-2 : tie.Need-returns-2
 returns-2 c =
-    key-string _ _ _ _ (c .before .before .before .before .start-at .ensures) _ _ _ (c .before .before .enum-told2 .given .1) (c .string-node .ensures)
+    key-string _ _ _ _ (c .before .before .before .before .start-at .ensures) _ _ _ (c .before .before .enum-told2 .given .1) (c .string-leaf .ensures)
 
 returns-3 : tie.Need-returns-3
 returns-3 c =
@@ -78,7 +78,7 @@ any-key-spec =
     start-at-requires
     enum-told
     enum-told-2
-    string-node-requires
+    string-leaf-requires
     enum-told-3
     word-len-requires
     plain-node-requires

@@ -15,8 +15,8 @@ enum-told c = search needs
 enum-told-2 : tie.Need-enum-told-2
 enum-told-2 c = search needs
 
-string-node-requires : tie.Need-string-node-requires
-string-node-requires c κs = search needs
+string-leaf-requires : tie.Need-string-leaf-requires
+string-leaf-requires c κs = search needs
 
 enum-told-3 : tie.Need-enum-told-3
 enum-told-3 c = search needs
@@ -45,7 +45,7 @@ returns c =
 
 returns-2 : tie.Need-returns-2
 returns-2 c =
-    value-string none none _ _ _ _ (c .before .before .before .before .start-at .ensures) _ _ _ (c .before .before .enum-told2 .given .1) (c .string-node .ensures)
+    value-string none none _ _ _ _ (c .before .before .before .before .start-at .ensures) _ _ _ (c .before .before .enum-told2 .given .1) (c .string-leaf .ensures)
 
 returns-3 : tie.Need-returns-3
 returns-3 c =
@@ -74,7 +74,7 @@ any-scalar-spec =
     start-at-requires
     enum-told
     enum-told-2
-    string-node-requires
+    string-leaf-requires
     enum-told-3
     word-node-requires
     enum-told-4
