@@ -1,7 +1,7 @@
 -- A string filled: what is still to be stored stands ahead, from inside a literal character on where an eight ended there. A byte that is no
 -- backslash stands for itself, and no backslash stands inside a character, so at a backslash a unit begins.
 -- Assumes nothing.
-use Prim.Native.Nat.{ℕ, zero, suc, _+_, _-_, _≤_, _<_}
+use Prim.Native.Nat.{ℕ, zero, suc, pred, _+_, _-_, _≤_, _<_}
 use mathlib.Core.Bool.{true, false}
 use mathlib.Core.List.{List, [], _∷_, _++_, append-assoc}
 use mathlib.Core.Path.{_≡_, refl, sym, ap, _∙_, subst}
@@ -21,11 +21,11 @@ use Rattle.utf8.proofs.Characters.{tails, char-tails, low-bound}
 use Rattle.notation.specs.declared.styles.Style.{Style}
 use Rattle.notation.specs.declared.styles.Unit.{Unit as Found}
 use Rattle.notation.specs.declared.styles.Unit.the-variants.{Close, Took, Fault}
-use Rattle.notation.specs.Styles.{quote, took, unitOf, FewOf}
+use Rattle.notation.specs.Styles.{quote, StringUnit, close, took, fault, unitOf, FewOf}
 use Rattle.escapes.specs.Escapes.{lookup, letters}
 use Rattle.notation.specs.Marks.{opens, unopened, opening}
 use Rattle.units.specs.Units.{literal, unitAt}
-use Rattle.units.proofs.Sizes.{took-size}
+use Rattle.units.proofs.Sizes.{took-size, took-raw}
 use Rattle.eights.specs.inner.Words.{First}
 use Rattle.strings.specs.Read.{StringRead, accepted, refused, readToken}
 use Rattle.strings.specs.inner.Turns.{unitThen, unitsBytes, bytesFrom, tokenBytes}
@@ -108,6 +108,27 @@ ahead-more : (st : Style) (l want : List ℕ) → Ahead st l want → 0 < length
 ahead-more st [] want a h = let e : want ≡ [] = a .is ∙ none-ahead st (a .inner) in absurd (omega (arith, ap length e))
 ahead-more st (x ∷ r) want a h = omega arith
 
+-- no string denotes more bytes than stand in its text
+unit-short : (st : Style) (r : List ℕ) (u : StringUnit) → ((n : ℕ) (bs : List ℕ) → u ≡ took n bs → (length bs ≤ n) × (0 < n) × (n ≤ suc (length r)))
+    → ((k : ℕ) → length (unitsBytes st k r) ≤ length r - k) → length (unitThen u (λ k. unitsBytes st k r)) ≤ suc (length r)
+unit-short st r close f g = omega arith
+unit-short st r (took n bs) f g =
+    let z = f n bs refl in omega (arith, length-append bs (unitsBytes st (pred n) r), z, g (pred n))
+unit-short st r (fault number) f g = omega arith
+
+units-short : (st : Style) (k : ℕ) (l : List ℕ) → length (unitsBytes st k l) ≤ length l - k
+unfolding unitsBytes
+units-short st k [] = omega arith
+units-short st zero (x ∷ r) =
+    omega (arith, unit-short st r (unitAt st (x ∷ r)) (λ n bs e. let z = took-size st (x ∷ r) n bs e in (took-raw st (x ∷ r) n bs e .0, z .0, z .1)) (λ k. units-short st k r))
+units-short st (suc k) (x ∷ r) = omega (arith, units-short st k r)
+
+ahead-short : (st : Style) (k : ℕ) (l : List ℕ) → length (take k l ++ unitsBytes st k l) ≤ length l
+unfolding unitsBytes
+ahead-short st zero l = omega (arith, units-short st 0 l)
+ahead-short st (suc k) [] = omega arith
+ahead-short st (suc k) (x ∷ r) = omega (arith, ahead-short st k r)
+
 -- the loop's invariant
 pub record Filling (st : Style) (s all : List ℕ) (out : List ℕ) (at o : ℕ) : Type 0 where
   pub inside : at ≤ length s
@@ -137,6 +158,9 @@ module _ (st : Style) (s all out : List ℕ) (at o : ℕ) (c : Filling st s all 
 
   pub more-text : o < length out → at < length s
   more-text h = omega (arith, ahead-more st (drop at s) (drop o all) (c .ahead) (omega (arith, left h)), length-drop at s)
+
+  pub text-left : o < length out → length out - o ≤ length s - at
+  text-left h = omega (arith, left h, ap length (c .ahead .is), ahead-short st (c .ahead .inner) (drop at s), length-drop at s)
 
   pub on-bytes : (n : ℕ) (bs new : List ℕ) → n ≤ length bs → take n bs ≡ take n (drop at s) → at + n ≤ length s → o + length bs ≤ length out → o < length out
       → ((j : ℕ) → j < n → getD s (at + j) 0 ≡ backslash → ⊥) → new ≡ sets out o bs → Filling st s all new (at + n) (o + n)

@@ -1,6 +1,6 @@
 // What a string denotes that was judged before.
 ghost use mathlib.Core.Path.{_≡_};
-ghost use Prim.Native.Nat.{_+_, _<_, _≤_};
+ghost use Prim.Native.Nat.{_+_, _-_, _<_, _≤_};
 ghost use lib.ListN.{length, getD, take, drop};
 ghost use Rattle.utf8.specs.Class.{IsTable};
 ghost use Rattle.strings.specs.Read.{readToken};
@@ -21,21 +21,19 @@ struct Moved {
     count: usize,
 }
 
-// How many bytes stand before a backslash, of eight or, near an end, of one. All eight are stored: what is stored behind the bytes told is
-// stored over, as out has just the string's length.
+// How many bytes stand before a backslash, of eight or, near the end of out, of one. All eight are stored: what is stored behind the bytes
+// told is stored over, as out has just the string's length; and no string has more bytes than its text.
 fn front(s: &[u8], at: usize, o: usize, out: &mut [u8]) -> usize
-    requires { ⌜ (at < length (now s)) × (o < length (now out)) ⌝ }
+    requires { ⌜ (at < length (now s)) × (o < length (now out)) × (length (now out) - o ≤ length (now s) - at) ⌝ }
     ensures { λ r. ⌜ Fronted (now (s .entry)) at o (now (out .entry)) r (now (out .exit)) ⌝ }
 {
-    if 8 <= s.len() - at {
-        if 8 <= out.len() - o {
-            eights::copy(s, at, o, out);
-            let a = eights::slashes(eights::eight(s, at));
-            if a == 0 {
-                return 8;
-            }
-            return eights::place(a);
+    if 8 <= out.len() - o {
+        eights::copy(s, at, o, out);
+        let a = eights::slashes(eights::eight(s, at));
+        if a == 0 {
+            return 8;
         }
+        return eights::place(a);
     }
     // By `byte_at`: a plain read of the first byte would be made before the tests above, and the copy of eight then by four parts.
     let b = slices::byte_at(s, at, 0);

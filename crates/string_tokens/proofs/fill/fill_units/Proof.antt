@@ -12,7 +12,7 @@ use Prim.Native.Nat.{ℕ, _-_}
 use lib.ListN.{length, take, drop}
 use mathlib.Core.Path.{_≡_, refl, ap, _∙_}
 use Rattle.strings.specs.inner.Turns.{unitsBytes}
-use Rattle.string_tokens.proofs.Filling.{Filling, begun, more-text, on-front, front-moves, some-bytes, on-unit, at-end}
+use Rattle.string_tokens.proofs.Filling.{Filling, begun, more-text, text-left, on-front, front-moves, some-bytes, on-unit, at-end}
 
 abbrev Inv-loop : tie.InvT-loop
 Inv-loop t s from style out₀ at₀ o₀ out at o =
@@ -28,7 +28,7 @@ loop-holds c =
 
 front-requires : tie.Need-front-requires Inv-loop μ-loop
 front-requires c κs =
-    (more-text _ (now (c .before .before .before .before .before .args .s)) (unitsBytes (c .before .before .before .before .before .args .style) 0 (drop (c .before .before .before .before .before .args .from) (now (c .before .before .before .before .before .args .s)))) _ _ _ (c .before .before .loop .inv .0) (omega arith), omega arith)
+    (more-text _ (now (c .before .before .before .before .before .args .s)) (unitsBytes (c .before .before .before .before .before .args .style) 0 (drop (c .before .before .before .before .before .args .from) (now (c .before .before .before .before .before .args .s)))) _ _ _ (c .before .before .loop .inv .0) (omega arith), omega arith, text-left _ (now (c .before .before .before .before .before .args .s)) (unitsBytes (c .before .before .before .before .before .args .style) 0 (drop (c .before .before .before .before .before .args .from) (now (c .before .before .before .before .before .args .s)))) _ _ _ (c .before .before .loop .inv .0) (omega arith))
 
 add-at : tie.Need-add-at Inv-loop μ-loop
 add-at c =
