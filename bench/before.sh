@@ -33,15 +33,16 @@ for text in open(sys.argv[1]):
     least[key] = min(least.get(key, float('inf')), float(time) / int(size))
 rows = list(dict.fromkeys(row for row, _, _ in least))
 slower = 0
-print(f"{'job':<12} {'kind':<13} {'size':>8} {'piece':>6} {'texts':>5} {'ns a byte':>10} {'times as long as before':>24}")
+print(f"{'job':<12} {'kind':<13} {'size':>8} {'piece':>6} {'texts':>5} {'ns a byte':>10} {'before':>8} {'times as long':>20}")
 for row in rows:
     layouts = sorted({layout for r, layout, _ in least if r == row})
     now = [least[row, layout, 'j8'] for layout in layouts]
-    ratios = sorted(n / least[row, layout, 'before'] for n, layout in zip(now, layouts))
+    before = [least[row, layout, 'before'] for layout in layouts]
+    ratios = sorted(n / b for n, b in zip(now, before))
     median = statistics.median(ratios)
     slower += median > 1.03
     job, kind, size, piece, texts = row
-    print(f"{job:<12} {kind:<13} {size:>8} {piece:>6} {texts:>5} {statistics.median(now):>10.3f} {median:>8.3f} ({ratios[0]:.3f} to {ratios[-1]:.3f}){' slower' if median > 1.03 else ''}")
+    print(f"{job:<12} {kind:<13} {size:>8} {piece:>6} {texts:>5} {statistics.median(now):>10.3f} {statistics.median(before):>8.3f} {median:>8.3f} ({ratios[0]:.3f} to {ratios[-1]:.3f}){' slower' if median > 1.03 else ''}")
 print(f"{slower} of {len(rows)} rows are slower by more than 3 %")
 sys.exit(slower > 0)
 PY

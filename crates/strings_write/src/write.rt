@@ -74,7 +74,7 @@ fn pass(t: &[u8; 256], form: Form, s: &[u8], room: usize, out: &mut [u8]) -> usi
             at += 1;
         } else {
             let n = e - at;
-            copies::copy_long(s, at, n, o, out);
+            slices::copy_run(s, at, n, o, out);
             if cap - o < n {
                 return 0;
             }

@@ -90,8 +90,8 @@ sub-n : tie.Need-sub-n Inv-loop μ-loop
 sub-n c =
     omega (arith, c .before .short-run .ensures)
 
-copy-long-requires : tie.Need-copy-long-requires Inv-loop μ-loop
-copy-long-requires c κs =
+copy-run-requires : tie.Need-copy-run-requires Inv-loop μ-loop
+copy-run-requires c κs =
     run-inside (c .before .before .before .before .loop .inv) (c .before .before .before .before .before .before .before .before .before .before .style-of .ensures) _ (c .before .before .before .loop-test .taken) (c .before .before .short-run .ensures)
 
 sub-if4 : tie.Need-sub-if4 Inv-loop μ-loop
@@ -100,11 +100,11 @@ sub-if4 c =
 
 same-length-3 : tie.Need-same-length-3 Inv-loop μ-loop
 same-length-3 c =
-    c .before .before .before .copy-long .kept .1 .1 .1 .1 .0 ∙ kept (c .before .before .before .before .before .before .before .before .loop .inv) (now (c .before .before .before .before .before .before .before .before .before .before .before .before .before .before .before .before .before .args .out)) (c .before .before .before .before .before .before .before .before .before .before .before .before .put-mark .ensures .1)
+    c .before .before .before .copy-run .kept .1 .1 .1 .1 .0 ∙ kept (c .before .before .before .before .before .before .before .before .loop .inv) (now (c .before .before .before .before .before .before .before .before .before .before .before .before .before .before .before .before .before .args .out)) (c .before .before .before .before .before .before .before .before .before .before .before .before .put-mark .ensures .1)
 
 returns-3 : tie.Need-returns-3 Inv-loop μ-loop
 returns-3 c =
-    run-stuck (c .before .before .before .before .before .before .before .before .loop .inv) (c .before .before .before .before .before .before .before .before .before .before .before .before .before .before .style-of .ensures) _ (c .before .before .before .before .before .before .before .loop-test .taken) (c .before .before .before .before .before .before .short-run .ensures) (c .before .before .before .copy-long .ensures) (now (c .before .before .before .before .before .before .before .before .before .before .before .before .before .before .before .before .before .args .out)) (c .before .before .before .before .before .before .before .before .before .before .before .before .put-mark .ensures .1) (c .before .before .before .before .before .before .before .before .before .before .before .before .before .before .before .before .before .pre .1) (c .if4 .taken)
+    run-stuck (c .before .before .before .before .before .before .before .before .loop .inv) (c .before .before .before .before .before .before .before .before .before .before .before .before .before .before .style-of .ensures) _ (c .before .before .before .before .before .before .before .loop-test .taken) (c .before .before .before .before .before .before .short-run .ensures) (c .before .before .before .copy-run .ensures) (now (c .before .before .before .before .before .before .before .before .before .before .before .before .before .before .before .before .before .args .out)) (c .before .before .before .before .before .before .before .before .before .before .before .before .put-mark .ensures .1) (c .before .before .before .before .before .before .before .before .before .before .before .before .before .before .before .before .before .pre .1) (c .if4 .taken)
 
 add-o-2 : tie.Need-add-o-2 Inv-loop μ-loop
 add-o-2 c =
@@ -116,7 +116,7 @@ loop-less-2 c =
 
 loop-again-2 : tie.Need-loop-again-2 Inv-loop μ-loop
 loop-again-2 c =
-    run-moved (c .before .before .before .before .before .before .before .before .loop .inv) (c .before .before .before .before .before .before .before .before .before .before .before .before .before .before .style-of .ensures) _ (c .before .before .before .before .before .before .before .loop-test .taken) (c .before .before .before .before .before .before .short-run .ensures) (c .before .before .before .copy-long .ensures) (c .if4 .left)
+    run-moved (c .before .before .before .before .before .before .before .before .loop .inv) (c .before .before .before .before .before .before .before .before .before .before .before .before .before .before .style-of .ensures) _ (c .before .before .before .before .before .before .before .loop-test .taken) (c .before .before .before .before .before .before .short-run .ensures) (c .before .before .before .copy-run .ensures) (c .if4 .left)
 
 quote-in-requires : tie.Need-quote-in-requires Inv-loop μ-loop
 quote-in-requires c κs =
@@ -163,7 +163,7 @@ pass-spec =
     loop-less
     loop-again
     sub-n
-    copy-long-requires
+    copy-run-requires
     sub-if4
     same-length-3
     returns-3
