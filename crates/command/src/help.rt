@@ -1,6 +1,6 @@
 // What the commands do.
-use command_reports::outcomes::Outcome;
-use command_reports::outputs;
+use command_outputs::outcomes::Outcome;
+use command_outputs::outputs;
 use command_words::arguments::Command;
 use libc::STDERR_FILENO;
 use libc::STDOUT_FILENO;

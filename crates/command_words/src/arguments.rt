@@ -1,5 +1,4 @@
 // The words behind the program's name.
-use crate::texts;
 use check::same;
 
 // The most bytes that are read at once.
@@ -203,16 +202,20 @@ fn with_option(o: Options, bit: u32, known: u32, i: usize) -> Options {
 const SIZE_AT: usize = 9;
 
 fn has_size(word: &[u8]) -> bool {
-    let k = texts::within(SIZE_AT, word);
-    same(&word[..k], b"--pieces=")
+    if word.len() < SIZE_AT {
+        return false;
+    }
+    same(&word[..SIZE_AT], b"--pieces=")
 }
 
 fn with_sized(o: Options, word: &[u8], known: u32, i: usize) -> Options {
     if known & PIECES == 0 {
         return faulty(o, NO_OPTION, i);
     }
-    let k = texts::within(SIZE_AT, word);
-    with_size(o, size_of(&word[k..]), i)
+    if word.len() < SIZE_AT {
+        return faulty(o, BAD_SIZE, i);
+    }
+    with_size(o, size_of(&word[SIZE_AT..]), i)
 }
 
 // Whether a word is an option: `-` alone is standard input.
