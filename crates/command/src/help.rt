@@ -105,5 +105,5 @@ pub(crate) fn missing() -> Outcome {
 }
 
 pub(crate) fn version() -> Outcome {
-    outputs::ended(outputs::print_raw(b"j8 0.1.0\n"))
+    outputs::ended(io::write_all(STDOUT_FILENO, b"j8 0.1.0\n"))
 }

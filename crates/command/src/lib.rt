@@ -4,6 +4,7 @@ ghost use Prim.Native.Nat.{_≤_};
 mod help;
 mod inputs;
 mod quoting;
+mod words;
 
 use command_books::marks;
 use command_books::uploads;
@@ -154,7 +155,7 @@ fn plan_file(command: Command, o: Options, path: &mut [u8]) -> Plan {
 
 // The help, for all commands or the one that is named.
 fn run_help() -> Outcome {
-    let command = arguments::command_at(2);
+    let command = words::command_at(2);
     match command {
         Command::Unknown => Outcome::Misused(arguments::NO_COMMAND, 2),
         _ => help::print(command),
@@ -214,8 +215,8 @@ pub extern "C" fn j8_run(
 ) -> u32
     ensures { λ r. ⌜ r ≤ 3 ⌝ }
 {
-    let command = arguments::command_at(1);
-    let o = arguments::options_from(2, arguments::options_of(command));
+    let command = words::command_at(1);
+    let o = words::options_from(2, arguments::options_of(command));
     let ended = run(command, o, terminal, text, table, store, out, page, shown);
     reports::report(ended, command, o, text, table, store, page, shown)
 }

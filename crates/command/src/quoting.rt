@@ -1,6 +1,7 @@
 // Any bytes to a J8 string and back, whole.
 use command_outputs::outcomes::Outcome;
 use command_outputs::outputs;
+use libc::STDOUT_FILENO;
 use messages::Spot;
 use prelude::answers::Written;
 use prelude::limits::TEXT_MAX;
@@ -55,7 +56,7 @@ fn unquote_text(text: &[u8], out: &mut [u8]) -> Outcome {
     match decoded {
         Decoded::Done(n) => {
             let n = command_texts::within(n, out);
-            outputs::ended(outputs::print_raw(&out[..n]))
+            outputs::ended(io::write_all(STDOUT_FILENO, &out[..n]))
         }
         Decoded::Refused(number, place) => Outcome::Refused(number, Spot::Quoted, place),
     }

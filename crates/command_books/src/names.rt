@@ -1,5 +1,6 @@
 // Plain names made a book: each is quoted on a line of its own. The job's upload counts what an upload of the book would take, and keeps what
 // that would refuse: a line that is too long, or a byte over the limit.
+use crate::ends;
 use crate::uploads;
 use crate::uploads::Job;
 use crate::uploads::Listing;
@@ -92,7 +93,7 @@ pub(crate) fn take(
     page: &mut [u8],
     shown: &mut [u8],
 ) -> Listing {
-    let n = command_texts::within(command_texts::find(part, 0, end), part);
+    let n = command_texts::within(ends::find(part, 0, end), part);
     let l = hold(l, &part[..n], line);
     if n == part.len() {
         return l;

@@ -1,5 +1,9 @@
 // J8 Lines, in pieces: a book that is read as an upload, or names that are made one. A part of a piece has at most one end of a line or name,
 // so it leaves at most one record or string; the output is handed on and emptied before the next part.
+ghost use mathlib.Core.Bool.{true};
+ghost use mathlib.Core.Path.{_≡_};
+ghost use Rattle.command_books.specs.Runs.{isOfLines};
+use crate::ends;
 use crate::marks;
 use crate::names;
 use command_outputs::outcomes::Outcome;
@@ -66,7 +70,7 @@ fn form_of(job: Job) -> Form {
 // Whether a payload can be given with such an end behind it.
 fn is_mixed(job: Job, payload: &[u8]) -> bool {
     match job {
-        Job::Give(end) => command_texts::find(payload, 0, end) < payload.len(),
+        Job::Give(end) => ends::find(payload, 0, end) < payload.len(),
         _ => false,
     }
 }
@@ -179,7 +183,7 @@ fn take_piece(
         if !l.open {
             return l;
         }
-        let to = command_texts::behind_next(piece, from, end);
+        let to = ends::behind_next(piece, from, end);
         l = take_part(l, job, &piece[from..to], line, out, page, shown);
         from = to;
     }
@@ -302,7 +306,9 @@ fn finish(
     }
 }
 
-fn outcome_of(l: Listing) -> Outcome {
+fn outcome_of(l: Listing) -> Outcome
+    ensures { λ r. ⌜ isOfLines r ≡ true ⌝ }
+{
     if l.failed {
         return Outcome::Unread(l.error);
     }
@@ -333,7 +339,9 @@ fn mark_of(l: Listing, line: &[u8]) -> usize {
     marks::line_of(&line[..held], state.line)
 }
 
-fn run_of(l: Listing, line: &[u8]) -> Run {
+fn run_of(l: Listing, line: &[u8]) -> Run
+    ensures { λ r. ⌜ (isOfLines (r .outcome) ≡ true) × (r .size ≡ 0) ⌝ }
+{
     let state = l.state;
     Run {
         outcome: outcome_of(l),
@@ -358,7 +366,9 @@ fn close(
     out: &mut [u8],
     page: &mut [u8],
     shown: &mut [u8],
-) -> Run {
+) -> Run
+    ensures { λ r. ⌜ (isOfLines (r .outcome) ≡ true) × (r .size ≡ 0) ⌝ }
+{
     let l = finish(l, job, line, out, page, shown);
     let l = flushed(l, page, shown);
     run_of(l, line)
@@ -375,7 +385,9 @@ pub fn run(
     out: &mut [u8],
     page: &mut [u8],
     shown: &mut [u8],
-) -> Run {
+) -> Run
+    ensures { λ r. ⌜ (isOfLines (r .outcome) ≡ true) × (r .size ≡ 0) ⌝ }
+{
     let l = fresh(is_shown(job, terminal));
     let l = take_all(fd, size, l, job, piece, line, out, page, shown);
     close(l, job, line, out, page, shown)

@@ -1,5 +1,6 @@
 // How a run ends, and its status.
-ghost use Prim.Native.Nat.{_≤_};
+ghost use mathlib.Core.Path.{_≡_};
+ghost use Rattle.command_outputs.specs.Outcomes.{statusOf};
 use messages::Spot;
 
 pub enum Outcome {
@@ -27,7 +28,7 @@ pub struct Run {
 }
 
 pub fn status_of(outcome: Outcome) -> u32
-    ensures { λ r. ⌜ r ≤ 3 ⌝ }
+    ensures { λ r. ⌜ r ≡ statusOf outcome ⌝ }
 {
     match outcome {
         Outcome::Done => 0,

@@ -1,5 +1,6 @@
 // What a run says on standard error.
-ghost use Prim.Native.Nat.{_≤_};
+ghost use mathlib.Core.Path.{_≡_};
+ghost use Rattle.command_outputs.specs.Outcomes.{statusOf};
 use crate::misplaced;
 use check::same;
 use command_outputs::outcomes;
@@ -337,7 +338,7 @@ pub fn report(
     said: &mut [u8],
     line: &mut [u8],
 ) -> u32
-    ensures { λ r. ⌜ r ≤ 3 ⌝ }
+    ensures { λ r. ⌜ r ≡ statusOf (run .outcome) ⌝ }
 {
     say_empty(run.empty, o, said, line);
     let n = put_all(run, command, o, text, table, store, said, line);

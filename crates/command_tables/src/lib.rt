@@ -1,4 +1,14 @@
 // JSON8 backups: the written form, and the strings.
+ghost use mathlib.Core.Bool.{true};
+ghost use mathlib.Core.Path.{_≡_};
+ghost use Prim.Native.Nat.{_/_, _≤_, _<_};
+ghost use lib.ListN.{length};
+ghost use Rattle.prelude.specs.Limits.{textMax};
+ghost use Rattle.json8.specs.Read.{readOf, tableAfter, storeAfter};
+ghost use Rattle.trees.specs.Tables.{nodesIn, treeOf};
+ghost use Rattle.json8_write.specs.Write.{wroteTree};
+ghost use Rattle.command_outputs.specs.declared.outcomes.Outcome.the-variants.{Long};
+ghost use Rattle.command_tables.specs.Runs.{refusedAt, isPrinted, ByWritten, Listed, Rewritten};
 use command_outputs::outcomes::Outcome;
 use command_outputs::outputs;
 use command_outputs::pages;
@@ -13,7 +23,9 @@ use messages::Spot;
 use prelude::answers::Written;
 use prelude::limits::TEXT_MAX;
 
-fn refused(text: &[u8], number: u32, place: usize) -> Outcome {
+fn refused(text: &[u8], number: u32, place: usize) -> Outcome
+    ensures { λ r. ⌜ r ≡ refusedAt (now (text .entry)) number place ⌝ }
+{
     let p = positions::position_of(text, place);
     Outcome::Refused(number, Spot::Text(p.line, p.column), place)
 }
@@ -27,7 +39,9 @@ fn put_end(n: usize, page: &mut [u8]) -> usize {
 }
 
 // Prints the written form in the first n bytes of the page.
-fn print_written(n: usize, terminal: bool, page: &mut [u8], shown: &mut [u8]) -> Outcome {
+fn print_written(n: usize, terminal: bool, page: &mut [u8], shown: &mut [u8]) -> Outcome
+    ensures { λ r. ⌜ (textMax < n → r ≡ Long n) × (n ≤ textMax → isPrinted r ≡ true) ⌝ }
+{
     if n > TEXT_MAX {
         return Outcome::Long(n);
     }
@@ -43,7 +57,9 @@ fn print_table(
     terminal: bool,
     page: &mut [u8],
     shown: &mut [u8],
-) -> Outcome {
+) -> Outcome
+    ensures { λ r. ⌜ ByWritten (now (text .entry)) (wroteTree (length (now (page .entry))) (treeOf (nodesIn (now (table .entry))) (now (text .entry)) (now (store .entry)))) r ⌝ }
+{
     let written = write::write(table, text, store, page);
     match written {
         Written::Wrote(n) => print_written(n, terminal, page, shown),
@@ -59,7 +75,11 @@ pub fn rewrite(
     store: &mut [u8],
     page: &mut [u8],
     shown: &mut [u8],
-) -> Outcome {
+) -> Outcome
+    ensures { λ r. ⌜ Rewritten (now (text .entry)) (now (table .entry)) (now (store .entry)) (length (now (page .entry))) r ⌝ }
+    ensures nodes { λ r. ⌜ now (table .exit) ≡ tableAfter (readOf (length (now (table .entry)) / 4) (length (now (store .entry))) (now (text .entry))) (now (table .entry)) ⌝ }
+    ensures bytes { λ r. ⌜ now (store .exit) ≡ storeAfter (readOf (length (now (table .entry)) / 4) (length (now (store .entry))) (now (text .entry))) (now (store .entry)) ⌝ }
+{
     let parsed = read::read(text, table, store);
     match parsed {
         Parsed::Done(_, _) => print_table(text, table, store, terminal, page, shown),
@@ -112,7 +132,9 @@ fn list_nodes(
     store: &[u8],
     page: &mut [u8],
     shown: &mut [u8],
-) -> Outcome {
+) -> Outcome
+    ensures { λ r. ⌜ isPrinted r ≡ true ⌝ }
+{
     let mut p = pages::fresh(terminal);
     let mut node = 0;
     while node < nodes {
@@ -130,7 +152,11 @@ pub fn list(
     store: &mut [u8],
     page: &mut [u8],
     shown: &mut [u8],
-) -> Outcome {
+) -> Outcome
+    ensures { λ r. ⌜ Listed (now (text .entry)) (now (table .entry)) (now (store .entry)) r ⌝ }
+    ensures nodes { λ r. ⌜ now (table .exit) ≡ tableAfter (readOf (length (now (table .entry)) / 4) (length (now (store .entry))) (now (text .entry))) (now (table .entry)) ⌝ }
+    ensures bytes { λ r. ⌜ now (store .exit) ≡ storeAfter (readOf (length (now (table .entry)) / 4) (length (now (store .entry))) (now (text .entry))) (now (store .entry)) ⌝ }
+{
     let parsed = read::read(text, table, store);
     match parsed {
         Parsed::Done(nodes, _) => list_nodes(nodes, text, terminal, table, store, page, shown),

@@ -11,7 +11,7 @@ least-requires c κs = search needs
 
 returns : tie.Need-returns
 returns c =
-    (c .least .ensures .1, sym (length-take-le _ _ (c .least .ensures .1)))
+    ((c .least .ensures .1, sym (length-take-le _ _ (c .least .ensures .1))), (c .least .ensures .2, c .least .ensures .3))
 
 pub within-spec : {M : Type 1} → statement M
 within-spec = tie.close (tie.spec least-requires returns)

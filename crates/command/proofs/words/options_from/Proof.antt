@@ -1,7 +1,7 @@
 -- The arguments left fall.
 -- Assumes nothing.
-use Rattle.command_words.proofs.arguments.options_from.Statement.{statement}
-use Rattle.command_words.proofs.arguments.options_from.Tie as tie
+use Rattle.command.proofs.words.options_from.Statement.{statement}
+use Rattle.command.proofs.words.options_from.Tie as tie
 use borrow.Author.Needs.{needs}
 use Prim.Native.Nat.{_-_}
 
@@ -12,6 +12,9 @@ Inv-loop i known o₀ n at₀ o at =
 abbrev μ-loop : tie.MeasureT-loop
 μ-loop i known o₀ n at₀ o at =
     n - at
+
+fresh-requires : tie.Need-fresh-requires Inv-loop μ-loop
+fresh-requires c κs = search needs
 
 arg-count-requires : tie.Need-arg-count-requires Inv-loop μ-loop
 arg-count-requires c κs = search needs
@@ -43,6 +46,7 @@ options-from-spec =
     (tie.spec
     Inv-loop
     μ-loop
+    fresh-requires
     arg-count-requires
     loop-holds
     with-argument-requires

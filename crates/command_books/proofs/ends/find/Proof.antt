@@ -1,7 +1,7 @@
 -- The place stays within the slice.
 -- Assumes nothing.
-use Rattle.command_texts.proofs.find.Statement.{statement}
-use Rattle.command_texts.proofs.find.Tie as tie
+use Rattle.command_books.proofs.ends.find.Statement.{statement}
+use Rattle.command_books.proofs.ends.find.Tie as tie
 use borrow.Author.Needs.{needs}
 use Prim.Native.Nat.{_-_, _≤_}
 use lib.ListN.{length}
