@@ -1,8 +1,8 @@
 -- By where the place is counted from (Puts).
 -- Assumes nothing.
 use borrow.Author.Needs.{needs}
-use Rattle.messages_write.proofs.put_spot.Statement.{statement}
-use Rattle.messages_write.proofs.put_spot.Tie as tie
+use Rattle.message_lines.proofs.put_spot.Statement.{statement}
+use Rattle.message_lines.proofs.put_spot.Tie as tie
 use mathlib.Core.Path.{ap}
 use Rattle.rooms.proofs.Puts.{put-none, put-then, put-as}
 use Rattle.messages.specs.Messages.{spotText}

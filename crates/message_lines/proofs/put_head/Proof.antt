@@ -1,8 +1,8 @@
 -- By the head (Puts).
 -- Assumes nothing.
 use borrow.Author.Needs.{needs}
-use Rattle.messages_write.proofs.put_head.Statement.{statement}
-use Rattle.messages_write.proofs.put_head.Tie as tie
+use Rattle.message_lines.proofs.put_head.Statement.{statement}
+use Rattle.message_lines.proofs.put_head.Tie as tie
 use mathlib.Core.Path.{ap}
 use Rattle.rooms.proofs.Puts.{put-as}
 use Rattle.messages.specs.Messages.{headText}
