@@ -1,6 +1,6 @@
 // What the commands do.
-use command_reports::outcomes::Outcome;
-use command_reports::outputs;
+use command_outputs::outcomes::Outcome;
+use command_outputs::outputs;
 use command_words::arguments::Command;
 use libc::STDERR_FILENO;
 use libc::STDOUT_FILENO;
@@ -105,5 +105,5 @@ pub(crate) fn missing() -> Outcome {
 }
 
 pub(crate) fn version() -> Outcome {
-    outputs::ended(outputs::print_raw(b"j8 0.1.0\n"))
+    outputs::ended(io::write_all(STDOUT_FILENO, b"j8 0.1.0\n"))
 }

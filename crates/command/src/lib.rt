@@ -2,23 +2,31 @@
 ghost use Prim.Native.Nat.{_≤_};
 
 mod help;
+mod inputs;
 mod quoting;
-mod tables;
+mod words;
 
-use command_books::inputs;
-use command_books::inputs::Filled;
-use command_books::inputs::Opened;
 use command_books::marks;
 use command_books::uploads;
 use command_books::uploads::Job;
-use command_reports::outcomes;
-use command_reports::outcomes::Outcome;
-use command_reports::outcomes::Run;
+use command_outputs::outcomes::Outcome;
+use command_outputs::outcomes::Run;
 use command_reports::reports;
 use command_words::arguments;
 use command_words::arguments::Command;
 use command_words::arguments::Options;
-use command_words::texts;
+use inputs::Filled;
+use inputs::Opened;
+
+// A run with nothing besides its outcome.
+fn ended(outcome: Outcome) -> Run {
+    Run {
+        outcome,
+        size: 0,
+        mark: 0,
+        empty: false,
+    }
+}
 
 // A command on its whole input.
 fn run_text(
@@ -37,12 +45,12 @@ fn run_text(
             if o.flags & arguments::LINE != 0 {
                 n = quoting::without_lf(text);
             }
-            let n = texts::within(n, text);
+            let n = command_texts::within(n, text);
             quoting::quote(&text[..n], terminal, page, shown)
         }
         Command::Unquote => quoting::unquote(text, store),
-        Command::Json8 => tables::rewrite(text, terminal, table, store, page, shown),
-        _ => tables::list(text, terminal, table, store, page, shown),
+        Command::Json8 => command_tables::rewrite(text, terminal, table, store, page, shown),
+        _ => command_tables::list(text, terminal, table, store, page, shown),
     }
 }
 
@@ -69,7 +77,7 @@ fn run_whole(
     let filled = inputs::fill(fd, text);
     match filled {
         Filled::With(n) => {
-            let size = texts::within(n, text);
+            let size = command_texts::within(n, text);
             let outcome = run_text(
                 command,
                 o,
@@ -87,7 +95,7 @@ fn run_whole(
                 empty: size == 0,
             }
         }
-        Filled::Failed(error) => outcomes::ended(Outcome::Unread(error)),
+        Filled::Failed(error) => ended(Outcome::Unread(error)),
     }
 }
 
@@ -147,7 +155,7 @@ fn plan_file(command: Command, o: Options, path: &mut [u8]) -> Plan {
 
 // The help, for all commands or the one that is named.
 fn run_help() -> Outcome {
-    let command = arguments::command_at(2);
+    let command = words::command_at(2);
     match command {
         Command::Unknown => Outcome::Misused(arguments::NO_COMMAND, 2),
         _ => help::print(command),
@@ -177,7 +185,7 @@ fn run(
 ) -> Run {
     let made = plan_command(command, o, text);
     match made {
-        Plan::Ended(outcome) => outcomes::ended(outcome),
+        Plan::Ended(outcome) => ended(outcome),
         Plan::Whole(fd) => run_whole(command, o, fd, terminal, text, table, store, page, shown),
         Plan::Pieces(fd, job) => uploads::run(
             fd,
@@ -207,8 +215,8 @@ pub extern "C" fn j8_run(
 ) -> u32
     ensures { λ r. ⌜ r ≤ 3 ⌝ }
 {
-    let command = arguments::command_at(1);
-    let o = arguments::options_from(2, arguments::options_of(command));
+    let command = words::command_at(1);
+    let o = words::options_from(2, arguments::options_of(command));
     let ended = run(command, o, terminal, text, table, store, out, page, shown);
     reports::report(ended, command, o, text, table, store, page, shown)
 }

@@ -1,8 +1,8 @@
 // Any bytes to a J8 string and back, whole.
-use command_reports::outcomes::Outcome;
-use command_reports::outputs;
-use command_words::texts;
-use messages::messages::Spot;
+use command_outputs::outcomes::Outcome;
+use command_outputs::outputs;
+use libc::STDOUT_FILENO;
+use messages::Spot;
 use prelude::answers::Written;
 use prelude::limits::TEXT_MAX;
 use prelude::slices;
@@ -12,13 +12,13 @@ use strings_write::write;
 
 // Prints the first n bytes of the page and LF.
 fn print_string(n: usize, terminal: bool, page: &mut [u8], shown: &mut [u8]) -> Outcome {
-    let e = texts::put(b"\n", n, page);
-    let e = texts::within(e, page);
+    let e = command_texts::put(b"\n", n, page);
+    let e = command_texts::within(e, page);
     outputs::ended(outputs::print(&page[..e], terminal, shown))
 }
 
 pub(crate) fn quote(data: &[u8], terminal: bool, page: &mut [u8], shown: &mut [u8]) -> Outcome {
-    let room = texts::within(TEXT_MAX, page);
+    let room = command_texts::within(TEXT_MAX, page);
     let written = write::write(data, &mut page[..room]);
     match written {
         Written::Wrote(n) => print_string(n, terminal, page, shown),
@@ -55,14 +55,14 @@ fn unquote_text(text: &[u8], out: &mut [u8]) -> Outcome {
     let decoded = read::read(text, out);
     match decoded {
         Decoded::Done(n) => {
-            let n = texts::within(n, out);
-            outputs::ended(outputs::print_raw(&out[..n]))
+            let n = command_texts::within(n, out);
+            outputs::ended(io::write_all(STDOUT_FILENO, &out[..n]))
         }
         Decoded::Refused(number, place) => Outcome::Refused(number, Spot::Quoted, place),
     }
 }
 
 pub(crate) fn unquote(text: &[u8], out: &mut [u8]) -> Outcome {
-    let n = texts::within(without_end(text), text);
+    let n = command_texts::within(without_end(text), text);
     unquote_text(&text[..n], out)
 }

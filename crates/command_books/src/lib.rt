@@ -1,6 +1,5 @@
 // J8 Lines in pieces, for the command: books that are read as uploads, and names that are made books.
-pub mod inputs;
+mod ends;
 pub mod marks;
-pub mod names;
-pub mod pages;
+mod names;
 pub mod uploads;

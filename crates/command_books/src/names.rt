@@ -1,9 +1,9 @@
 // Plain names made a book: each is quoted on a line of its own. The job's upload counts what an upload of the book would take, and keeps what
 // that would refuse: a line that is too long, or a byte over the limit.
+use crate::ends;
 use crate::uploads;
 use crate::uploads::Job;
 use crate::uploads::Listing;
-use command_words::texts;
 use prelude::answers::Written;
 use prelude::limits::LINE_MAX;
 use prelude::limits::UPLOAD_MAX;
@@ -57,11 +57,11 @@ fn put_name(
     shown: &mut [u8],
 ) -> Listing {
     let state = l.state;
-    let held = texts::within(state.held, line);
+    let held = command_texts::within(state.held, line);
     let written = write::write(&line[..held], out);
     match written {
         Written::Wrote(n) => {
-            let n = texts::within(n, out);
+            let n = command_texts::within(n, out);
             put_string(l, job, &out[..n], page, shown)
         }
         Written::Refused(_) => refused(l, refusals::TOO_LONG, LINE_MAX),
@@ -73,7 +73,7 @@ fn hold(l: Listing, part: &[u8], line: &mut [u8]) -> Listing {
     let mut l = l;
     let mut state = l.state;
     let at = state.held;
-    let held = texts::put(part, at, line);
+    let held = command_texts::put(part, at, line);
     if held == at && part.len() > 0 {
         return refused(l, refusals::TOO_LONG, LINE_MAX);
     }
@@ -93,7 +93,7 @@ pub(crate) fn take(
     page: &mut [u8],
     shown: &mut [u8],
 ) -> Listing {
-    let n = texts::within(texts::find(part, 0, end), part);
+    let n = command_texts::within(ends::find(part, 0, end), part);
     let l = hold(l, &part[..n], line);
     if n == part.len() {
         return l;

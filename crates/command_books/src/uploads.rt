@@ -1,15 +1,17 @@
 // J8 Lines, in pieces: a book that is read as an upload, or names that are made one. A part of a piece has at most one end of a line or name,
 // so it leaves at most one record or string; the output is handed on and emptied before the next part.
-use crate::inputs;
+ghost use mathlib.Core.Bool.{true};
+ghost use mathlib.Core.Path.{_≡_};
+ghost use Rattle.command_books.specs.Runs.{isOfLines};
+use crate::ends;
 use crate::marks;
 use crate::names;
-use crate::pages;
-use crate::pages::Form;
-use crate::pages::Page;
-use command_reports::outcomes::Outcome;
-use command_reports::outcomes::Run;
-use command_words::texts;
-use messages::messages::Spot;
+use command_outputs::outcomes::Outcome;
+use command_outputs::outcomes::Run;
+use command_outputs::pages;
+use command_outputs::pages::Form;
+use command_outputs::pages::Page;
+use messages::Spot;
 use prelude::limits::UPLOAD_MAX;
 use records::HEAD;
 use upload::uploads::Answer;
@@ -68,7 +70,7 @@ fn form_of(job: Job) -> Form {
 // Whether a payload can be given with such an end behind it.
 fn is_mixed(job: Job, payload: &[u8]) -> bool {
     match job {
-        Job::Give(end) => texts::find(payload, 0, end) < payload.len(),
+        Job::Give(end) => ends::find(payload, 0, end) < payload.len(),
         _ => false,
     }
 }
@@ -181,7 +183,7 @@ fn take_piece(
         if !l.open {
             return l;
         }
-        let to = texts::behind_next(piece, from, end);
+        let to = ends::behind_next(piece, from, end);
         l = take_part(l, job, &piece[from..to], line, out, page, shown);
         from = to;
     }
@@ -196,6 +198,12 @@ fn unread(l: Listing) -> Listing {
     l
 }
 
+// One read of at most so many bytes: what libc::read answers.
+fn read_some(fd: i32, size: usize, buf: &mut [u8]) -> isize {
+    let n = command_texts::within(size, buf);
+    libc::read(fd, &mut buf[..n])
+}
+
 // Reads a piece of at most so many bytes, and takes it.
 fn read_piece(
     fd: i32,
@@ -208,7 +216,7 @@ fn read_piece(
     page: &mut [u8],
     shown: &mut [u8],
 ) -> Listing {
-    let got = inputs::read_some(fd, size, piece);
+    let got = read_some(fd, size, piece);
     if got < 0 {
         return unread(l);
     }
@@ -298,7 +306,9 @@ fn finish(
     }
 }
 
-fn outcome_of(l: Listing) -> Outcome {
+fn outcome_of(l: Listing) -> Outcome
+    ensures { λ r. ⌜ isOfLines r ≡ true ⌝ }
+{
     if l.failed {
         return Outcome::Unread(l.error);
     }
@@ -325,11 +335,13 @@ fn mark_of(l: Listing, line: &[u8]) -> usize {
     if state.refusal == 0 {
         return 0;
     }
-    let held = texts::within(state.held, line);
+    let held = command_texts::within(state.held, line);
     marks::line_of(&line[..held], state.line)
 }
 
-fn run_of(l: Listing, line: &[u8]) -> Run {
+fn run_of(l: Listing, line: &[u8]) -> Run
+    ensures { λ r. ⌜ (isOfLines (r .outcome) ≡ true) × (r .size ≡ 0) ⌝ }
+{
     let state = l.state;
     Run {
         outcome: outcome_of(l),
@@ -354,7 +366,9 @@ fn close(
     out: &mut [u8],
     page: &mut [u8],
     shown: &mut [u8],
-) -> Run {
+) -> Run
+    ensures { λ r. ⌜ (isOfLines (r .outcome) ≡ true) × (r .size ≡ 0) ⌝ }
+{
     let l = finish(l, job, line, out, page, shown);
     let l = flushed(l, page, shown);
     run_of(l, line)
@@ -371,7 +385,9 @@ pub fn run(
     out: &mut [u8],
     page: &mut [u8],
     shown: &mut [u8],
-) -> Run {
+) -> Run
+    ensures { λ r. ⌜ (isOfLines (r .outcome) ≡ true) × (r .size ≡ 0) ⌝ }
+{
     let l = fresh(is_shown(job, terminal));
     let l = take_all(fd, size, l, job, piece, line, out, page, shown);
     close(l, job, line, out, page, shown)

@@ -1,5 +1,3 @@
-// How a run of the command ends, what it prints, and what it says of its end.
-pub mod misplaced;
-pub mod outcomes;
-pub mod outputs;
+// What a run of the command says of its end.
+mod misplaced;
 pub mod reports;

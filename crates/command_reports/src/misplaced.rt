@@ -1,6 +1,5 @@
 // Refusal 13 in words: what stands at a place where it can't, and what could. The reader itself is asked: a byte is put at the place, behind the
 // text before it, and could stand there if it isn't refused with 13 too.
-use command_words::texts;
 use json8::answers::Parsed;
 use json8_read::read;
 use prelude::refusals;
@@ -27,7 +26,7 @@ fn could(x: u8, place: usize, text: &mut [u8], table: &mut [u32], store: &mut [u
         return false;
     }
     text[place] = x;
-    let n = texts::within(place + 1, text);
+    let n = command_texts::within(place + 1, text);
     is_let(read::read(&text[..n], table, store), place)
 }
 
@@ -36,7 +35,7 @@ fn put_or(first: usize, at: usize, said: &mut [u8]) -> usize {
     if first == at {
         return at;
     }
-    texts::put(b" or ", at, said)
+    command_texts::put(b" or ", at, said)
 }
 
 // The k-th thing, if it could stand there. Each byte begins it and goes on no word or number before it. A quote begins a key, and a value too.
@@ -58,7 +57,7 @@ fn put_choice(
         return at;
     }
     let e = put_or(first, at, said);
-    texts::put_line(
+    command_texts::put_line(
         b"\
 a value
 a key
@@ -109,16 +108,16 @@ fn size_at(text: &[u8], place: usize) -> usize {
 
 // What stands at a place, quoted.
 fn put_there(text: &[u8], place: usize, at: usize, line: &mut [u8], said: &mut [u8]) -> usize {
-    let from = texts::within(place, text);
+    let from = command_texts::within(place, text);
     let rest = &text[from..];
-    let n = texts::within(size_at(text, place), rest);
-    texts::put_quoted(&rest[..n], at, line, said)
+    let n = command_texts::within(size_at(text, place), rest);
+    command_texts::put_quoted(&rest[..n], at, line, said)
 }
 
 // The sentence of the number, and what stands there.
 fn put_wrong(text: &[u8], place: usize, line: &mut [u8], said: &mut [u8]) -> usize {
-    let a = texts::put_sentence(refusals::MISPLACED, 0, said);
-    let b = texts::put(b": ", a, said);
+    let a = command_texts::put_sentence(refusals::MISPLACED, 0, said);
+    let b = command_texts::put(b": ", a, said);
     put_there(text, place, b, line, said)
 }
 
@@ -132,9 +131,9 @@ pub(crate) fn put(
     said: &mut [u8],
     line: &mut [u8],
 ) -> usize {
-    let n = texts::within(size, text);
+    let n = command_texts::within(size, text);
     let a = put_wrong(&text[..n], place, line, said);
-    let b = texts::put(b" stands where ", a, said);
+    let b = command_texts::put(b" stands where ", a, said);
     let c = put_choices(place, b, text, table, store, said);
-    texts::put(b" could", c, said)
+    command_texts::put(b" could", c, said)
 }

@@ -1,16 +1,17 @@
 // What a run says on standard error.
-ghost use Prim.Native.Nat.{_≤_};
+ghost use mathlib.Core.Path.{_≡_};
+ghost use Rattle.command_outputs.specs.Outcomes.{statusOf};
 use crate::misplaced;
-use crate::outcomes;
-use crate::outcomes::Outcome;
-use crate::outcomes::Run;
-use crate::outputs;
 use check::same;
+use command_outputs::outcomes;
+use command_outputs::outcomes::Outcome;
+use command_outputs::outcomes::Run;
 use command_words::arguments;
 use command_words::arguments::Command;
 use command_words::arguments::Options;
-use command_words::texts;
-use messages::messages::Head;
+use libc::STDERR_FILENO;
+use messages::Head;
+use prelude::answers::Written;
 use prelude::limits::TEXT_MAX;
 use prelude::refusals;
 
@@ -20,12 +21,12 @@ fn put_argument(i: usize, at: usize, store: &mut [u8], said: &mut [u8], line: &m
     if os::errno() != 0 {
         return at;
     }
-    texts::put_quoted(&store[..n], at, line, said)
+    command_texts::put_quoted(&store[..n], at, line, said)
 }
 
 // What can be wrong with the words, in the order of the numbers in `arguments`.
 fn put_fault(fault: usize, said: &mut [u8]) -> usize {
-    texts::put_line(
+    command_texts::put_line(
         b"\
 see 'j8 help'
 there is no such command
@@ -47,7 +48,7 @@ fn put_wrong(i: usize, at: usize, store: &mut [u8], said: &mut [u8], line: &mut 
     if i == 0 {
         return at;
     }
-    let e = texts::put(b": ", at, said);
+    let e = command_texts::put(b": ", at, said);
     put_argument(i, e, store, said, line)
 }
 
@@ -57,7 +58,7 @@ fn put_misuse(fault: usize, i: usize, store: &mut [u8], said: &mut [u8], line: &
     }
     let a = put_fault(fault, said);
     let b = put_wrong(i, a, store, said, line);
-    texts::put(b" (see 'j8 help')", b, said)
+    command_texts::put(b" (see 'j8 help')", b, said)
 }
 
 // The line of an error of reading or writing in `put_reason`, or 0 for any other.
@@ -123,7 +124,7 @@ fn reason_of(error: i32) -> usize {
 
 // What the system says of an error, in its own words.
 fn put_reason(error: i32, at: usize, said: &mut [u8]) -> usize {
-    texts::put_line(
+    command_texts::put_line(
         b"\
 the system doesn't let it
 No such file or directory
@@ -153,13 +154,13 @@ Cannot allocate memory
 // The input: standard input, or the file's name, quoted.
 fn put_input(file: usize, store: &mut [u8], said: &mut [u8], line: &mut [u8]) -> usize {
     if file == 0 {
-        return texts::put(b"standard input", 0, said);
+        return command_texts::put(b"standard input", 0, said);
     }
     let n = os::arg(file, store);
     if same(&store[..n], b"-") {
-        return texts::put(b"standard input", 0, said);
+        return command_texts::put(b"standard input", 0, said);
     }
-    texts::put_quoted(&store[..n], 0, line, said)
+    command_texts::put_quoted(&store[..n], 0, line, said)
 }
 
 fn put_unread(
@@ -170,32 +171,32 @@ fn put_unread(
     line: &mut [u8],
 ) -> usize {
     let a = put_input(file, store, said, line);
-    let b = texts::put(b" can't be read: ", a, said);
+    let b = command_texts::put(b" can't be read: ", a, said);
     put_reason(error, b, said)
 }
 
 fn put_unwritten(error: i32, said: &mut [u8]) -> usize {
-    let a = texts::put(b"standard output can't be written: ", 0, said);
+    let a = command_texts::put(b"standard output can't be written: ", 0, said);
     put_reason(error, a, said)
 }
 
 fn put_long(n: usize, said: &mut [u8]) -> usize {
-    let a = texts::put(b"too long to restore: the written form has ", 0, said);
-    let b = texts::put_number(n, a, said);
-    texts::put(b" bytes, and a JSON8 text may have 32,768", b, said)
+    let a = command_texts::put(b"too long to restore: the written form has ", 0, said);
+    let b = command_texts::put_number(n, a, said);
+    command_texts::put(b" bytes, and a JSON8 text may have 32,768", b, said)
 }
 
 fn put_mixed(n: usize, o: Options, said: &mut [u8]) -> usize {
-    let a = texts::put(b"line ", 0, said);
-    let b = texts::put_number(n, a, said);
+    let a = command_texts::put(b"line ", 0, said);
+    let b = command_texts::put_number(n, a, said);
     if o.flags & arguments::NUL != 0 {
-        return texts::put(
+        return command_texts::put(
             b": the name holds a NUL, and couldn't be told from two",
             b,
             said,
         );
     }
-    texts::put(
+    command_texts::put(
         b": the name holds an LF, and couldn't be told from two: use -0",
         b,
         said,
@@ -207,16 +208,16 @@ fn put_beside(number: u32, command: Command, at: usize, said: &mut [u8]) -> usiz
     match command {
         Command::Quote => {
             if number == refusals::NO_ROOM {
-                return texts::put(b": a J8 string may have 32,768 bytes", at, said);
+                return command_texts::put(b": a J8 string may have 32,768 bytes", at, said);
             }
-            texts::put(b": no upload could read this name back", at, said)
+            command_texts::put(b": no upload could read this name back", at, said)
         }
         _ => at,
     }
 }
 
 fn put_refused(number: u32, command: Command, said: &mut [u8]) -> usize {
-    let a = texts::put_sentence(number, 0, said);
+    let a = command_texts::put_sentence(number, 0, said);
     put_beside(number, command, a, said)
 }
 
@@ -246,20 +247,32 @@ fn head_of(outcome: Outcome) -> Head {
     }
 }
 
+// A line on standard error. If that can't be written there is nobody to tell.
+fn say_line(head: Head, sentence: &[u8], json: bool, line: &mut [u8]) {
+    let written = messages_write::write(head, sentence, json, line);
+    match written {
+        Written::Wrote(n) => {
+            let k = command_texts::within(n, line);
+            io::write_all(STDERR_FILENO, &line[..k]);
+        }
+        Written::Refused(_) => {}
+    }
+}
+
 // The first n bytes of what was put together, as a line.
 fn say(head: Head, n: usize, o: Options, said: &[u8], line: &mut [u8]) {
     if n == 0 {
         return;
     }
-    let n = texts::within(n, said);
-    outputs::say(head, &said[..n], o.flags & arguments::JSON != 0, line)
+    let n = command_texts::within(n, said);
+    say_line(head, &said[..n], o.flags & arguments::JSON != 0, line)
 }
 
 fn say_empty(empty: bool, o: Options, said: &mut [u8], line: &mut [u8]) {
     if !empty {
         return;
     }
-    let n = texts::put(b"the input is empty", 0, said);
+    let n = command_texts::put(b"the input is empty", 0, said);
     say(Head::Note, n, o, said, line)
 }
 
@@ -267,9 +280,9 @@ fn say_mark(mark: usize, o: Options, said: &mut [u8], line: &mut [u8]) {
     if mark == 0 {
         return;
     }
-    let a = texts::put(b"line ", 0, said);
-    let b = texts::put_number(mark, a, said);
-    let c = texts::put(
+    let a = command_texts::put(b"line ", 0, said);
+    let b = command_texts::put_number(mark, a, said);
+    let c = command_texts::put(
         b" begins with a byte order mark (U+FEFF), which counts as a character of it",
         b,
         said,
@@ -325,7 +338,7 @@ pub fn report(
     said: &mut [u8],
     line: &mut [u8],
 ) -> u32
-    ensures { λ r. ⌜ r ≤ 3 ⌝ }
+    ensures { λ r. ⌜ r ≡ statusOf (run .outcome) ⌝ }
 {
     say_empty(run.empty, o, said, line);
     let n = put_all(run, command, o, text, table, store, said, line);

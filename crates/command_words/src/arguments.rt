@@ -1,5 +1,6 @@
-// The words behind the program's name.
-use crate::texts;
+// The words behind the program's name, one by one.
+ghost use mathlib.Core.Path.{_≡_};
+ghost use Rattle.command_words.specs.Arguments.{readerOf, commandOf, optionsOf, optionOf, sizeOf, withFault, withSize, withFile, withOption, hasSize, withSized, isOption, withWord, freshOptions, withArgument, withLong, allChecked};
 use check::same;
 
 // The most bytes that are read at once.
@@ -57,7 +58,9 @@ pub struct Options {
     sized: bool,
 }
 
-fn command_that_reads(word: &[u8]) -> Command {
+fn command_that_reads(word: &[u8]) -> Command
+    ensures { λ r. ⌜ r ≡ readerOf (now (word .entry)) ⌝ }
+{
     if same(word, b"lines") {
         return Command::Lines;
     }
@@ -76,7 +79,10 @@ fn command_that_reads(word: &[u8]) -> Command {
     Command::Unknown
 }
 
-fn command_of(word: &[u8]) -> Command {
+// The command that a word names.
+pub fn command_of(word: &[u8]) -> Command
+    ensures { λ r. ⌜ r ≡ commandOf (now (word .entry)) ⌝ }
+{
     if same(word, b"help") {
         return Command::Help;
     }
@@ -92,30 +98,26 @@ fn command_of(word: &[u8]) -> Command {
     command_that_reads(word)
 }
 
-// The command that an argument names.
-pub fn command_at(i: usize) -> Command {
-    if os::arg_count() <= i {
-        return Command::Missing;
-    }
-    let mut word = [0u8; 16];
-    let n = os::arg(i, &mut word);
-    if os::errno() != 0 {
-        return Command::Unknown;
-    }
-    command_of(&word[..n])
-}
-
 // The options that a command has.
-pub fn options_of(command: Command) -> u32 {
+pub fn options_of(command: Command) -> u32
+    ensures { λ r. ⌜ r ≡ optionsOf command ⌝ }
+{
     match command {
         Command::Lines => JSON | HELP | PIECES,
         Command::Quote => JSON | HELP | LINE | LINES | NUL,
         Command::Unquote => JSON | HELP | LINES | NUL,
-        _ => JSON | HELP,
+        Command::Help => JSON | HELP,
+        Command::Version => JSON | HELP,
+        Command::Json8 => JSON | HELP,
+        Command::Strings => JSON | HELP,
+        Command::Missing => JSON | HELP,
+        Command::Unknown => JSON | HELP,
     }
 }
 
-fn option_of(word: &[u8]) -> u32 {
+fn option_of(word: &[u8]) -> u32
+    ensures { λ r. ⌜ r ≡ optionOf (now (word .entry)) ⌝ }
+{
     if same(word, b"--json") {
         return JSON;
     }
@@ -141,7 +143,9 @@ fn option_of(word: &[u8]) -> u32 {
 }
 
 // A number of bytes from 1 to a whole piece, or 0 for anything else.
-fn size_of(word: &[u8]) -> usize {
+fn size_of(word: &[u8]) -> usize
+    ensures { λ r. ⌜ r ≡ sizeOf (now (word .entry)) ⌝ }
+{
     let mut size = 0;
     let mut i = 0;
     while i < word.len() {
@@ -162,16 +166,21 @@ fn size_of(word: &[u8]) -> usize {
 }
 
 // The first fault counts.
-fn faulty(o: Options, fault: usize, i: usize) -> Options {
-    let mut o = o;
-    if o.fault == 0 {
-        o.fault = fault;
-        o.wrong = i;
+fn faulty(o: Options, fault: usize, i: usize) -> Options
+    ensures { λ r. ⌜ r ≡ withFault o fault i ⌝ }
+{
+    if o.fault != 0 {
+        return o;
     }
+    let mut o = o;
+    o.fault = fault;
+    o.wrong = i;
     o
 }
 
-fn with_size(o: Options, size: usize, i: usize) -> Options {
+fn with_size(o: Options, size: usize, i: usize) -> Options
+    ensures { λ r. ⌜ r ≡ withSize o size i ⌝ }
+{
     if size == 0 {
         return faulty(o, BAD_SIZE, i);
     }
@@ -180,7 +189,9 @@ fn with_size(o: Options, size: usize, i: usize) -> Options {
     o
 }
 
-fn with_file(o: Options, i: usize) -> Options {
+fn with_file(o: Options, i: usize) -> Options
+    ensures { λ r. ⌜ r ≡ withFile o i ⌝ }
+{
     if o.file != 0 {
         return faulty(o, SECOND_FILE, i);
     }
@@ -189,7 +200,9 @@ fn with_file(o: Options, i: usize) -> Options {
     o
 }
 
-fn with_option(o: Options, bit: u32, known: u32, i: usize) -> Options {
+fn with_option(o: Options, bit: u32, known: u32, i: usize) -> Options
+    ensures { λ r. ⌜ r ≡ withOption o bit known i ⌝ }
+{
     if bit & known == 0 {
         return faulty(o, NO_OPTION, i);
     }
@@ -202,28 +215,40 @@ fn with_option(o: Options, bit: u32, known: u32, i: usize) -> Options {
 // The size in `--pieces=N`.
 const SIZE_AT: usize = 9;
 
-fn has_size(word: &[u8]) -> bool {
-    let k = texts::within(SIZE_AT, word);
-    same(&word[..k], b"--pieces=")
+fn has_size(word: &[u8]) -> bool
+    ensures { λ r. ⌜ r ≡ hasSize (now (word .entry)) ⌝ }
+{
+    if word.len() < SIZE_AT {
+        return false;
+    }
+    same(&word[..SIZE_AT], b"--pieces=")
 }
 
-fn with_sized(o: Options, word: &[u8], known: u32, i: usize) -> Options {
+fn with_sized(o: Options, word: &[u8], known: u32, i: usize) -> Options
+    ensures { λ r. ⌜ r ≡ withSized o (now (word .entry)) known i ⌝ }
+{
     if known & PIECES == 0 {
         return faulty(o, NO_OPTION, i);
     }
-    let k = texts::within(SIZE_AT, word);
-    with_size(o, size_of(&word[k..]), i)
+    if word.len() < SIZE_AT {
+        return faulty(o, BAD_SIZE, i);
+    }
+    with_size(o, size_of(&word[SIZE_AT..]), i)
 }
 
 // Whether a word is an option: `-` alone is standard input.
-fn is_option(word: &[u8]) -> bool {
+fn is_option(word: &[u8]) -> bool
+    ensures { λ r. ⌜ r ≡ isOption (now (word .entry)) ⌝ }
+{
     if word.len() < 2 {
         return false;
     }
     word[0] == b'-'
 }
 
-fn with_word(o: Options, word: &[u8], known: u32, i: usize) -> Options {
+fn with_word(o: Options, word: &[u8], known: u32, i: usize) -> Options
+    ensures { λ r. ⌜ r ≡ withWord o (now (word .entry)) known i ⌝ }
+{
     if !is_option(word) {
         return with_file(o, i);
     }
@@ -238,34 +263,58 @@ fn with_word(o: Options, word: &[u8], known: u32, i: usize) -> Options {
     with_option(o, option_of(word), known, i)
 }
 
-fn with_long(o: Options, first: u8, i: usize) -> Options {
+// No word is read yet.
+pub fn fresh() -> Options
+    ensures { λ r. ⌜ r ≡ freshOptions ⌝ }
+{
+    Options {
+        flags: 0,
+        size: PIECE,
+        file: 0,
+        fault: 0,
+        wrong: 0,
+        ended: false,
+        sized: false,
+    }
+}
+
+// Argument i, for a command with these options.
+pub fn with_argument(o: Options, word: &[u8], known: u32, i: usize) -> Options
+    ensures { λ r. ⌜ r ≡ withArgument o (now (word .entry)) known i ⌝ }
+{
+    if o.sized {
+        let mut o = o;
+        o.sized = false;
+        return with_size(o, size_of(word), i);
+    }
+    if o.ended {
+        return with_file(o, i);
+    }
+    with_word(o, word, known, i)
+}
+
+// The same of a word that is longer than any option and any size, by its first byte.
+pub fn with_long(o: Options, first: u8, i: usize) -> Options
+    ensures { λ r. ⌜ r ≡ withLong o first i ⌝ }
+{
+    if o.sized {
+        let mut o = o;
+        o.sized = false;
+        return with_size(o, 0, i);
+    }
+    if o.ended {
+        return with_file(o, i);
+    }
     if first == b'-' {
         return faulty(o, NO_OPTION, i);
     }
     with_file(o, i)
 }
 
-// No option has more bytes than the array, so a longer word is a file's name, or none that is known.
-fn with_argument(o: Options, known: u32, i: usize) -> Options {
-    let mut word = [0u8; 16];
-    let n = os::arg(i, &mut word);
-    let cut = os::errno() != 0;
-    if o.sized {
-        let mut o = o;
-        o.sized = false;
-        return with_size(o, size_of(&word[..n]), i);
-    }
-    if o.ended {
-        return with_file(o, i);
-    }
-    if cut {
-        return with_long(o, word[0], i);
-    }
-    with_word(o, &word[..n], known, i)
-}
-
 // What can only be told of all words.
-fn checked(o: Options) -> Options {
+pub fn checked(o: Options) -> Options
+    ensures { λ r. ⌜ r ≡ allChecked o ⌝ }
+{
     if o.sized {
         return faulty(o, BAD_SIZE, 0);
     }
@@ -276,24 +325,4 @@ fn checked(o: Options) -> Options {
         return o;
     }
     faulty(o, LINE_AND_LINES, 0)
-}
-
-// The words from argument i on, for a command with these options.
-pub fn options_from(i: usize, known: u32) -> Options {
-    let mut o = Options {
-        flags: 0,
-        size: PIECE,
-        file: 0,
-        fault: 0,
-        wrong: 0,
-        ended: false,
-        sized: false,
-    };
-    let n = os::arg_count();
-    let mut at = i;
-    while at < n {
-        o = with_argument(o, known, at);
-        at += 1;
-    }
-    checked(o)
 }

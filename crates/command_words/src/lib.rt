@@ -1,3 +1,2 @@
-// The words behind the command's name, and texts put together in a buffer.
+// The words behind the command's name.
 pub mod arguments;
-pub mod texts;

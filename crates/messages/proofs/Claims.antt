@@ -1,15 +1,8 @@
 -- Each claim of specs/Claims.antt, by the laws of its topic.
 -- Assumes nothing.
-use Rattle.messages.specs.Claims.{Decimals-Denote, Entries-Are-Lines, Objects-Are-Lines, Objects-Are-Json8, Messages-Are-Lines, Refusals-Are-Lines}
-use Rattle.messages.proofs.Decimals.{decimal-denotes}
+use Rattle.messages.specs.Claims.{Objects-Are-Lines, Objects-Are-Json8, Messages-Are-Lines, Refusals-Are-Lines}
 use Rattle.messages.proofs.Objects.{object-tree}
-use Rattle.messages.proofs.OneLines.{entry-line, object-line, message-line, refusal-line}
-
-pub decimals-denote : Decimals-Denote
-decimals-denote = decimal-denotes
-
-pub entries-are-lines : Entries-Are-Lines
-entries-are-lines = entry-line
+use Rattle.messages.proofs.OneLines.{object-line, message-line, refusal-line}
 
 pub objects-are-lines : Objects-Are-Lines
 objects-are-lines = object-line

@@ -1,5 +1,3 @@
-mod Decimals
-mod Lines
 mod Objects
-mod OneLines
-mod Claims
+pub mod OneLines
+pub mod Claims

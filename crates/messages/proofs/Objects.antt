@@ -11,10 +11,10 @@ use Rattle.escapes.specs.Escapes.{lookup}
 use Rattle.units.specs.Written.{written}
 use Rattle.strings_write.specs.Write.{writeUnits, quoted, writeString}
 use Rattle.trees.specs.Trees.{Tree, null, string, render, renderMembers}
-use Rattle.messages.specs.declared.messages.Head.{Head}
-use Rattle.messages.specs.declared.messages.Head.the-variants.{Refused, Note}
-use Rattle.messages.specs.declared.messages.Spot.the-variants.{Line, Text, Quoted}
-use Rattle.messages.specs.Texts.{decimal}
+use Rattle.messages.specs.declared.Head.{Head}
+use Rattle.messages.specs.declared.Head.the-variants.{Refused, Note}
+use Rattle.messages.specs.declared.Spot.the-variants.{Line, Text, Quoted}
+use Rattle.decimals.specs.Decimals.{decimal}
 use Rattle.messages.specs.Messages.{fieldsText, objectText}
 use Rattle.messages.specs.Objects.{fields, count, objectOf}
 

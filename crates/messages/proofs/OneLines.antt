@@ -18,12 +18,12 @@ use Rattle.string_claims.proofs.Printed.{write-printed}
 use Rattle.sentences.specs.Sentences.{sentence}
 use Rattle.sentences.specs.Claims.{InOneLine}
 use Rattle.sentences.proofs.Claims.{sentences-stay-in-line}
-use Rattle.messages.specs.declared.messages.Head.{Head}
-use Rattle.messages.specs.declared.messages.Head.the-variants.{Refused, Note}
-use Rattle.messages.specs.declared.messages.Spot.{Spot}
-use Rattle.messages.specs.declared.messages.Spot.the-variants.{Line, Text, Quoted}
-use Rattle.messages.specs.Texts.{nought, decimalIn, decimal}
-use Rattle.messages.specs.Messages.{entryText, counted, lineText, spotText, headText, messageText, spotFields, fieldsText, objectText, saidText}
+use Rattle.messages.specs.declared.Head.{Head}
+use Rattle.messages.specs.declared.Head.the-variants.{Refused, Note}
+use Rattle.messages.specs.declared.Spot.{Spot}
+use Rattle.messages.specs.declared.Spot.the-variants.{Line, Text, Quoted}
+use Rattle.decimals.specs.Decimals.{nought, decimalIn, decimal}
+use Rattle.messages.specs.Messages.{counted, lineText, spotText, headText, messageText, spotFields, fieldsText, objectText, saidText}
 use Rattle.messages.specs.Claims.{inLine, OneLine}
 
 plain-in : (x : ℕ) → 0x20 ≤ x → inLine x ≡ true
@@ -36,7 +36,7 @@ plain-then (x ∷ []) [] p o = absurd o
 plain-then (x ∷ []) (y ∷ b) p o = (plain-in x (p .0), o)
 plain-then (x ∷ z ∷ a) b p o = (plain-in x (p .0), plain-then (z ∷ a) b (p .1) o)
 
-tab-then : (b : List ℕ) → OneLine b → OneLine (9 ∷ b)
+pub tab-then : (b : List ℕ) → OneLine b → OneLine (9 ∷ b)
 unfolding inLine pick
 tab-then [] o = absurd o
 tab-then (y ∷ b) o = (refl, o)
@@ -53,7 +53,7 @@ plain-by (x ∷ s) e = (leb-true 0x20 x (and-left (leb 0x20 x) (isPlain s) e), p
 words-plain : (w : String) → isPlain (ascii w) ≡ true → Printed (ascii w)
 words-plain w e = plain-by (ascii w) e
 
-digits-plain : (k n : ℕ) → Printed (decimalIn k n)
+pub digits-plain : (k n : ℕ) → Printed (decimalIn k n)
 unfolding decimalIn
 digits-plain zero n = tt
 digits-plain (suc k) n =
@@ -112,7 +112,3 @@ pub refusal-line : (json : Bool) (head : Head) (n : ℕ) → OneLine (saidText j
 unfolding saidText
 refusal-line json head n =
     pick-case OneLine json _ _ (λ e. object-line head (sentence n)) (λ e. message-line head (sentence n) (sentences-stay-in-line n))
-
-pub entry-line : (n : ℕ) (s : List ℕ) → OneLine (entryText n s)
-unfolding entryText
-entry-line n s = plain-then (decimal n) _ (digits-plain 20 n) (tab-then (writeString s ++ (LF ∷ [])) (plain-then (writeString s) (LF ∷ []) (write-printed s) refl))

@@ -1,6 +1,6 @@
--- What is claimed of the lines that are printed: each claim is a type, and proofs/Claims.antt has a term of it.
+-- What is claimed of the lines that are said: each claim is a type, and proofs/Claims.antt has a term of it.
 -- Assumes nothing.
-use Prim.Native.Nat.{ℕ, _^_, _<_}
+use Prim.Native.Nat.{ℕ}
 use mathlib.Core.Bool.{Bool, true}
 use mathlib.Core.List.{List, [], _∷_, _++_}
 use mathlib.Core.Path.{_≡_}
@@ -9,15 +9,10 @@ use Rattle.prelude.specs.Pick.{pick}
 use Rattle.sentences.specs.Sentences.{sentence}
 use Rattle.sentences.specs.Claims.{InOneLine}
 use Rattle.trees.specs.Trees.{render}
-use Rattle.messages.specs.declared.messages.Head.{Head}
+use Rattle.messages.specs.declared.Head.{Head}
 use Rattle.prelude.specs.Bytes.{ascii, LF}
-use Rattle.messages.specs.Texts.{decimal, denotes}
-use Rattle.messages.specs.Messages.{entryText, messageText, objectText, saidText}
+use Rattle.messages.specs.Messages.{messageText, objectText, saidText}
 use Rattle.messages.specs.Objects.{objectOf}
-
--- a number's digits denote it
-abbrev pub Decimals-Denote : Type 0
-Decimals-Denote = (n : ℕ) → n < 10 ^ 20 → denotes 0 (decimal n) ≡ n
 
 -- a byte that can stand inside a line: a tab, or no control byte
 unfoldable pub inLine : ℕ → Bool
@@ -29,11 +24,7 @@ OneLine [] = ⊥
 OneLine (x ∷ []) = x ≡ LF
 OneLine (x ∷ y ∷ r) = (inLine x ≡ true) × OneLine (y ∷ r)
 
--- so scripts can go by lines, whatever bytes a string has
-abbrev pub Entries-Are-Lines : Type 0
-Entries-Are-Lines = (n : ℕ) (s : List ℕ) → OneLine (entryText n s)
-
--- whatever bytes a sentence has
+-- so scripts can go by lines, whatever bytes a sentence has
 abbrev pub Objects-Are-Lines : Type 0
 Objects-Are-Lines = (head : Head) (s : List ℕ) → OneLine (objectText head s)
 

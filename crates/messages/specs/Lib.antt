@@ -1,4 +1,3 @@
-pub mod Texts
 pub mod Messages
 pub mod Objects
 pub mod Claims

@@ -1,4 +1,4 @@
--- The lines that are printed: a string of a backup, and a sentence behind what it is about, plain or as a JSON object.
+-- The lines that are said: a sentence behind what it is about, plain or as a JSON object.
 -- Assumes nothing.
 use Prim.Native.Nat.{ℕ}
 use Prim.Native.String.{String}
@@ -7,15 +7,11 @@ use mathlib.Core.List.{List, [], _++_}
 use Rattle.prelude.specs.Bytes.{ascii}
 use Rattle.prelude.specs.Pick.{pick}
 use Rattle.strings_write.specs.Write.{writeString}
-use Rattle.messages.specs.declared.messages.Head.{Head}
-use Rattle.messages.specs.declared.messages.Head.the-variants.{Refused, Note}
-use Rattle.messages.specs.declared.messages.Spot.{Spot}
-use Rattle.messages.specs.declared.messages.Spot.the-variants.{Line, Text, Quoted}
-use Rattle.messages.specs.Texts.{decimal}
-
--- a byte string under a number, of its line or its node: the number, a tab, the J8 string, LF
-unfoldable pub entryText : ℕ → List ℕ → List ℕ
-entryText n s = decimal n ++ (ascii "\t" ++ (writeString s ++ ascii "\n"))
+use Rattle.messages.specs.declared.Head.{Head}
+use Rattle.messages.specs.declared.Head.the-variants.{Refused, Note}
+use Rattle.messages.specs.declared.Spot.{Spot}
+use Rattle.messages.specs.declared.Spot.the-variants.{Line, Text, Quoted}
+use Rattle.decimals.specs.Decimals.{decimal}
 
 -- a number between words
 abbrev pub counted : String → ℕ → String → List ℕ

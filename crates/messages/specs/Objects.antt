@@ -5,10 +5,10 @@ use mathlib.Core.List.{List}
 use Rattle.prelude.specs.Bytes.{ascii}
 use Rattle.json8.specs.declared.nodes.Sort.the-variants.{Pairs}
 use Rattle.trees.specs.Trees.{Tree, null, number, string, branch, none, one}
-use Rattle.messages.specs.declared.messages.Head.{Head}
-use Rattle.messages.specs.declared.messages.Head.the-variants.{Refused, Note}
-use Rattle.messages.specs.declared.messages.Spot.the-variants.{Line, Text, Quoted}
-use Rattle.messages.specs.Texts.{decimal}
+use Rattle.messages.specs.declared.Head.{Head}
+use Rattle.messages.specs.declared.Head.the-variants.{Refused, Note}
+use Rattle.messages.specs.declared.Spot.the-variants.{Line, Text, Quoted}
+use Rattle.decimals.specs.Decimals.{decimal}
 
 -- a dict of five pairs
 abbrev pub fields : Tree → Tree → Tree → Tree → Tree → Tree

@@ -1,0 +1,3 @@
+mod Printing
+mod Adding
+pub mod Claims

@@ -1,0 +1,4 @@
+pub mod Outcomes
+pub mod Outputs
+pub mod Pages
+pub mod Claims

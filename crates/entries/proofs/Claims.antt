@@ -1,0 +1,7 @@
+-- Each claim of specs/Claims.antt, by the laws of its topic.
+-- Assumes nothing.
+use Rattle.entries.specs.Claims.{Entries-Are-Lines}
+use Rattle.entries.proofs.Entries.{entry-line}
+
+pub entries-are-lines : Entries-Are-Lines
+entries-are-lines = entry-line

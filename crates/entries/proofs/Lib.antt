@@ -1,0 +1,2 @@
+mod Entries
+pub mod Claims
