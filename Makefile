@@ -41,10 +41,12 @@ target/portable/j8.c: crates.txt include/j8.h $(wildcard tools/portable/*) $(she
 
 # The C file's tests, those of the gate and on rarer processors.
 portable-all: portable archive
+	bash tests/portable/install.sh
 	bash tests/portable/check.sh stops warnings host checked sanitizers others stack rust rarer rarer_stack cortex
 
 # libFuzzer over the C file, each answer compared with the archive's: J8_SECONDS for each function (600).
 fuzz: portable archive
+	bash tests/portable/install.sh
 	bash tests/portable/fuzz.sh
 
 command: target/bin/j8
