@@ -1,7 +1,7 @@
 #!/usr/bin/env bash
 # before.sh ARCHIVE [JOB..]: the archive in target/staticlib beside an earlier one, in one run: of each row how many times as long it takes now, the
 # median of several layouts with the least and the greatest. Ends with 1 if a row's median is over 1.03. J8_ROUNDS (60) and J8_LAYOUTS (6) as in run.sh.
-set -eu
+set -euo pipefail
 [ $# -ge 1 ] && [ -f "$1" ] || { echo "usage: before.sh ARCHIVE [JOB..]" >&2; exit 2; }
 J8_BEFORE=$(realpath "$1")
 export J8_BEFORE
@@ -32,6 +32,8 @@ for text in open(sys.argv[1]):
     key = (tuple(row), layout, name)
     least[key] = min(least.get(key, float('inf')), float(time) / int(size))
 rows = list(dict.fromkeys(row for row, _, _ in least))
+if not rows:
+    sys.exit('before.sh: no job of that name: read, write, upload, json8, json8_dense, json8_write')
 slower = 0
 print(f"{'job':<12} {'kind':<13} {'size':>8} {'piece':>6} {'texts':>5} {'ns a byte':>10} {'before':>8} {'times as long':>20}")
 for row in rows:
