@@ -9,7 +9,6 @@ ghost use Rattle.trees.specs.Tables.{nodesIn, countAt, labelSize, memberSize};
 ghost use Rattle.json8_fit.specs.inner.Steps.{shapeOf};
 use json8::nodes::Sort;
 use tokens::numbers;
-use tokens::numbers::Number;
 
 // A group, which is a list or a dict; or a value that holds no other.
 pub enum Shape {
@@ -67,16 +66,7 @@ pub fn member_size(table: &[u32], at: usize, sort: Sort) -> usize
 
 // Whether a text is a number of this kind, all of it.
 pub(crate) fn is_legal(kind: u32, s: &[u8]) -> bool
-    requires { ⌜ 0 < kind ⌝ }
     ensures { λ r. ⌜ r ≡ eqb (numberKind (now (s .entry))) kind ⌝ }
 {
-    match numbers::number_at(s, 0) {
-        Number::Legal(k, n) => {
-            if n != s.len() {
-                return false;
-            }
-            k == kind
-        }
-        Number::Malformed => false,
-    }
+    numbers::kind_of(s) == kind
 }

@@ -10,16 +10,15 @@ use lib.ListN.{length, getD, set, take, drop, length-drop, drop-of-length-le}
 use lib.Seq.{getD-drop, drop-cons, drop-drop}
 use Rattle.prelude.specs.Pick.{pick}
 use Rattle.prelude.specs.Limits.{textMax, nodeMax}
-use Rattle.prelude.proofs.Cases.{never}
 use Rattle.prelude.proofs.Rest.{getD-inside}
 use Rattle.notation.specs.Styles.{quote}
 use Rattle.notation.specs.Literals.{literalRun}
 use Rattle.strings.specs.declared.answers.Token.the-variants.{Ended, Failed}
 use Rattle.notation.specs.Marks.{opens, opening}
-use Rattle.strings.specs.Read.{StringRead, accepted, refused as unread, readToken, tokenOf}
+use Rattle.strings.specs.Read.{accepted, refused as unread, readToken, tokenOf}
 use Rattle.string_tokens.specs.declared.answers.Quoted.{Quoted}
-use Rattle.string_tokens.specs.declared.answers.Quoted.the-variants.{Plain, Slashed as SlashedAt, Faulty}
-use Rattle.string_tokens.specs.inner.Quotes.{PlainToken, SlashedToken, JudgedBy, Judged, denoted}
+use Rattle.string_tokens.specs.inner.Quotes.{PlainToken, SlashedToken, Judged, denoted}
+use Rattle.string_tokens.proofs.Judging.{ended-is, failed-is}
 use Rattle.strings.proofs.Places.{Inside, token-inside}
 use Rattle.strings.proofs.Lengths.{Less, token-length}
 use Rattle.tokens.specs.declared.blanks.Blank.{Blank}
@@ -218,14 +217,6 @@ module _ (text : List ℕ) (at k e : ℕ) (w : PlainToken (drop at text) k e) wh
       y (λ z. omega arith) (limited-free string at n m (drop at text) h ∙ plain-string n m))
 
 -- a string with one, and a refusal
-ended-is : (v : StringRead) (end count : ℕ) → Ended end count ≡ tokenOf v → (bs : List ℕ) × ((v ≡ accepted bs end) × (length bs ≡ count))
-ended-is (accepted bs e) end count h = let z : e ≡ end = cc in (bs, (ap (accepted bs) z, cc))
-ended-is (unread number p) end count h = never cc
-
-failed-is : (v : StringRead) (number place : ℕ) → Failed number place ≡ tokenOf v → v ≡ unread number place
-failed-is (accepted bs e) number place h = never cc
-failed-is (unread k p) number place h = cc
-
 module _ (text : List ℕ) (at end count : ℕ) (w : SlashedToken (drop at text) end count) where
   pub slashed-inside : (at ≤ length text) → (at + end ≤ length text) × (count < end)
   slashed-inside h =
@@ -288,15 +279,6 @@ module _ (len at n : ℕ) (t : List ℕ) where
 -- what the part that starts at the mark tells
 pub judged-rest : (text : List ℕ) (at : ℕ) (r : Quoted) → Judged (take (length text - at) (drop at text)) r → Judged (drop at text) r
 judged-rest text at r h = subst (λ (s : List ℕ). Judged s r) (rest text at) h
-
-pub judged-plain : {s : List ℕ} {r : Quoted} {k e : ℕ} → Judged s r → r ≡ Plain k e → PlainToken s k e
-judged-plain {s} {r} {k} {e} h q = subst (JudgedBy s) q (h .so)
-
-pub judged-slashed : {s : List ℕ} {r : Quoted} {end count : ℕ} → Judged s r → r ≡ SlashedAt end count → SlashedToken s end count
-judged-slashed {s} {r} {end} {count} h q = subst (JudgedBy s) q (h .so)
-
-pub judged-faulty : {s : List ℕ} {r : Quoted} {number place : ℕ} → Judged s r → r ≡ Faulty number place → Failed number place ≡ tokenOf (readToken s)
-judged-faulty {s} {r} {number} {place} h q = subst (JudgedBy s) q (h .so)
 
 -- words
 module _ (text : List ℕ) (at len : ℕ) (w : Word) (el : len ≡ length (wordOf (drop at text))) where

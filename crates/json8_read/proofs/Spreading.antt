@@ -1,7 +1,7 @@
 -- Notes read back, and spread into table and store one node behind another.
 -- Assumes nothing.
 use mathlib.Core.Path.{_≡_, refl, sym, ap, ap₂, subst, _∙_}
-use mathlib.Core.List.{List, [], _∷_, _++_, append-nil, append-assoc}
+use mathlib.Core.List.{List, [], _∷_, _++_, append-nil}
 use Prim.Native.Nat.{ℕ, suc, _+_, _-_, _*_, _/_, _%_, _≤_, _<_}
 use native.Mathlib.Omega.{arith}
 use native.Mathlib.Nat.{zero-add}
@@ -10,11 +10,11 @@ use borrow.Author.Tests.{eq-eqb, ne-eqb, eqb-true}
 use borrow.Rule.Slice.PartMut.{putMid}
 use lib.Dec.{eqb}
 use lib.ListN.{length, getD, take, drop, length-append, length-drop}
-use lib.Seq.{sets, sets-eq, length-sets, take-suc, take-add, take-all, length-take-le, drop-drop}
+use lib.Seq.{sets, length-sets, take-suc, take-add, take-all, length-take-le}
 use Rattle.prelude.specs.Limits.{textMax, nodeMax}
 use Rattle.prelude.specs.Pick.{pick}
 use Rattle.prelude.proofs.Cases.{split}
-use Rattle.prelude.proofs.Stores.{sets-append}
+use Rattle.prelude.proofs.Stores.{sets-append, part-filled}
 use Rattle.strings.specs.Read.{readToken}
 use Rattle.string_tokens.specs.inner.Quotes.{denoted}
 use Rattle.json8.specs.Nodes.{Node, flat}
@@ -160,13 +160,6 @@ module _ (text : List ℕ) (v : Node) (m : ℕ) where
     other-flat : flat (nodesOf m (v ∷ [])) ≡ v .kind ∷ v .count ∷ v .place ∷ v .size ∷ []
     unfolding nodesOf flat pick
     other-flat = rw (ne-eqb (v .kind) 6 e)
-
--- a part of a buffer replaced
-part-filled : (s xs : List ℕ) (m e : ℕ) → e ≡ m + length xs → e ≤ length s → putMid m (e - m) s xs ≡ sets s m xs
-part-filled s xs m e h g =
-    let a : m + (e - m) ≡ m + length xs = omega arith in
-    sym (sets-eq xs s m (omega arith) ∙ append-assoc (take m s) xs (drop (m + length xs) s)
-    ∙ ap (λ (r : List ℕ). take m s ++ (xs ++ r)) (ap (λ (k : ℕ). drop k s) (sym a) ∙ sym (drop-drop (e - m) m s)))
 
 abbrev pub NodeSpread : List ℕ → Node → (i m : ℕ) → (t s : List ℕ) → (e : ℕ) → (t' s' : List ℕ) → Type 0
 NodeSpread text v i m t s e t' s' =

@@ -18,6 +18,7 @@ use Rattle.utf8.proofs.Characters.{char-le}
 use Rattle.notation.specs.declared.styles.Style.{Style}
 use Rattle.notation.specs.Literals.{literalRun}
 use Rattle.runs.specs.inner.Blocks.{Running}
+use Rattle.runs.proofs.LiteralRuns.{here}
 use Rattle.notation.proofs.LiteralLaws.{literal-char, literal-printed, by-run, run-fits}
 use Rattle.lines.specs.declared.bare.Checked.{Checked}
 use Rattle.lines.specs.declared.bare.Checked.the-variants.{Fine, Faulty}
@@ -102,6 +103,13 @@ module _ (st : Style) (s : List ℕ) (at : ℕ) (r : Running st s 0 at) where
       let z : e ≡ 0 + literalRun st 0 s = omega (arith, r .same) in
       let y : e ≡ literalRun st 0 s = omega (arith, r .same) in
       g ∙ (λ i. bareFrom (z i) 0 (drop (y i) s)) ∙ sym (run-bare st s 0)
+
+-- the run from the first byte on
+pub whole-inside : (st : Style) (s : List ℕ) (e : ℕ) → e ≡ 0 + literalRun st 0 (drop 0 s) → e ≤ length s
+whole-inside st s e h = run-inside st s 0 (here st s 0 (omega arith)) e h
+
+pub behind-whole : (st : Style) (s : List ℕ) (e : ℕ) (c : Checked) → e ≡ 0 + literalRun st 0 (drop 0 s) → c ≡ bareFrom e 0 (drop e s) → c ≡ bare s
+behind-whole st s = behind-run st s 0 (here st s 0 (omega arith))
 
 -- the loop's invariant at a place
 pub record Passing (s : List ℕ) (from at : ℕ) : Type 0 where

@@ -12,7 +12,7 @@ use utf8::chars;
 use utf8::classes;
 
 // Nothing wrong, or a refusal's number and place.
-pub(crate) enum Checked {
+pub enum Checked {
     Fine,
     Faulty(u32, usize),
 }
@@ -61,4 +61,13 @@ pub(crate) fn check_bare(s: &[u8]) -> Checked
     let t = classes::table();
     let e = literals::literal_run(&t, s, at, Style::Json);
     check_from(&t, s, e)
+}
+
+// The same with the table lent, for readers of many texts.
+pub fn check_in(t: &[u8; 256], s: &[u8]) -> Checked
+    requires { ⌜ IsTable (now t) ⌝ }
+    ensures { λ r. ⌜ r ≡ bare (now (s .entry)) ⌝ }
+{
+    let e = literals::literal_run(t, s, 0, Style::Json);
+    check_from(t, s, e)
 }

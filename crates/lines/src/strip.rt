@@ -16,7 +16,7 @@ fn is_blank(x: u8) -> bool
 }
 
 // How many blanks stand first.
-pub(crate) fn lead(s: &[u8]) -> usize
+pub fn lead(s: &[u8]) -> usize
     ensures { λ r. ⌜ r ≡ leads (now (s .entry)) ⌝ }
 {
     let mut i = 0;
@@ -30,7 +30,7 @@ pub(crate) fn lead(s: &[u8]) -> usize
 }
 
 // The length without the blanks at the end.
-pub(crate) fn trim(s: &[u8]) -> usize
+pub fn trim(s: &[u8]) -> usize
     ensures { λ r. ⌜ r ≡ length (trimmed (now (s .entry))) ⌝ }
 {
     let mut e = s.len();

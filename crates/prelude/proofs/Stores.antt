@@ -1,7 +1,7 @@
 -- Runs of clipped stores: one after another, past the room, over a whole front, and into a part of a buffer.
 -- Assumes nothing.
 use mathlib.Core.Path.{_≡_, refl, sym, ap, _∙_}
-use mathlib.Core.List.{List, [], _∷_, _++_, append-nil}
+use mathlib.Core.List.{List, [], _∷_, _++_, append-nil, append-assoc}
 use Prim.Native.Nat.{ℕ, suc, _+_, _-_, _≤_, _<_}
 use native.Mathlib.Nat.{zero-add, suc-add}
 use native.Mathlib.Numerals.{add-one}
@@ -135,3 +135,10 @@ sets-part out xs o b f g =
     split (leb o (length out))
     (λ q. let l : o ≤ length out = leb-true _ _ q in rw (f l) (part-inside out xs o l))
     (λ q. let l : length out < o = leb-false o (length out) q in part-outside out xs o b (omega arith) (g (omega arith)))
+
+-- a part of a buffer replaced
+pub part-filled : (s xs : List ℕ) (m e : ℕ) → e ≡ m + length xs → e ≤ length s → putMid m (e - m) s xs ≡ sets s m xs
+part-filled s xs m e h g =
+    let a : m + (e - m) ≡ m + length xs = omega arith in
+    sym (sets-eq xs s m (omega arith) ∙ append-assoc (take m s) xs (drop (m + length xs) s)
+    ∙ ap (λ (r : List ℕ). take m s ++ (xs ++ r)) (ap (λ (k : ℕ). drop k s) (sym a) ∙ sym (drop-drop (e - m) m s)))

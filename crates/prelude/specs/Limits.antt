@@ -1,8 +1,8 @@
--- The limits of document 01, each with its sentence.
+-- The limits of documents 01 and 02, each with its sentence.
 -- Assumes nothing.
 use Prim.Native.Nat.{ℕ}
 
--- "string or JSON8 text over 32,768 bytes"
+-- "string or JSON8 text over 32,768 bytes"; "a whole text of up to 32,768 bytes"
 abbrev pub textMax : ℕ
 textMax = 32768
 
@@ -21,3 +21,7 @@ nodeMax = 1024
 -- "32 deep"
 abbrev pub depthMax : ℕ
 depthMax = 32
+
+-- "a column name, 1 to 64 times"
+abbrev pub columnMax : ℕ
+columnMax = 64

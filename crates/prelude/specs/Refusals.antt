@@ -1,4 +1,4 @@
--- The refusal numbers of document 01, each with its row of the table.
+-- The refusal numbers of document 01, each with its row of the table, and those of document 02, each with its words.
 -- Assumes nothing.
 use Prim.Native.Nat.{ℕ}
 
@@ -73,3 +73,20 @@ overLimit = 17
 -- "upload already ended"
 abbrev pub ended : ℕ
 ended = 18
+
+-- "first line missing or not `!tsv8` with 1 to 64 cells after it, a type cell that stripped isn't one of the four words .., or a `!type`
+-- that isn't second"
+abbrev pub badHeader : ℕ
+badHeader = 19
+
+-- "wrong cell count, or a line after the first that begins with neither tab nor `!`, or a `!` line after data"
+abbrev pub badLine : ℕ
+badLine = 20
+
+-- "cell unfit for its type"
+abbrev pub wrongType : ℕ
+wrongType = 21
+
+-- "cell stripped to nothing"
+abbrev pub emptyCell : ℕ
+emptyCell = 22

@@ -1,6 +1,6 @@
-// The limits of document 01; specs/Limits.antt has the same numbers.
+// The limits of documents 01 and 02; specs/Limits.antt has the same numbers.
 
-// The longest string or JSON8 text.
+// The longest string, JSON8 or TSV8 text.
 pub const TEXT_MAX: usize = 32768;
 
 // The longest line, without its LF.
@@ -14,3 +14,6 @@ pub const NODE_MAX: usize = 1024;
 
 // How deep brackets may stand in each other.
 pub const DEPTH_MAX: usize = 32;
+
+// The most columns of a TSV8 text.
+pub const COLUMN_MAX: usize = 64;

@@ -1,4 +1,4 @@
-// The refusal numbers of document 01; specs/Refusals.antt has each one's row of the table.
+// The refusal numbers of documents 01 and 02; specs/Refusals.antt has each one's row or sentence.
 
 pub const UNFIT: u32 = 1;
 
@@ -35,3 +35,11 @@ pub const TOO_MANY: u32 = 16;
 pub const OVER_LIMIT: u32 = 17;
 
 pub const ENDED: u32 = 18;
+
+pub const BAD_HEADER: u32 = 19;
+
+pub const BAD_LINE: u32 = 20;
+
+pub const WRONG_TYPE: u32 = 21;
+
+pub const EMPTY_CELL: u32 = 22;

@@ -1,4 +1,5 @@
 pub mod Counting
 pub mod Filling
+pub mod Judging
 pub mod Numbers
 pub mod Quoting

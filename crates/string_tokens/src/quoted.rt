@@ -48,7 +48,7 @@ pub fn short(s: &[u8]) -> usize
 }
 
 // A place behind plain bytes, by eights.
-fn plains_on(s: &[u8], from: usize) -> usize
+pub fn plains_on(s: &[u8], from: usize) -> usize
     requires { ⌜ from ≤ length (now s) ⌝ }
     ensures { λ r. ⌜ Plains (now (s .entry)) from r ⌝ }
 {

@@ -61,7 +61,7 @@ false-named (x ∷ v ∷ y ∷ z ∷ w ∷ r) a b p = rw (a, b, p .first, p .sec
     record { value = rw e; long = rw e; start = refl })
 
 -- digits
-digit : (b : ℕ) → isOther b ≡ false → isDigit b ≡ true
+pub digit : (b : ℕ) → isOther b ≡ false → isDigit b ≡ true
 unfolding isOther pick
 digit b e =
     split (ltb b 0x30)

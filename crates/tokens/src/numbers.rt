@@ -224,3 +224,18 @@ pub fn short(s: &[u8], from: usize, x: u8) -> usize
     }
     k
 }
+
+// The kind of the number that a text is, all of it; 0 where it is none.
+pub fn kind_of(s: &[u8]) -> u32
+    ensures { λ r. ⌜ r ≡ numberKind (now (s .entry)) ⌝ }
+{
+    match number_at(s, 0) {
+        Number::Legal(k, n) => {
+            if n != s.len() {
+                return 0;
+            }
+            k
+        }
+        Number::Malformed => 0,
+    }
+}

@@ -56,7 +56,8 @@ pub fn word_len(s: &[u8], from: usize) -> usize
     at - from
 }
 
-fn same(a: &[u8], b: &[u8]) -> bool
+// Whether two texts have the same bytes.
+pub fn same(a: &[u8], b: &[u8]) -> bool
     ensures { λ r. ⌜ r ≡ sameBytes (now (a .entry)) (now (b .entry)) ⌝ }
 {
     if a.len() != b.len() {

@@ -26,11 +26,12 @@ use Rattle.json8.specs.Nodes.{Node, node, got, limited}
 use Rattle.json8.specs.Leaves.{slashed, stringNode, string, plain, numberRead, number}
 use Rattle.json8_show.specs.Show.{shownBy}
 use Rattle.json8.proofs.Backslashes.{quote-inside, whole-run, run-unslashed, slash-behind}
+use Rattle.prelude.proofs.Standing.{stands-in}
 use Rattle.trees.specs.Trees.{Tree, null, bool, number as numberTree}
 use Rattle.trees.specs.Tables.{just, stringOf, numberOf, scalarOf}
 use Rattle.trees.specs.Sizes.{sizeOf}
-use Rattle.trees.proofs.NumberTexts.{number-legal}
-use Rattle.trees.proofs.Meanings.{stands-in, unstored, Meant, Spelt, leaf-meant}
+use Rattle.tokens.proofs.NumberTexts.{number-legal}
+use Rattle.trees.proofs.Meanings.{unstored, Meant, Spelt, leaf-meant}
 
 number-some : (w : List ℕ) → (numberKind w ≡ 0 → ⊥) → 0 < length w
 unfolding numberKind

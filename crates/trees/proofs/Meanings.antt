@@ -7,10 +7,11 @@ use mathlib.Core.List.{List, [], _∷_, _++_, append-assoc}
 use mathlib.Core.Path.{_≡_, refl, sym, ap, _∙_}
 use native.Mathlib.Omega.{arith}
 use lib.Dec.{eqb}
-use lib.ListN.{length, drop, length-append, length-drop}
-use lib.Seq.{drop-drop, drop-append-seam}
+use lib.ListN.{length, drop, length-append}
+use lib.Seq.{drop-append-seam}
 use borrow.Author.Tests.{eq-eqb, ne-eqb, le-leb, lt-ltb}
 use Rattle.prelude.specs.Pick.{pick}
+use Rattle.prelude.proofs.Standing.{Stands, stands-left, stands-right}
 use Rattle.json8.specs.declared.nodes.Sort.{Sort}
 use Rattle.json8.specs.declared.nodes.Sort.the-variants.{Items, Pairs}
 use Rattle.json8.specs.Nodes.{Node, node}
@@ -18,27 +19,6 @@ use Rattle.json8.specs.Values.{groupKind}
 use Rattle.trees.specs.Trees.{Label, Tree, string, branch, Members, none, one}
 use Rattle.trees.specs.Tables.{just, countAt, stringOf, scalarOf, labelSize, labelAt, memberSize, membersAt, treeFrom, grouped, treeAt}
 use Rattle.trees.specs.Sizes.{sizeOf, sizesOf, storedBytes}
-
--- bytes that stand in a buffer at a place
-pub record Stands (s : List ℕ) (p : ℕ) (x : List ℕ) : Type 0 where
-  pub rest : List ℕ
-  pub inside : p ≤ length s
-  pub same : drop p s ≡ x ++ rest
-
-pub stands-in : {s : List ℕ} {p : ℕ} {x : List ℕ} → Stands s p x → p + length x ≤ length s
-stands-in {s} {p} {x} a = omega (arith, a .inside, length-drop p s, ap length (a .same), length-append x (a .rest))
-
-stands-left : {s : List ℕ} {p : ℕ} (x y : List ℕ) → Stands s p (x ++ y) → Stands s p x
-stands-left x y a = record { rest = y ++ a .rest; inside = a .inside; same = a .same ∙ append-assoc x y (a .rest) }
-
-stands-right : {s : List ℕ} {p : ℕ} (x y : List ℕ) → Stands s p (x ++ y) → Stands s (p + length x) y
-stands-right {s} {p} x y a =
-    record {
-      rest = a .rest;
-      inside = stands-in (stands-left x y a);
-      same =
-          sym (drop-drop (length x) p s) ∙ ap (drop (length x)) (a .same ∙ append-assoc x y (a .rest)) ∙ drop-append-seam x (y ++ a .rest);
-    }
 
 -- the bytes that nodes have in the store, one behind another
 pub stored-append : (ns os : List Node) → storedBytes (ns ++ os) ≡ storedBytes ns + storedBytes os

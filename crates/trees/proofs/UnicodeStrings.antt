@@ -17,7 +17,7 @@ use Rattle.string_claims.proofs.Texts.{token-valid}
 use Rattle.json8.specs.Nodes.{Node, got}
 use Rattle.json8.specs.Leaves.{string}
 use Rattle.trees.specs.Tables.{just, stringOf}
-use Rattle.trees.proofs.Meanings.{Stands}
+use Rattle.prelude.proofs.Standing.{Stands}
 use Rattle.trees.proofs.Leaves.{string-token}
 
 module _ (text before behind bs w : List ℕ) (p n l tag : ℕ) (v : Node) where

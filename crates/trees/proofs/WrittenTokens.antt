@@ -33,7 +33,8 @@ use Rattle.trees.specs.Trees.{Tree, null, bool, number as numberTree, st
 use Rattle.trees.specs.Sizes.{keptOf, storeOf}
 use Rattle.trees.specs.Claims.{Stops}
 use Rattle.trees.proofs.Firsts.{solid, begins, Heads}
-use Rattle.trees.proofs.NumberTexts.{All, run-back, number-legal, number-begins}
+use Rattle.tokens.proofs.NumberTexts.{All, run-back, number-legal}
+use Rattle.trees.proofs.NumberTexts.{number-begins}
 use Rattle.trees.proofs.Meanings.{Meant, string-meant}
 use Rattle.trees.proofs.Leaves.{Token, string-token, number-is, number-meant, Word, null-meant, false-meant, true-meant}
 

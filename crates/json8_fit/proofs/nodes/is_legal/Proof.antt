@@ -1,31 +1,15 @@
--- The token reader's answer, case by case (NumberTexts).
+-- The kind is the one that the text has.
 -- Assumes nothing.
 use borrow.Author.Needs.{needs}
 use Rattle.json8_fit.proofs.nodes.is_legal.Statement.{statement}
 use Rattle.json8_fit.proofs.nodes.is_legal.Tie as tie
-use Rattle.json8_fit.proofs.NumberTexts.{none-legal, longer, all-of-it}
 
-number-at-requires : tie.Need-number-at-requires
-number-at-requires c κs = search needs
-
-enum-known-k : tie.Need-enum-known-k
-enum-known-k c = search needs
+kind-of-requires : tie.Need-kind-of-requires
+kind-of-requires c κs = search needs
 
 returns : tie.Need-returns
 returns c =
-    search longer
-
-enum-told : tie.Need-enum-told
-enum-told c = search needs
-
-returns-2 : tie.Need-returns-2
-returns-2 c =
-    search all-of-it
-
-returns-3 : tie.Need-returns-3
-returns-3 c =
-    search none-legal
+    rw (c .kind-of .ensures)
 
 pub is-legal-spec : {M : Type 1} → statement M
-is-legal-spec =
-    tie.close (tie.spec number-at-requires enum-known-k returns enum-told returns-2 returns-3)
+is-legal-spec = tie.close (tie.spec kind-of-requires returns)

@@ -5,7 +5,8 @@ use Rattle.json8_leaves.proofs.quoted.string_node.Statement.{statement}
 use Rattle.json8_leaves.proofs.quoted.string_node.Tie as tie
 use native.Mathlib.Omega.{arith}
 use denote.Ref.{now}
-use Rattle.json8_leaves.proofs.Single.{judged-rest, judged-plain, judged-slashed, judged-faulty, plain-inside, plain-note, slashed-inside, slashed-note, string-stop, failed-in, string-full}
+use Rattle.string_tokens.proofs.Judging.{judged-plain, judged-slashed, judged-faulty}
+use Rattle.json8_leaves.proofs.Single.{judged-rest, plain-inside, plain-note, slashed-inside, slashed-note, string-stop, failed-in, string-full}
 
 returns : tie.Need-returns
 returns c =
