@@ -1,0 +1,6 @@
+pub mod RowTexts
+pub mod LineTexts
+pub mod TypeTexts
+pub mod HeadTexts
+pub mod Filling
+pub mod Whole

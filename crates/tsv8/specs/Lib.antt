@@ -1,0 +1,4 @@
+pub mod Lines
+pub mod Read
+pub mod Answers
+pub mod inner

@@ -1,0 +1,5 @@
+pub mod Places
+pub mod Numerals
+pub mod CellTexts
+pub mod Stripped
+pub mod Solid

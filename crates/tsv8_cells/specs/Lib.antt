@@ -1,0 +1,4 @@
+pub mod Parts
+pub mod Types
+pub mod Cells
+pub mod inner

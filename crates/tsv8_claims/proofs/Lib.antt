@@ -1,0 +1,10 @@
+pub mod Cutting
+pub mod Claims
+pub mod Counting
+pub mod Examples
+pub mod Faults
+pub mod Holding
+pub mod ReadCells
+pub mod ReadTables
+pub mod Standing
+pub mod Tables
