@@ -1,5 +1,5 @@
 /*
- * j8.h - J8 Notation strings, lines and JSON8 for printer backups.
+ * j8.h - J8 Notation strings, lines, JSON8 and TSV8 for printer backups and logs.
  *
  * C99 and C++. Link with libj8.a; `pkg-config --cflags --libs j8` says how. The
  * archive is for x86-64 (any, SSE2 suffices), with the calling convention of
@@ -11,12 +11,14 @@
  *             arrives in pieces; j8_lines_write
  *   JSON8     j8_json8_read: a text to a node table; j8_json8_show: a string of
  *             it; j8_json8_write: the table to a text again
+ *   TSV8      j8_tsv8_read: a counter log to names, types and cells
  *   besides   j8_sentence: what a refusal's number says; j8_version
  *
  * What holds for every call:
  *  - A part is a pointer and a length, in bytes, or in numbers where the part
- *    is a node table. A pointer may be NULL only if its length is 0, and then
- *    always. A node table is aligned for uint32_t; bytes may stand anywhere.
+ *    is a node table, or names, types or cells. A pointer may be NULL only if its
+ *    length is 0, and then always. Parts of numbers are aligned for uint32_t;
+ *    bytes may stand anywhere.
  *  - The parts handed to one call must not overlap. Parts that are only read
  *    may, if nothing that is written overlaps them.
  *  - The caller owns all memory. It is lent for the time of the call: no call
@@ -34,9 +36,9 @@
  *    call is reentrant: threads and signal handlers may call at the same time,
  *    each with its own parts.
  *  - Stack of the archive, in bytes, at most: j8_json8_read 16,384; j8_json8_write
- *    12,288; j8_upload_feed, j8_upload_finish and j8_sentence 2,048; every other
- *    call 1,024. `make stack` measures it. Of j8.c it depends on processor and
- *    compiler: docs/TRUST.md of the repository has a table.
+ *    12,288; j8_upload_feed, j8_upload_finish, j8_tsv8_read and j8_sentence 2,048;
+ *    every other call 1,024. `make stack` measures it. Of j8.c it depends on
+ *    processor and compiler: docs/TRUST.md of the repository has a table.
  */
 #ifndef J8_H
 #define J8_H
@@ -50,9 +52,9 @@
 
 /* The version of this header and of the library beside it; j8_version() asks the
    library. */
-#define J8_VERSION "0.1.0"
+#define J8_VERSION "0.2.0"
 #define J8_VERSION_MAJOR 0
-#define J8_VERSION_MINOR 1
+#define J8_VERSION_MINOR 2
 #define J8_VERSION_PATCH 0
 
 #ifdef __cplusplus
@@ -71,22 +73,26 @@ extern "C" {
  *   j8_json8_read      0, 2, 4 to 16
  *   j8_json8_write     0, 1, 12
  *   j8_json8_show      0, 1
+ *   j8_tsv8_read       0, 2, 4 to 12, 19 to 22
  *   j8_sentence        0, 12
  *
  * Order: 1, then 2 on whole texts, then the leftmost fault in the text, then
  * 12. In an upload the faults and 12 are judged for each line by itself, when
  * its LF or the finish reads it; 2 and 17 come at their byte, before any fault
  * in the line held. At one place of a JSON8 text 11 comes first, then 13, 14,
- * 15 and 16, then the rest. Places are byte offsets from 0.
+ * 15 and 16, then the rest. In a line of a TSV8 text 20 comes first, and in a cell
+ * 22, then its own text wherever it fails, then 21. Places are byte offsets from 0.
  */
 
 /* a lent buffer, table or state is unfit; place 0 */
 #define J8_UNFIT 1
-/* string or JSON8 text over 32,768 bytes (place 0), or a line over 1,024 (place 1,024) */
+/* string, JSON8 or TSV8 text over 32,768 bytes (place 0), or a line of an upload
+   over 1,024 (place 1,024) */
 #define J8_TOO_LONG 2
 /* a string text doesn't begin with " ' u' b'; place 0 */
 #define J8_NO_OPENING 3
-/* the text ends where more is needed; place: the text's length */
+/* the text ends where more is needed; place: the text's length, in a line or a TSV8
+   cell the end of what is left without blanks */
 #define J8_CUT_OFF 4
 /* ill-formed UTF-8; place: its first byte */
 #define J8_ILL_FORMED 5
@@ -117,9 +123,20 @@ extern "C" {
 #define J8_UPLOAD_LIMIT 17
 /* upload already ended; place 0 */
 #define J8_ENDED 18
+/* TSV8: the first line is missing or not !tsv8 with 1 to 64 cells after it, or a
+   !type isn't second (place: the line's start, 0 if no line is left); or a type
+   cell is none of Bool, Int, Float and Str (place: after its tab) */
+#define J8_BAD_HEADER 19
+/* TSV8: wrong cell count, or a line after the first that begins with neither tab
+   nor !, or a ! line after data; place: the line's start */
+#define J8_BAD_LINE 20
+/* TSV8: cell unfit for its type; place: after its tab */
+#define J8_WRONG_TYPE 21
+/* TSV8: cell empty or blank; place: after its tab */
+#define J8_EMPTY_CELL 22
 
 /*
- * Sizes, in bytes; of a node table, in numbers.
+ * Sizes, in bytes; of a node table, of names, types and cells, in numbers.
  */
 
 /* Room that suffices for the sentence of any number, in this version and in
@@ -182,8 +199,9 @@ extern "C" {
    for each of 1,024 nodes. */
 #define J8_TABLE_ROOM (J8_NODES_MAX * J8_NODE_ROOM)
 
-/* Room that always suffices for the store of a JSON8 text of n bytes: decoded
-   bytes are never more than the text's. J8_TEXT_MAX suffices for every text. */
+/* Room that always suffices for the store of a JSON8 or TSV8 text of n bytes:
+   decoded bytes are never more than the text's. J8_TEXT_MAX suffices for every
+   text. */
 #define J8_STORE_ROOM(n) ((size_t)(n))
 
 /* Room that always suffices to write the table that a JSON8 text of n bytes was
@@ -199,6 +217,26 @@ extern "C" {
    bytes is at most text_len + store_len. The sum must be at most SIZE_MAX / 6. */
 #define J8_TABLE_WRITE_ROOM(n, bytes) ((size_t)6 * ((size_t)(n) + (size_t)(bytes)))
 
+/* The most columns of a TSV8 text; one more is J8_BAD_HEADER. */
+#define J8_COLUMNS_MAX 64
+
+/* The numbers of a name or cell: kind, place and length. */
+#define J8_CELL_ROOM 3
+
+/* Numbers that always suffice for the names of a TSV8 text: 192, three for each of
+   64 columns; and for its types, one for each. */
+#define J8_NAMES_ROOM (J8_COLUMNS_MAX * J8_CELL_ROOM)
+#define J8_TYPES_ROOM J8_COLUMNS_MAX
+
+/* Numbers that always suffice for the cells of any TSV8 text. The text of 32,768
+   bytes with the most cells has 62 columns and 261 rows of cells of one byte, which
+   need just this. */
+#define J8_CELLS_ROOM 48546
+
+/* Numbers that always suffice for the cells of a TSV8 text of n bytes: a cell is a
+   tab and a byte at least. J8_STORE_ROOM(n) bytes suffice for its store. */
+#define J8_TEXT_CELLS_ROOM(n) ((size_t)J8_CELL_ROOM * ((size_t)(n) / 2))
+
 /*
  * The answer of a call.
  *
@@ -213,7 +251,7 @@ typedef struct {
 
 /*
  * The version of the library: major times 1,000,000, minor times 1,000, patch.
- * So 0.1.0 is 1000. A program that was compiled with another header sees it here:
+ * So 0.2.0 is 2000. A program that was compiled with another header sees it here:
  *
  *     if (j8_version() / 1000 != J8_VERSION_MAJOR * 1000 + J8_VERSION_MINOR) {
  *         complain("libj8.a is of another version than j8.h");
@@ -638,6 +676,121 @@ j8_shown j8_json8_show(const uint32_t *table, size_t table_len,
                        const uint8_t *text, size_t text_len,
                        const uint8_t *store, size_t store_len,
                        size_t node);
+
+/*
+ * TSV8.
+ *
+ * A table as tab-separated values, as a spreadsheet opens it: the counter log.
+ *
+ *     !tsv8   desk         scans   duplex
+ *     !type   Str          Int     Bool
+ *             Front desk   41      true
+ *             b'caf\ye9'   7       false
+ *
+ * with one tab before each cell in place of the blanks. LF ends a line. Empty lines
+ * and those of only spaces and CR are ignored. Of the others the first is !tsv8 and
+ * the names of 1 to J8_COLUMNS_MAX columns. The second may be !type and a type for
+ * each column; without it all columns are Str. Other lines that begin with ! may
+ * come before the first data line, with one cell for each column, and are skipped
+ * unread. A data line begins with a tab.
+ *
+ * Tabs divide cells first, so no cell has one in it, quoted or not: \t stands for
+ * it. Then space and CR are stripped at both ends of each cell but a line's first.
+ * A cell is read as a line of J8 Lines is, bare or one J8 string. Names are strings.
+ * Bool (true, false), Int (a JSON number of digits only) and Float (a JSON number)
+ * stand bare.
+ *
+ * A text is read to names, types and cells. Each name and each cell is three
+ * numbers; names and cells stand in reading order, so the cell of a row and column,
+ * both counted from 0, is cell row * columns + column:
+ *
+ *   kind     one of the six below
+ *   place    J8_CELL_STR_STORED: a byte of the store. J8_CELL_STR: the first byte
+ *            of the string in the text, behind the mark if it is quoted. All
+ *            others: the first byte in the text
+ *   length   bytes from place on
+ *
+ * A type is one number. Nothing of the text is copied but the quoted strings with a
+ * backslash in them, whose decoded bytes stand in the store one behind the other,
+ * those of the names first. So the numbers are of use only together with the text
+ * and the store.
+ */
+
+/* A column's type: true and false */
+#define J8_TYPE_BOOL 1
+/* numbers of digits only */
+#define J8_TYPE_INT 2
+/* JSON numbers */
+#define J8_TYPE_FLOAT 3
+/* strings */
+#define J8_TYPE_STR 4
+
+/* A cell's kind, in a column of Bool: false */
+#define J8_CELL_FALSE 1
+/* the same: true */
+#define J8_CELL_TRUE 2
+/* a number in a column of Int */
+#define J8_CELL_INT 3
+/* a number in a column of Float, with . e E or without */
+#define J8_CELL_FLOAT 4
+/* a bare string, or a quoted one without a backslash: its bytes in the text, marks
+   left off */
+#define J8_CELL_STR 5
+/* a quoted string with a backslash: its decoded bytes in the store */
+#define J8_CELL_STR_STORED 6
+
+/*
+ * What reading TSV8 answers.
+ *
+ * number 0: done; place is 0, columns is how many names there are, and types, cells
+ * how many cells, a whole number of rows, and stored how many bytes the store holds.
+ * Otherwise number is the refusal and place its place; columns, cells and stored are
+ * 0.
+ */
+typedef struct {
+    uint32_t number;
+    size_t place;
+    size_t columns;
+    size_t cells;
+    size_t stored;
+} j8_sheet;
+
+/*
+ * Reads a TSV8 text, at most J8_TEXT_MAX bytes, to names, types, cells and a store.
+ *
+ * names, types and cells are aligned for uint32_t, and their lengths count numbers.
+ * J8_NAMES_ROOM, J8_TYPES_ROOM and J8_TEXT_CELLS_ROOM(text_len) numbers and
+ * J8_STORE_ROOM(text_len) bytes always suffice. Numbers behind the last whole three
+ * that fits are never touched. The line limit of an upload doesn't hold here: a line
+ * or cell may be as long as the text.
+ *
+ * A counter log, cell by cell:
+ *
+ *     static uint32_t names[J8_NAMES_ROOM], types[J8_TYPES_ROOM], cells[J8_CELLS_ROOM];
+ *     static uint8_t store[J8_STORE_ROOM(J8_TEXT_MAX)];
+ *     j8_sheet got;
+ *     size_t at;
+ *
+ *     got = j8_tsv8_read(text, text_len, names, J8_NAMES_ROOM, types, J8_TYPES_ROOM,
+ *                        cells, J8_CELLS_ROOM, store, sizeof store);
+ *     if (got.number != 0) {
+ *         complain(got.number, got.place);
+ *     }
+ *     for (at = 0; at < got.cells; at++) {
+ *         const uint32_t *cell = cells + at * J8_CELL_ROOM;
+ *
+ *         entry(at / got.columns, at % got.columns, cell[0],
+ *               (cell[0] == J8_CELL_STR_STORED ? store : text) + cell[1], cell[2]);
+ *     }
+ *
+ * Refusals: 2, then the leftmost of 4 to 11 and 19 to 22, then 12 if names, types,
+ * cells or the store are short. A refusal leaves all four as they were.
+ */
+j8_sheet j8_tsv8_read(const uint8_t *text, size_t text_len,
+                      uint32_t *names, size_t names_len,
+                      uint32_t *types, size_t types_len,
+                      uint32_t *cells, size_t cells_len,
+                      uint8_t *store, size_t store_len);
 
 #ifdef __cplusplus
 }

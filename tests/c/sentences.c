@@ -7,7 +7,7 @@
 #include "j8.h"
 
 #define FILL 0xA5
-#define LAST J8_ENDED
+#define LAST J8_EMPTY_CELL
 
 static unsigned long checks;
 static uint8_t told[LAST + 1][J8_SENTENCE_ROOM];

@@ -23,6 +23,9 @@ int main(void)
     sum += j8_json8_show(table, 64, text, sizeof text, out, sizeof out, 0).length;
     sum += j8_json8_write(table, 64, text, sizeof text, out, sizeof out, line, sizeof line).length;
 #endif
+#if defined(TSV8) || defined(ALL)
+    sum += j8_tsv8_read(text, sizeof text, table, 24, table + 24, 8, table + 32, 32, out, sizeof out).cells;
+#endif
 #if defined(ALL)
     sum += j8_version() + j8_sentence(1, out, sizeof out).length;
     sum += j8_lines_write(text, sizeof text, out, sizeof out).length;

@@ -42,10 +42,10 @@ static const uint8_t *top;
 
 /* What a call is lent, set before it runs. */
 static uint8_t input[J8_UPLOAD_MAX + 1], line[J8_LINE_ROOM];
-static size_t input_len, room, table_room;
+static size_t input_len, room, table_room, cells_room;
 static uint32_t number;
 static uint8_t out[6 * 262144], store[J8_STORE_ROOM(J8_TEXT_MAX)];
-static uint32_t table[J8_TABLE_ROOM];
+static uint32_t table[J8_TABLE_ROOM], names[J8_NAMES_ROOM], types[J8_TYPES_ROOM], cells[J8_CELLS_ROOM];
 static j8_upload upload;
 static j8_nodes nodes;
 
@@ -99,6 +99,12 @@ static void json8_write(void)
     j8_json8_write(table, nodes.nodes * J8_NODE_ROOM, input, input_len, store, nodes.stored, out, room);
 }
 
+static void tsv8_read(void)
+{
+    MARK();
+    j8_tsv8_read(input, input_len, names, J8_NAMES_ROOM, types, J8_TYPES_ROOM, cells, cells_room, store, room);
+}
+
 static void version(void)
 {
     MARK();
@@ -136,11 +142,12 @@ static entry entries[] = {
     { "j8_json8_read", json8_read, 16384, 0 },
     { "j8_json8_write", json8_write, 12288, 0 },
     { "j8_json8_show", json8_show, 1024, 0 },
+    { "j8_tsv8_read", tsv8_read, 2048, 0 },
     { "j8_version", version, 1024, 0 },
     { "j8_sentence", sentence, 2048, 0 },
 };
 
-enum { STRING_READ, STRING_WRITE, FRESH, FEED, FINISH, LINES_WRITE, JSON8_READ, JSON8_WRITE, JSON8_SHOW, VERSION, SENTENCE };
+enum { STRING_READ, STRING_WRITE, FRESH, FEED, FINISH, LINES_WRITE, JSON8_READ, JSON8_WRITE, JSON8_SHOW, TSV8_READ, VERSION, SENTENCE };
 
 /* Twice, over two paints: a byte that is written as it was painted once isn't so the other time. More is painted than is allowed, so a figure 8,192 above
    its bound may stand for more; whole
@@ -366,9 +373,68 @@ static void measure_json8(void)
     measure_text();
 }
 
+/* Reads the text with all rooms, and with none for cells or stored bytes. */
+static void measure_sheet(void)
+{
+    for (cells_room = 0; cells_room <= J8_CELLS_ROOM; cells_room += J8_CELLS_ROOM) {
+        for (room = 0; room <= sizeof store; room += sizeof store) {
+            measure(TSV8_READ);
+        }
+    }
+}
+
+/* Each string as a name, as a cell of each type, and behind other rows; cells that
+   fit their type; lines of each sort, right and wrong. */
+static void measure_tsv8(void)
+{
+    static const char *const words[] = { "Str", "Bool", "Int", "Float" };
+    static const char *const tokens[] = { "true", "false", "0", "41", "-1.5e+7", "1e", "007", "", " ", "x" };
+    static const char *const rows[] = {
+        "", "\n", " \r\n", "!x\t?\n", "!type\tInt\n", "\ty\n!x\t\n", "\tx\ty\n", "x\n", "!type\n", "\t\"\\n\"\n",
+    };
+    size_t mark, front, unit, kind, row, token;
+
+    for (mark = 0; mark < COUNT(marks); mark++) {
+        for (front = 0; front < COUNT(fronts); front += FRONT_STEP) {
+            for (unit = 0; unit < COUNT(units); unit++) {
+                set("!tsv8\t");
+                make_string(mark, front, unit, 2);
+                measure_sheet();
+                for (kind = 0; kind < COUNT(words); kind += 2) {
+                    set("!tsv8\ta\n!type\t");
+                    add(words[kind]);
+                    add("\n\t");
+                    make_string(mark, front, unit, 2);
+                    add("\r\n");
+                    measure_sheet();
+                }
+            }
+        }
+    }
+    for (kind = 0; kind < COUNT(words); kind++) {
+        for (token = 0; token < COUNT(tokens); token++) {
+            for (row = 0; row < COUNT(rows); row++) {
+                set("\n!tsv8\t\"a\"\n!type\t");
+                add(words[kind]);
+                add("\n");
+                add(rows[row]);
+                add("\t ");
+                add(tokens[token]);
+                measure_sheet();
+            }
+        }
+    }
+    /* The most cells. */
+    set("!tsv8");
+    for (token = 0; token < 62 * 262; token++) {
+        add(token % 62 == 0 && token > 0 ? "\n\tx" : "\tx");
+    }
+    measure_sheet();
+}
+
 static void measure_sentences(void)
 {
-    for (number = 0; number <= J8_ENDED + 1; number++) {
+    for (number = 0; number <= J8_EMPTY_CELL + 1; number++) {
         for (room = 0; room <= J8_SENTENCE_ROOM; room += J8_SENTENCE_ROOM) {
             measure(SENTENCE);
         }
@@ -404,6 +470,7 @@ int main(int argc, char **argv)
     measure_sentences();
     measure_strings();
     measure_json8();
+    measure_tsv8();
     printf("%-18s %8s %8s\n", "", "measured", "bound");
     for (i = 0; i < COUNT(entries); i++) {
         printf("%-18s %8lu %8lu\n", entries[i].name, (unsigned long)entries[i].most, (unsigned long)entries[i].bound);

@@ -8,25 +8,29 @@ use Rattle.strings_write.specs.Write.{writeString, writtenIn, wroteInto}
 use Rattle.sentences.specs.Sentences.{sentence}
 use Rattle.json8.specs.Read.{readOf, parsedOf, tableAfter, storeAfter}
 use Rattle.json8_show.specs.Show.{shownAt}
+use Rattle.tsv8.specs.Read.{SheetRead}
+use Rattle.tsv8.specs.Answers as tsv8
 use Rattle.trees.specs.Tables.{nodesIn, treeOf}
 use Rattle.json8_write.specs.Write.{wroteTree, treeInto}
 use Rattle.lines_write.specs.Write.{wroteLines, linesInto}
 use Rattle.upload.specs.Calls.{fresh, Called, feed, finish}
 use Rattle.structs.specs.declared.results.J8Result.{J8Result}
+use Rattle.structs.specs.declared.sheets.J8Sheet.{J8Sheet}
 use Rattle.structs.specs.declared.tables.J8Nodes.{J8Nodes}
 use Rattle.structs.specs.declared.tables.J8Shown.{J8Shown}
 use Rattle.structs.specs.declared.uploads.J8Upload.{J8Upload}
 use Rattle.structs.specs.declared.uploads.J8Fed.{J8Fed}
 use Rattle.structs.specs.Results.{decodedResult, writtenResult}
+use Rattle.structs.specs.Sheets.{sheetResult}
 use Rattle.structs.specs.Tables.{nodesResult, shownResult}
 use Rattle.structs.specs.Uploads.{uploadOf, given, fedOf}
 
--- `j8_version()`: "major times 1,000,000, minor times 1,000, patch", of 0.1.0
+-- `j8_version()`: "major times 1,000,000, minor times 1,000, patch", of 0.2.0
 abbrev pub versionOf : ℕ → ℕ → ℕ → ℕ
 versionOf major minor patch = major * 1000000 + (minor * 1000 + patch)
 
 abbrev pub version : ℕ
-version = versionOf 0 1 0
+version = versionOf 0 2 0
 
 -- a result, and the output
 pub record Ran : Type 0 where
@@ -70,6 +74,27 @@ json8Read text table store =
       table = tableAfter (readOf (length table / 4) (length store) text) table;
       store = storeAfter (readOf (length table / 4) (length store) text) store;
     }
+
+-- `j8_tsv8_read(text, names, types, cells, store)`
+pub record RanSheet : Type 0 where
+  pub result : J8Sheet
+  pub names : List ℕ
+  pub types : List ℕ
+  pub cells : List ℕ
+  pub store : List ℕ
+
+abbrev ranSheet : SheetRead → List ℕ → List ℕ → List ℕ → List ℕ → RanSheet
+ranSheet r names types cells store =
+    record {
+      result = sheetResult (tsv8.sheetOf r);
+      names = tsv8.namesAfter r names;
+      types = tsv8.typesAfter r types;
+      cells = tsv8.cellsAfter r cells;
+      store = tsv8.storeAfter r store;
+    }
+
+abbrev pub tsv8Read : List ℕ → List ℕ → List ℕ → List ℕ → List ℕ → RanSheet
+tsv8Read text names types cells store = ranSheet (tsv8.readText (tsv8.roomsOf names types cells store) text) names types cells store
 
 -- what a call of an upload returns, and both buffers as it leaves them
 pub record RanCall : Type 0 where

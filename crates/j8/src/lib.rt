@@ -4,15 +4,16 @@ ghost use Rattle.j8.specs.Runs.{version, stringRead, stringWrite, linesW
 use structs::results;
 use structs::results::J8Result;
 
+pub mod sheets;
 pub mod tables;
 pub mod uploads;
 
-// The version, as j8.h's three numbers have it: 0.1.0.
+// The version, as j8.h's three numbers have it: 0.2.0.
 #[no_mangle]
 pub extern "C" fn j8_version() -> u32
     ensures { λ r. ⌜ r ≡ version ⌝ }
 {
-    1_000
+    2_000
 }
 
 #[no_mangle]

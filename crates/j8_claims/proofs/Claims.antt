@@ -7,10 +7,11 @@ use Rattle.j8_lines.proofs.WholeList.{whole-list}
 use Rattle.upload_claims.proofs.Claims.{every-list-of-calls, pieces-do-not-matter, records-after-finish}
 use Rattle.structs.specs.Uploads.{answerOf}
 use Rattle.j8.specs.Runs.{ranCall}
-use Rattle.j8_claims.specs.Claims.{Every-List-Of-C-Calls, C-Pieces-Do-Not-Matter, C-Records-After-Finish, C-Strings-Return, C-Unicode-Is-Utf8, C-Lines-Return, C-Tables-Return, C-Sentences-Have-Room, C-Sentences-Tell-Numbers}
+use Rattle.j8_claims.specs.Claims.{Every-List-Of-C-Calls, C-Pieces-Do-Not-Matter, C-Records-After-Finish, C-Strings-Return, C-Unicode-Is-Utf8, C-Lines-Return, C-Tables-Return, C-Sentences-Have-Room, C-Sentences-Tell-Numbers, C-Sheets-Are-Read, C-Rows-Are-Whole, C-Ranges-Inside, C-Kinds-Fit-Types, C-Cells-Show-Their-Texts, C-Sheets-Done-Or-Refused, C-Room-Is-Last, C-Sheets-Have-Room}
 use Rattle.j8_claims.proofs.Lists.{run-back, answers-back, handed-back}
 use Rattle.j8_claims.proofs.Unicode.{unicode-read}
 use Rattle.j8_claims.proofs.Returned.{string-returned, lines-returned, table-returned}
+use Rattle.j8_claims.proofs.Sheets.{sheet-done, sheet-read, done-or-refused, room-last, room-enough, rows-whole, ranges-in, kinds-fit, texts-shown}
 use Rattle.j8_claims.proofs.SentencesTold.{sentence-done, sentence-tells}
 
 pub every-list-of-c-calls : Every-List-Of-C-Calls
@@ -44,3 +45,27 @@ c-sentences-have-room = sentence-done
 
 pub c-sentences-tell-numbers : C-Sentences-Tell-Numbers
 c-sentences-tell-numbers = sentence-tells
+
+pub c-sheets-are-read : C-Sheets-Are-Read
+c-sheets-are-read text names types cells store = (sheet-done text names types cells store, sheet-read text names types cells store)
+
+pub c-rows-are-whole : C-Rows-Are-Whole
+c-rows-are-whole = rows-whole
+
+pub c-ranges-inside : C-Ranges-Inside
+c-ranges-inside = ranges-in
+
+pub c-kinds-fit-types : C-Kinds-Fit-Types
+c-kinds-fit-types = kinds-fit
+
+pub c-cells-show-their-texts : C-Cells-Show-Their-Texts
+c-cells-show-their-texts = texts-shown
+
+pub c-sheets-done-or-refused : C-Sheets-Done-Or-Refused
+c-sheets-done-or-refused = done-or-refused
+
+pub c-room-is-last : C-Room-Is-Last
+c-room-is-last = room-last
+
+pub c-sheets-have-room : C-Sheets-Have-Room
+c-sheets-have-room = room-enough

@@ -1,5 +1,6 @@
 pub mod Lists
 pub mod Returned
 pub mod SentencesTold
+pub mod Sheets
 pub mod Claims
 pub mod Unicode

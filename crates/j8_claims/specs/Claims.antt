@@ -1,12 +1,14 @@
 -- What is claimed of the C functions: each claim is a type, and proofs/Claims.antt has a term of it.
 -- Assumes nothing.
-use Prim.Native.Nat.{ℕ, _/_, _≤_}
+use Prim.Native.Nat.{ℕ, _*_, _/_, _≤_}
 use mathlib.Core.Bool.{true, false}
 use mathlib.Core.List.{List, [], _++_, map}
+use mathlib.Core.Logic.{_⊎_}
 use mathlib.Core.Path.{_≡_}
 use lib.ListN.{length, take, drop}
 use Rattle.prelude.specs.Bytes.{IsBytes}
-use Rattle.prelude.specs.Limits.{textMax, lineMax, uploadMax}
+use Rattle.prelude.specs.Limits.{textMax, lineMax, uploadMax, columnMax}
+use Rattle.prelude.specs.Refusals.{noRoom}
 use Rattle.utf8.specs.Utf8.{validUtf8}
 use Rattle.notation.specs.declared.styles.Style.the-variants.{Unicode}
 use Rattle.notation.specs.Marks.{opens, opening}
@@ -22,8 +24,13 @@ use Rattle.j8_lines.specs.Lines.{cut}
 use Rattle.upload_claims.specs.Claims.{definedAnswers, Finished, firstRefusal, EndedWith, Within}
 use Rattle.structs.specs.Results.{done}
 use Rattle.structs.specs.Uploads.{answerOf, given}
-use Rattle.j8.specs.Runs.{Ran, stringWrite, stringRead, linesWrite, sentenceWrite, json8Write, RanNodes, json8Read, RanCall, ranCall}
+use Rattle.tsv8_cells.specs.Parts.{linesOf}
+use Rattle.tsv8_cells.specs.Types.{ColumnType, strs}
+use Rattle.tsv8_cells.specs.Cells.{Cell}
+use Rattle.tsv8_claims.specs.Claims.{Each, InRange, KindFits, TextFits, Table, OneForOne, Shows, nameParts, dataParts}
+use Rattle.j8.specs.Runs.{Ran, stringWrite, stringRead, linesWrite, sentenceWrite, json8Write, RanNodes, json8Read, RanSheet, tsv8Read, RanCall, ranCall}
 use Rattle.j8_claims.specs.Lists.{runC, beganC, answersC}
+use Rattle.j8_claims.specs.Sheets.{readNames, readCells, readStore, Typed, TextHolds, SheetFits, SheetDone, SheetRefused, namesRoom, typesRoom, cellsRoom, textCellsRoom, storeRoom}
 
 -- Demand 3, of `j8_upload_feed` and `j8_upload_finish`: "Take any list of feeds and finishes of one J8 Lines upload, in any order, empty
 -- pieces and refused calls included. .. After every such list, the state and both buffers are exactly what the J8 Lines definition gives for
@@ -107,3 +114,64 @@ abbrev pub C-Sentences-Tell-Numbers : Type 0
 C-Sentences-Tell-Numbers =
     (m n : ℕ) (out into : List ℕ) → 1 ≤ m → m ≤ lastNumber → sentenceRoom ≤ length out → sentenceRoom ≤ length into
     → told (sentenceWrite m out) ≡ told (sentenceWrite n into) → m ≡ n
+
+-- what holds of every call of `j8_tsv8_read` that answers 0: of the text, and of what the call answers and leaves
+abbrev pub SheetCalls : (List ℕ → RanSheet → Type 0) → Type 0
+SheetCalls P =
+    (text names types cells store : List ℕ) → tsv8Read text names types cells store .result .number ≡ 0
+    → P text (tsv8Read text names types cells store)
+
+-- number 0 exactly if the text is accepted and there is room; then columns, cells and stored count what stands in the buffers
+abbrev pub C-Sheets-Are-Read : Type 0
+C-Sheets-Are-Read =
+    (text names types cells store : List ℕ)
+    → (tsv8Read text names types cells store .result .number ≡ 0 → SheetDone text (tsv8Read text names types cells store) names types cells store)
+    × ((ns : List Cell) (ts : List ColumnType) (cs : List Cell) (bs : List ℕ) → TextHolds text ns ts cs bs
+    → SheetFits (length ns) (length cs) (length bs) names types cells store
+    → tsv8Read text names types cells store .result
+    ≡ record { number = 0; place = 0; columns = length ns; cells = length cs; stored = length bs })
+
+-- "a column name, 1 to 64 times", and whole rows of cells
+abbrev pub C-Rows-Are-Whole : Type 0
+C-Rows-Are-Whole =
+    SheetCalls (λ text r. (1 ≤ r .result .columns) × (r .result .columns ≤ columnMax) × ((rows : ℕ) × (r .result .cells ≡ rows * r .result .columns)))
+
+-- the range of every name and cell lies in the text, or of kind 6 in the bytes stored
+abbrev pub C-Ranges-Inside : Type 0
+C-Ranges-Inside =
+    SheetCalls
+    (λ text r. Each (InRange (length text) (r .result .stored)) (readNames r) × Each (InRange (length text) (r .result .stored)) (readCells r))
+
+-- names are strings; each cell's kind, and what stands in the text at its range, fits the type whose number stands in its column's place
+abbrev pub C-Kinds-Fit-Types : Type 0
+C-Kinds-Fit-Types =
+    SheetCalls
+    (λ text r. Each (λ c. KindFits strs (c .kind)) (readNames r)
+    × ((ts : List ColumnType) × (Typed r ts × Table (λ t c. KindFits t (c .kind)) ts (readCells r) × Table (TextFits text) ts (readCells r))))
+
+-- "with exactly the bytes .. they denote": each name and cell shows what its place of the text holds, as a line would, and none is left out
+abbrev pub C-Cells-Show-Their-Texts : Type 0
+C-Cells-Show-Their-Texts =
+    SheetCalls
+    (λ text r. OneForOne (Shows text (readStore r)) (nameParts (linesOf text)) (readNames r)
+    × OneForOne (Shows text (readStore r)) (dataParts (linesOf text)) (readCells r))
+
+-- every other number is a refusal, 2, 4 to 12 or 19 to 22, and it leaves all buffers as they were
+abbrev pub C-Sheets-Done-Or-Refused : Type 0
+C-Sheets-Done-Or-Refused =
+    (text names types cells store : List ℕ)
+    → (tsv8Read text names types cells store .result .number ≡ 0)
+    ⊎ SheetRefused text (tsv8Read text names types cells store) names types cells store
+
+-- "last 12": only a text without any fault has it
+abbrev pub C-Room-Is-Last : Type 0
+C-Room-Is-Last =
+    (text names types cells store : List ℕ) → tsv8Read text names types cells store .result .number ≡ noRoom
+    → (ns : List Cell) × ((ts : List ColumnType) × ((cs : List Cell) × ((bs : List ℕ) × TextHolds text ns ts cs bs)))
+
+-- the rooms of include/j8.h always suffice
+abbrev pub C-Sheets-Have-Room : Type 0
+C-Sheets-Have-Room =
+    (text names types cells store : List ℕ) → namesRoom ≤ length names → typesRoom ≤ length types
+    → (cellsRoom ≤ length cells) ⊎ (textCellsRoom (length text) ≤ length cells) → storeRoom (length text) ≤ length store
+    → tsv8Read text names types cells store .result .number ≡ noRoom → ⊥

@@ -8,7 +8,7 @@ use Rattle.sentences.specs.Sentences.{sentence}
 
 -- the refusals have the numbers from 1 to this one
 abbrev pub lastNumber : ℕ
-lastNumber = 18
+lastNumber = 22
 
 -- a sentence tells its refusal's number: no other number has it, be it a refusal's or not
 abbrev pub Sentences-Tell-Numbers : Type 0

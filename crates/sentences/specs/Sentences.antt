@@ -6,7 +6,7 @@ use mathlib.Core.List.{List, [], _∷_}
 use lib.Dec.{eqb}
 use Rattle.prelude.specs.Bytes.{ascii}
 use Rattle.prelude.specs.Pick.{pick}
-use Rattle.prelude.specs.Refusals.{unfit, tooLong, noOpening, cutOff, illFormed, control, badEscape, surrogate, tooLarge, byteEscape, trailing, noRoom, misplaced, badNumber, tooDeep, tooMany, overLimit, ended}
+use Rattle.prelude.specs.Refusals.{unfit, tooLong, noOpening, cutOff, illFormed, control, badEscape, surrogate, tooLarge, byteEscape, trailing, noRoom, misplaced, badNumber, tooDeep, tooMany, overLimit, ended, badHeader, badLine, wrongType, emptyCell}
 
 -- a refusal's number, and what it says to someone who doesn't know the numbers
 pub record Row : Type 0 where
@@ -19,7 +19,7 @@ row n s = record { number = n; says = s }
 abbrev pub rows : List Row
 rows =
     row unfit "what was lent for this is unfit"
-    ∷ row tooLong "too long: a line may have 1,024 bytes, a string or JSON8 text 32,768"
+    ∷ row tooLong "too long: a line may have 1,024 bytes, a string, JSON8 or TSV8 text 32,768"
     ∷ row noOpening "a J8 string begins with \" or ' or u' or b'"
     ∷ row cutOff "the text ends here, and more is needed: it may be cut off"
     ∷ row illFormed "this byte isn't UTF-8: only b'' can hold it, written as \\yhh"
@@ -36,6 +36,10 @@ rows =
     ∷ row tooMany "more than 1,024 values and keys"
     ∷ row overLimit "the backup is longer than 1,048,576 bytes"
     ∷ row ended "the upload has ended already"
+    ∷ row badHeader "a TSV8 table begins with !tsv8 and 1 to 64 names; !type may follow, with Bool, Int, Float or Str for each"
+    ∷ row badLine "this line can't stand here, or doesn't have one cell for each column"
+    ∷ row wrongType "this cell doesn't fit the type of its column"
+    ∷ row emptyCell "this cell is empty: an empty string is written as \"\""
     ∷ []
 
 -- for a number that no refusal has

@@ -49,7 +49,7 @@ fn put_sentence(number: u32, room: usize, out: &mut [u8]) -> usize
         b"\
 no refusal has this number
 what was lent for this is unfit
-too long: a line may have 1,024 bytes, a string or JSON8 text 32,768
+too long: a line may have 1,024 bytes, a string, JSON8 or TSV8 text 32,768
 a J8 string begins with \" or ' or u' or b'
 the text ends here, and more is needed: it may be cut off
 this byte isn't UTF-8: only b'' can hold it, written as \\yhh
@@ -66,6 +66,10 @@ more than 32 brackets are open
 more than 1,024 values and keys
 the backup is longer than 1,048,576 bytes
 the upload has ended already
+a TSV8 table begins with !tsv8 and 1 to 64 names; !type may follow, with Bool, Int, Float or Str for each
+this line can't stand here, or doesn't have one cell for each column
+this cell doesn't fit the type of its column
+this cell is empty: an empty string is written as \"\"
 ",
         number as usize,
         room,

@@ -16,14 +16,18 @@ use Rattle.json8.specs.declared.answers.Parsed.{Parsed}
 use Rattle.json8.specs.declared.answers.Parsed.the-variants as parsed
 use Rattle.json8_show.specs.declared.show.Shown.{Shown}
 use Rattle.json8_show.specs.declared.show.Shown.the-variants.{InText, InStore, Nowhere}
+use Rattle.tsv8.specs.declared.answers.Sheet.{Sheet}
+use Rattle.tsv8.specs.declared.answers.Sheet.the-variants as sheets
 use Rattle.structs.specs.declared.results.J8Result.{J8Result}
+use Rattle.structs.specs.declared.sheets.J8Sheet.{J8Sheet}
 use Rattle.structs.specs.declared.tables.J8Nodes.{J8Nodes}
 use Rattle.structs.specs.declared.tables.J8Shown.{J8Shown}
 use Rattle.structs.specs.declared.uploads.J8Fed.{J8Fed}
 use Rattle.structs.specs.Results.{decodedResult, writtenResult}
 use Rattle.structs.specs.Uploads.{isEnded, endedNumber, stateWith, stateOf, uploadWith, uploadOf}
 use Rattle.structs.specs.Tables.{nodesResult, shownResult}
-use Rattle.structs.specs.Claims.{States-Return, Structs-Return, Fed-Tells-All, DecodedNumbered, WrittenNumbered, NodesNumbered, Results-Tell-All}
+use Rattle.structs.specs.Sheets.{sheetResult}
+use Rattle.structs.specs.Claims.{States-Return, Structs-Return, Fed-Tells-All, DecodedNumbered, WrittenNumbered, NodesNumbered, SheetNumbered, Results-Tell-All}
 
 -- whether an upload is ended, there and back
 over-back : (b : Bool) → isEnded (endedNumber b) ≡ b
@@ -88,5 +92,17 @@ shown-tells (InStore a b) Nowhere p = let z : _≡_ {A = ℕ} 0 1 = ap (λ (r : 
 shown-tells Nowhere (InText a b) p = let z : _≡_ {A = ℕ} 1 0 = ap (λ (r : J8Shown). r .number) p in absurd (omega arith)
 shown-tells Nowhere (InStore a b) p = let z : _≡_ {A = ℕ} 1 0 = ap (λ (r : J8Shown). r .number) p in absurd (omega arith)
 
+-- sheets
+sheet-tells : (v w : Sheet) → SheetNumbered v → SheetNumbered w → sheetResult v ≡ sheetResult w → v ≡ w
+sheet-tells (sheets.Done n c m) (sheets.Done k d l) x y p =
+    let a : n ≡ k = ap (λ (r : J8Sheet). r .columns) p in
+    let b : c ≡ d = ap (λ (r : J8Sheet). r .cells) p in
+    let e : m ≡ l = ap (λ (r : J8Sheet). r .stored) p in λ i. sheets.Done (a i) (b i) (e i)
+sheet-tells (sheets.Done n c m) (sheets.Refused number place) x y p = absurd (y (sym (ap (λ (r : J8Sheet). r .number) p)))
+sheet-tells (sheets.Refused number place) (sheets.Done n c m) x y p = absurd (x (ap (λ (r : J8Sheet). r .number) p))
+sheet-tells (sheets.Refused number place) (sheets.Refused other q) x y p =
+    let a : number ≡ other = ap (λ (r : J8Sheet). r .number) p in
+    let b : place ≡ q = ap (λ (r : J8Sheet). r .place) p in λ i. sheets.Refused (a i) (b i)
+
 pub results-tell-all : Results-Tell-All
-results-tell-all = (decoded-tells, written-tells, nodes-tells, shown-tells)
+results-tell-all = (decoded-tells, written-tells, nodes-tells, shown-tells, sheet-tells)

@@ -11,12 +11,15 @@ use Rattle.prelude.specs.declared.answers.Written.the-variants as texts
 use Rattle.json8.specs.declared.answers.Parsed.{Parsed}
 use Rattle.json8.specs.declared.answers.Parsed.the-variants as parsed
 use Rattle.json8_show.specs.declared.show.Shown.{Shown}
+use Rattle.tsv8.specs.declared.answers.Sheet.{Sheet}
+use Rattle.tsv8.specs.declared.answers.Sheet.the-variants as sheets
 use Rattle.upload.specs.declared.uploads.Upload.{Upload}
 use Rattle.upload.specs.declared.uploads.Fed.{Fed}
 use Rattle.structs.specs.declared.uploads.J8Upload.{J8Upload}
 use Rattle.structs.specs.Results.{decodedResult, writtenResult}
 use Rattle.structs.specs.Uploads.{stateOf, uploadWith, uploadOf, fedFrom}
 use Rattle.structs.specs.Tables.{nodesResult, shownResult}
+use Rattle.structs.specs.Sheets.{sheetResult}
 
 -- a state that goes out as a struct comes back as it was
 abbrev pub States-Return : Type 0
@@ -43,6 +46,10 @@ abbrev pub NodesNumbered : Parsed → Type 0
 NodesNumbered (parsed.Done nodes stored) = Unit
 NodesNumbered (parsed.Refused number place) = number ≡ 0 → ⊥
 
+abbrev pub SheetNumbered : Sheet → Type 0
+SheetNumbered (sheets.Done columns cells stored) = Unit
+SheetNumbered (sheets.Refused number place) = number ≡ 0 → ⊥
+
 -- "number 0: done", and each other number a refusal: one struct, one answer
 abbrev pub Results-Tell-All : Type 0
 Results-Tell-All =
@@ -50,3 +57,4 @@ Results-Tell-All =
     × ((v w : Written) → WrittenNumbered v → WrittenNumbered w → writtenResult v ≡ writtenResult w → v ≡ w)
     × ((v w : Parsed) → NodesNumbered v → NodesNumbered w → nodesResult v ≡ nodesResult w → v ≡ w)
     × ((v w : Shown) → shownResult v ≡ shownResult w → v ≡ w)
+    × ((v w : Sheet) → SheetNumbered v → SheetNumbered w → sheetResult v ≡ sheetResult w → v ≡ w)

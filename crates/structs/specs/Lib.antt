@@ -1,4 +1,5 @@
 pub mod Results
 pub mod Uploads
 pub mod Tables
+pub mod Sheets
 pub mod Claims
