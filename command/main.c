@@ -11,15 +11,16 @@ uint32_t j8_run(bool terminal, uint8_t *text, size_t text_len, uint32_t *table, 
 /* The longest text, a line's end behind it, and a byte more: a text that fills this is too long. */
 static uint8_t text[32768 + 3];
 
-/* The nodes of a JSON8 text, and the bytes of its strings; of J8 Lines the line that is held. */
-static uint32_t table[4 * 1024];
+/* The nodes of a JSON8 text, 1,024 at most, or the cells of a TSV8 text, which need more (J8_CELLS_ROOM of j8.h); and the bytes of their strings; of
+ * J8 Lines the line that is held. */
+static uint32_t table[48546];
 static uint8_t store[32768];
 
 /* A record: its head and a line. */
 static uint8_t record[4 + 1024];
 
-/* What is printed: a text has at most twice its bytes in the written form, and a number, a tab and LF stand around a string. On a terminal a byte
- * takes eight at most. */
+/* What is printed: a text has at most twice its bytes in the written form, and a number, a tab and LF stand around a string. A cell's line has two
+ * strings of one text, which !tsv8, two tabs and an LF are left out of: it is no longer. On a terminal a byte takes eight at most. */
 static uint8_t page[2 * 32768 + 24];
 static uint8_t shown[8 * sizeof page];
 

@@ -2,14 +2,14 @@
 
 # The words that can stand behind those that it is called with.
 _j8_words() {
-  local commands="lines quote unquote json8 strings help"
+  local commands="lines quote unquote json8 strings tsv8 help"
   case ${1:-} in
     "") echo "$commands --help --version" ;;
     help) [ $# -gt 1 ] || echo "$commands" ;;
     lines) echo "--pieces --json --help" ;;
     quote) echo "--line --lines -0 --json --help" ;;
     unquote) echo "--lines -0 --json --help" ;;
-    json8 | strings) echo "--json --help" ;;
+    json8 | strings | tsv8) echo "--json --help" ;;
   esac
 }
 
@@ -17,7 +17,7 @@ _j8_words() {
 _j8_file() {
   local typed=$1 word
   shift
-  case ${1:-} in lines | quote | unquote | json8 | strings) ;; *) return 1 ;; esac
+  case ${1:-} in lines | quote | unquote | json8 | strings | tsv8) ;; *) return 1 ;; esac
   for word in "${@:2}"; do
     [ "$word" != -- ] || return 0
   done

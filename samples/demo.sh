@@ -74,3 +74,12 @@ for backup in samples/settings.json8 samples/cut-off.json8 samples/none.json8 ""
   echo "\$ if j8 json8 '$backup' >checked.json8; then echo restored; else echo not restored; fi"
   if "$command" json8 "$backup" 2>&1 >/dev/null; then echo restored; else echo "not restored"; fi
 done
+echo
+echo "A counter log as the printer writes it, cell by cell: its row, the name of its column, its value:"
+j8 tsv8 samples/counters.tsv8
+echo "The same after a spreadsheet had it: CR LF at the line ends, quotes gone where none are needed, a line of units:"
+j8 tsv8 samples/spreadsheet.tsv8
+echo "Logs that are refused: a tab inside quotes makes a cell too many, words in a column of numbers, quotes doubled as a spreadsheet does:"
+for sample in cell-too-many wrong-type doubled-quotes; do
+  j8 tsv8 samples/$sample.tsv8
+done

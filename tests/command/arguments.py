@@ -63,7 +63,7 @@ def longest_name():
 
 def options():
     belong = {"lines": ("--pieces", "--json"), "quote": ("--line", "--lines", "-0", "--json"), "unquote": ("--lines", "-0", "--json"),
-              "json8": ("--json",), "strings": ("--json",)}
+              "json8": ("--json",), "strings": ("--json",), "tsv8": ("--json",)}
     every = "--pieces", "--pieces=3", "--line", "--lines", "-0", "-00", "-l", "-x", "--jso", "--jsonx", "--json=1", "--lines=", "-0x", "--version", *HOSTILE[:3]
     for word in READERS:
         for option in every:

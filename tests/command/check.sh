@@ -41,10 +41,15 @@ held() {
 # Every subcommand on every sample.
 for sample in samples/*; do
   case $sample in *.sh | *.expected) continue ;; esac
-  for words in lines quote "quote --lines" "quote -0" unquote "unquote --lines" "unquote -0" json8 strings; do
+  for words in lines quote "quote --lines" "quote -0" unquote "unquote --lines" "unquote -0" json8 strings tsv8; do
     transcript $words "$sample"
   done | held "${sample#samples/}" || fail "expected/${sample#samples/} differs"
 done
+
+# Each log, cell by cell, or where it is refused.
+for sample in samples/*.tsv8; do
+  transcript tsv8 "$sample"
+done | held tsv8 || fail "expected/tsv8 differs"
 
 # How a backup is cut makes no difference, nor whether it comes from a file or through a pipe that hands over what is there.
 for sample in samples/*.j8l; do
@@ -60,7 +65,7 @@ done
 {
   transcript
   transcript help
-  for word in lines quote unquote json8 strings; do
+  for word in lines quote unquote json8 strings tsv8; do
     transcript help $word
   done
   transcript records samples/folders.j8l
@@ -86,7 +91,7 @@ done
   # An unquoted key of one letter and its colon double.
   { printf '[{'; for i in $(seq 1 500); do printf 'a:1,'; done; printf "'"; head -c 30000 /dev/zero | tr '\0' '"'; printf "':1}]"; } | transcript json8
 } | held limits || fail "expected/limits differs"
-for words in "lines samples/folders.j8l" "quote samples/name.bin" "unquote samples/name.j8" "json8 samples/settings.json8" "strings samples/settings.json8" help; do
+for words in "lines samples/folders.j8l" "quote samples/name.bin" "unquote samples/name.j8" "json8 samples/settings.json8" "strings samples/settings.json8" "tsv8 samples/counters.tsv8" help; do
   echo "\$ j8 $words >/dev/full"
   "$command" $words 2>&1 >/dev/full
   echo "-- status $?"

@@ -8,14 +8,14 @@ import tempfile
 import threading
 import time
 
-from testing import COMMAND, GOOD, READERS, SAMPLES, Held, quoted, run, tame
+from testing import COMMAND, GOOD, READERS, SAMPLES, Held, Run, limits, quoted, run, tame
 
 held = Held("files")
 NOBODY = 65534
 HOSTILE = (b"none", b"a name", b'"', b"'", b"\\", b"\x1b]0;gone\x07", b"line\nend", b"\x7f", "\x9b31m".encode(), "\u202etxt".encode(), b"caf\xe9", b"\xed\xa0\xbe",
            "\u200f".encode() + b"\xff")
 KINDS = (("lines",), ("quote",), ("quote", "--line"), ("quote", "--lines"), ("quote", "-0"), ("unquote",), ("unquote", "--lines"), ("unquote", "-0"), ("json8",),
-         ("strings",))
+         ("strings",), ("tsv8",))
 
 
 def good(words):
@@ -108,7 +108,7 @@ def large(kind):
     if kind[1:] == ("-0",):
         return b"scans/in\0" * 50000 if kind[0] == "quote" else b"scans/in\n" * 50000
     return {"quote": b"a" * 32000, "unquote": b"'" + b"a" * 32000 + b"'", "json8": b"[" + b"'%s'," % (b"a" * 300) * 100 + b"]",
-            "strings": b"[" + b"'%s'," % (b"a" * 300) * 100 + b"]"}[kind[0]]
+            "strings": b"[" + b"'%s'," % (b"a" * 300) * 100 + b"]", "tsv8": b"!tsv8\t" + b"a" * 30000 + b"\n\t1" * 900}[kind[0]]
 
 
 def cut_off():
@@ -126,6 +126,34 @@ def cut_off():
             os.close(writer)
         closed = subprocess.run(["sh", "-c", 'exec "$0" "$@" >&-', COMMAND, *kind], input=good(kind), stderr=subprocess.PIPE)
         held.that(closed.returncode == 3 and b"Bad file descriptor" in closed.stderr, "%s to a closed output" % (kind,), closed)
+
+
+def cut_off_midway():
+    """A reader that goes away in the middle of a log of 27 MB, and a disk that is full there."""
+    text = large(("tsv8",))
+    whole = run("tsv8", text=text).out
+    for ignored in False, True:
+        for size in 1, 65536, 1000000:
+            with tempfile.TemporaryFile() as said:
+                child = subprocess.Popen([COMMAND, "tsv8"], stdin=subprocess.PIPE, stdout=subprocess.PIPE, stderr=said, preexec_fn=limits(pipe_ignored=ignored), bufsize=0)
+                child.stdin.write(text)
+                child.stdin.close()
+                got = b""
+                while len(got) < size:
+                    got += child.stdout.read(size - len(got))
+                child.stdout.close()
+                status = child.wait(60)
+                said.seek(0)
+                held.that(got == whole[:size], "tsv8 wrote other %d bytes" % size)
+                done = Run(status, b"", said.read())
+            if ignored:
+                failed(done, "tsv8 whose reader goes away", reason=b"Broken pipe")
+            else:
+                held.that((done.status, done.err) == (-13, b""), "tsv8 whose reader goes away: status %d" % done.status, done.err)
+    with tempfile.TemporaryFile() as file:
+        failed(run("tsv8", text=text, out=file, file_size=200000), "tsv8 to a file of 200,000 bytes", reason=b"File too large")
+        file.seek(0)
+        held.that(file.read() == whole[:200000], "tsv8 wrote no 200,000 bytes first")
 
 
 def closed_with_file():
@@ -166,7 +194,8 @@ def small_stack():
     """64 KiB of stack are enough for every subcommand, on every sample and on the largest inputs."""
     inputs = [(kind, large(kind)) for kind in KINDS]
     inputs += [(("json8",), b"[" * 32 + b"1" + b"]" * 32), (("json8",), b"{" + b"a:1," * 511 + b"}"), (("strings",), b"[" + b"'\\u{e9}'," * 1023 + b"]"),
-               (("quote",), b"\x01" * 5000), (("json8",), b'"' + b"\\ud83e" * 2700 + b'"'), (("lines",), b"'" + b"\\u{10ffff}" * 90 + b"'\n")]
+               (("quote",), b"\x01" * 5000), (("json8",), b'"' + b"\\ud83e" * 2700 + b'"'), (("lines",), b"'" + b"\\u{10ffff}" * 90 + b"'\n"),
+               (("tsv8",), b"!tsv8" + b"\tx" * 62 + (b"\n" + b"\tx" * 62) * 261), (("tsv8",), b"!tsv8\t'a\\n'\n" + b"\t'\\u{e9}'\n" * 2500)]
     for sample in sorted(os.listdir(SAMPLES)):
         with open(os.path.join(SAMPLES, sample), "rb") as file:
             text = file.read()
@@ -182,6 +211,7 @@ unreadable()
 read_errors()
 full()
 cut_off()
+cut_off_midway()
 closed_with_file()
 slow()
 small_stack()

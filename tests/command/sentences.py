@@ -7,7 +7,7 @@ import re
 from testing import BOM, SAMPLES, Held, quoted, run, tame
 
 held = Held("sentences")
-KINDS = ("lines",), ("quote",), ("quote", "--lines"), ("quote", "-0"), ("unquote",), ("unquote", "--lines"), ("unquote", "-0"), ("json8",), ("strings",)
+KINDS = ("lines",), ("quote",), ("quote", "--lines"), ("quote", "-0"), ("unquote",), ("unquote", "--lines"), ("unquote", "-0"), ("json8",), ("strings",), ("tsv8",)
 FIELDS = ["number", "line", "column", "place", "sentence"]
 
 # A slip in JSON8, where it stands, and which of the five things could stand there.
@@ -78,7 +78,7 @@ def every_sample():
             text = file.read()
         for words in KINDS:
             seen |= {one["number"] for one in objects(text, words, "%s of %s" % (" ".join(words), sample))}
-    held.that({2, 3, 4, 5, 11, 13, 14, 15} <= seen, "the samples show too few refusals:", seen)
+    held.that({2, 3, 4, 5, 11, 13, 14, 15, 19, 20, 21} <= seen, "the samples show too few refusals:", seen)
 
 
 def every_number():
@@ -94,6 +94,10 @@ def every_number():
     for text, number, place in (b"\xc3\xa9", 13, 0), (b"[01]", 14, 1), (b"[" * 33, 15, 32), (b"[" + b"1," * 1024, 16, 2047), (b"[1]]", 11, 3), (b"[1", 4, 2):
         said = objects(b"#\n" + text, ("json8",), "json8 of %r" % text[:12])
         held.that(said[:1] and (said[0]["number"], said[0]["line"], said[0]["column"], said[0]["place"]) == (number, 2, place + 1, place + 2), "json8 of %r says" % text[:12], said)
+    for text, number, place in (b"x", 19, 0), (b"!tsv8\ta\n!type\tint", 19, 14), (b"!tsv8\ta\n\tx\ty", 20, 8), (b"!tsv8\ta\n!type\tInt\n\t 4l", 21, 19), (b"!tsv8\ta\n\t ", 22, 9), (b"!tsv8\ta\n\t'x' y", 11, 12):
+        said = objects(b"\n" + text, ("tsv8",), "tsv8 of %r" % text)
+        line, column = text[:place].count(b"\n") + 2, place - text.rfind(b"\n", 0, place)
+        held.that(said[:1] and (said[0]["number"], said[0]["line"], said[0]["column"], said[0]["place"]) == (number, line, column, place + 1), "tsv8 of %r says" % text, said)
 
 
 def columns():
@@ -122,7 +126,7 @@ def slips():
 def byte_order_marks():
     """A second sentence where a listed or refused line, or a refused JSON8 text, begins with a byte order mark; nowhere else."""
     marked = [(("lines",), BOM + b'"scans/in"\n', 0), (("lines",), b"a\n" + BOM + b"b\n", 0), (("lines",), BOM + b"\xff", 1), (("lines",), b"a\n" + BOM + b'"b" \x01\n', 1),
-              (("json8",), BOM + b"[1]", 1), (("strings",), BOM + b"[1]", 1), (("json8",), BOM, 1)]
+              (("json8",), BOM + b"[1]", 1), (("strings",), BOM + b"[1]", 1), (("json8",), BOM, 1), (("tsv8",), BOM + b"!tsv8\ta\n", 1)]
     for words, text, status in marked:
         said = objects(text, words, "%s of %r" % (words[0], text))
         held.that(sum("byte order mark" in one["sentence"] for one in said) == 1, "%s of %r says no word of its mark:" % (words[0], text), said)

@@ -93,6 +93,22 @@ def backups():
     held.that(run("strings", text=text).out == b"".join(b"%d\t%s\n" % (node, quoted(name)) for node, name in nodes), "strings prints otherwise to a pipe")
 
 
+def logs():
+    """TSV8: the names of columns and the strings of cells, quoted and bare; numbers as they stand."""
+    pairs = [(NAMES[at], NAMES[-at - 1]) for at in range(min(64, len(NAMES) // 2))]
+    text = b"!tsv8" + b"".join(b"\t" + quoted(name) for name, _ in pairs) + (b"\n" + b"".join(b"\t" + quoted(value) for _, value in pairs)) * 3
+    for terminal, status, shown in (True, *on_terminal("tsv8", text=text)), (False, 0, run("tsv8", text=text).out):
+        lines = b"".join(b"%d\t%s\t%s\n" % (row, quoted(name, terminal), quoted(value, terminal)) for row in (1, 2, 3) for name, value in pairs)
+        held.that((status, shown) == (0, lines), "tsv8 shows otherwise where terminal is %s:" % terminal, shown[:300])
+        held.that(not terminal or tame(shown.replace(b"\t", b" ")), "tsv8 shows what drives a terminal")
+    bare = "a\x7f\x9b\u202eb".encode()
+    text = b"!tsv8\t" + bare + b"\tn\tf\n!type\tStr\tInt\tBool\n\t" + bare + b"\t41\ttrue\n"
+    lines = b"1\t%s\t%s\n1\t%s\t41\n1\t%s\ttrue\n" % (quoted(bare, True), quoted(bare, True), b'"n"', b'"f"')
+    held.that(on_terminal("tsv8", text=text) == (0, lines), "tsv8 shows bare strings as", on_terminal("tsv8", text=text))
+    status, said = on_terminal("tsv8", text=b"!tsv8\ta\n\t\x1b]0;gone\x07\n", error=True)
+    held.that(status == 1 and tame(said) and b"refused 6 at line 2, column 2, place 9: " in said, "tsv8 says of a control", said)
+
+
 def raw():
     """unquote is raw, on a terminal too; a file's name never is; and help is the same everywhere."""
     for name in NAMES:
@@ -107,5 +123,6 @@ def raw():
 strings()
 books()
 backups()
+logs()
 raw()
 held.end("DEL, C1 controls and bidirectional marks on a terminal and to a pipe")

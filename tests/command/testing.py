@@ -8,11 +8,11 @@ import sys
 COMMAND = os.path.realpath(sys.argv[1])
 ROOT = os.path.join(os.path.dirname(os.path.abspath(__file__)), "..", "..")
 SAMPLES = os.path.join(ROOT, "samples")
-READERS = ("lines", "quote", "unquote", "json8", "strings")
+READERS = ("lines", "quote", "unquote", "json8", "strings", "tsv8")
 BOM = b"\xef\xbb\xbf"
 
 # The least that a text has to have so that a subcommand takes it.
-GOOD = {"lines": b"scans/in\n", "quote": b"scans/in", "unquote": b'"scans/in"\n', "json8": b"[1]\n", "strings": b'["a"]\n'}
+GOOD = {"lines": b"scans/in\n", "quote": b"scans/in", "unquote": b'"scans/in"\n', "json8": b"[1]\n", "strings": b'["a"]\n', "tsv8": b"!tsv8\ta\n\t1\n"}
 
 LETTERS = {8: "b", 9: "t", 10: "n", 12: "f", 13: "r"}
 MARKS = [0x200E, 0x200F, 0x061C, *range(0x202A, 0x202F), *range(0x2066, 0x206A)]

@@ -56,6 +56,16 @@ fn strings(fd: i32) -> bool {
     )
 }
 
+fn tsv8(fd: i32) -> bool {
+    io::write_all(
+        fd,
+        b"  tsv8 [FILE]
+      prints each cell of a TSV8 log: its row, a tab, the name of its column as
+      a J8 string, a tab, its value
+",
+    )
+}
+
 fn whole(fd: i32) -> bool {
     io::write_all(
         fd,
@@ -68,6 +78,7 @@ j8 COMMAND [OPTION..] [FILE]: J8 Notation backups, from FILE or standard input
         && unquote(fd)
         && json8(fd)
         && strings(fd)
+        && tsv8(fd)
         && io::write_all(
             fd,
             b"  help [COMMAND], --help, -h    prints this
@@ -89,6 +100,7 @@ fn print_to(fd: i32, command: Command) -> bool {
         Command::Unquote => unquote(fd),
         Command::Json8 => json8(fd),
         Command::Strings => strings(fd),
+        Command::Tsv8 => tsv8(fd),
         _ => whole(fd),
     }
 }
@@ -105,5 +117,5 @@ pub(crate) fn missing() -> Outcome {
 }
 
 pub(crate) fn version() -> Outcome {
-    outputs::ended(io::write_all(STDOUT_FILENO, b"j8 0.1.0\n"))
+    outputs::ended(io::write_all(STDOUT_FILENO, b"j8 0.2.0\n"))
 }

@@ -50,6 +50,7 @@ fn run_text(
         }
         Command::Unquote => quoting::unquote(text, store),
         Command::Json8 => command_tables::rewrite(text, terminal, table, store, page, shown),
+        Command::Tsv8 => command_sheets::list(text, terminal, table, store, page, shown),
         _ => command_tables::list(text, terminal, table, store, page, shown),
     }
 }

@@ -16,7 +16,7 @@ use Rattle.prelude.specs.Bytes.{ascii}
 use Rattle.prelude.specs.Pick.{pick}
 use Rattle.strings_write.specs.Write.{writeString}
 use Rattle.decimals.specs.Decimals.{decimal}
-use Rattle.entries.specs.Entries.{entryText}
+use Rattle.entries.specs.Entries.{entryText, valueText, cellText}
 use Rattle.command_texts.specs.Texts.{PutWhole}
 use Rattle.command_texts.proofs.Puts.{put-whole}
 use Rattle.command_outputs.specs.declared.pages.Page.{Page}
@@ -36,10 +36,14 @@ unfolding pageOutcome
 page-done p e = sym (pick-false _ _ _ e)
 
 -- no text is empty
-form-some : (form : Form) (n : ℕ) (s : List ℕ) → 0 < length (formText form n s)
+pub form-some : (form : Form) (n : ℕ) (s : List ℕ) → 0 < length (formText form n s)
 unfolding entryText
 form-some Entry n s = omega (arith, length-append (decimal n) (ascii "\t" ++ (writeString s ++ ascii "\n")))
 form-some (Raw end) n s = omega (arith, length-append s (end ∷ []))
+
+pub cell-some : (row : ℕ) (name : List ℕ) (quoted : Bool) (value : List ℕ) → 0 < length (cellText row name quoted value)
+unfolding cellText
+cell-some row name quoted value = omega (arith, length-append (decimal row) (ascii "\t" ++ (writeString name ++ (ascii "\t" ++ (valueText quoted value ++ ascii "\n")))))
 
 -- a text and a byte behind it
 pub put-both : (s : List ℕ) (x at : ℕ) (page : List ℕ) {e r : ℕ} {one two : List ℕ} → at ≤ length page → length s < length page - at
@@ -87,10 +91,7 @@ module _ (p : Page) (page shown : List ℕ) (n : ℕ) (f : p .at ≤ length page
     }
 
 -- a text added, by the place that was answered
-module _ (p : Page) (form : Form) (n : ℕ) (s page shown : List ℕ) {at : ℕ} {new : List ℕ} (w : PutWhole (formText form n s) (p .at) at page new) where
-  abbrev text : List ℕ
-  text = formText form n s
-
+module _ (p : Page) {text : List ℕ} (some : 0 < length text) (page shown : List ℕ) {at : ℕ} {new : List ℕ} (w : PutWhole text (p .at) at page new) where
   pub added-behind : p .at < at → Added p text page shown (record { at = at; terminal = p .terminal; failed = p .failed; error = p .error }) new shown
   added-behind h = (
     λ e. record {
@@ -105,7 +106,7 @@ module _ (p : Page) (form : Form) (n : ℕ) (s page shown : List ℕ) {at : ℕ}
     full : leb (p .at + length text) (length page) ≡ false
     full =
         split (leb (p .at + length text) (length page))
-        (λ e. absurd (omega (arith, h, form-some form n s, w .answer ∙ pick-true _ _ _ e)))
+        (λ e. absurd (omega (arith, h, some, w .answer ∙ pick-true _ _ _ e)))
         (λ e. e)
 
     same : new ≡ page

@@ -1,3 +1,4 @@
 mod Printing
 mod Adding
+pub mod Ends
 pub mod Claims

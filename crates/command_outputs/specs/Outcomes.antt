@@ -2,6 +2,9 @@
 -- Assumes nothing.
 use Prim.Native.Nat.{ℕ}
 use mathlib.Core.Bool.{Bool, true, false}
+use mathlib.Core.List.{List}
+use Rattle.positions.specs.Positions.{positionOf}
+use Rattle.messages.specs.declared.Spot.the-variants.{Text}
 use Rattle.command_outputs.specs.declared.outcomes.Outcome.{Outcome}
 use Rattle.command_outputs.specs.declared.outcomes.Outcome.the-variants.{Done, Refused, Long, Mixed, Misused, Unread, Unwritten}
 
@@ -24,3 +27,17 @@ isUnwritten (Mixed line) = false
 isUnwritten (Misused fault argument) = false
 isUnwritten (Unread error) = false
 isUnwritten (Unwritten error) = true
+
+-- a refusal, with the line and column of its place
+abbrev pub refusedAt : List ℕ → ℕ → ℕ → Outcome
+refusedAt text number place = Refused number (Text (positionOf text place .line) (positionOf text place .column)) place
+
+-- printed, or not written, as the system has it
+abbrev pub isPrinted : Outcome → Bool
+isPrinted Done = true
+isPrinted (Refused number spot place) = false
+isPrinted (Long size) = false
+isPrinted (Mixed line) = false
+isPrinted (Misused fault argument) = false
+isPrinted (Unread error) = false
+isPrinted (Unwritten error) = true

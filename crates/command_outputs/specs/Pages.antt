@@ -1,6 +1,6 @@
 -- The page: texts one behind another, printed when there is no room for the next. What the system says of printing is all that isn't told here.
 -- Assumes nothing.
-use Prim.Native.Nat.{ℕ, _+_}
+use Prim.Native.Nat.{ℕ, zero, suc, _+_}
 use mathlib.Core.Bool.{Bool, true, false}
 use mathlib.Core.List.{List, [], _∷_, _++_}
 use mathlib.Core.Path.{_≡_}
@@ -52,3 +52,25 @@ abbrev pub Added : Page → List ℕ → List ℕ → List ℕ → Page → List
 Added p text page shown r page' shown' =
     (leb (p .at + length text) (length page) ≡ true → Behind p text page shown r page' shown')
     × (leb (p .at + length text) (length page) ≡ false → Anew p text page shown r page' shown')
+
+-- a text added behind others
+pub record Next (Before : Page → List ℕ → List ℕ → Type 0) (text : List ℕ) (r : Page) (page' shown' : List ℕ) : Type 0 where
+  pub was : Page
+  pub page : List ℕ
+  pub shown : List ℕ
+  pub before : Before was page shown
+  pub added : Added was text page shown r page' shown'
+
+-- texts 0 to n - 1, added in order
+abbrev pub AllAdded : (ℕ → List ℕ) → ℕ → Page → List ℕ → List ℕ → Page → List ℕ → List ℕ → Type 0
+AllAdded text zero p page shown r page' shown' = (r ≡ p) × (page' ≡ page) × (shown' ≡ shown)
+AllAdded text (suc n) p page shown r page' shown' = Next (λ q a b. AllAdded text n p page shown q a b) (text n) r page' shown'
+
+-- the same from an empty page on, and what is left on the page then printed: `last` is the page before that, `end` behind it
+pub record AllPrinted (text : ℕ → List ℕ) (n : ℕ) (terminal : Bool) (page shown : List ℕ) (o : Outcome) (page' shown' : List ℕ) : Type 0 where
+  pub last : Page
+  pub left : List ℕ
+  pub end : Page
+  pub added : AllAdded text n (freshPage terminal) page shown last page' left
+  pub printed : Printed last page' left end shown'
+  pub outcome : o ≡ pageOutcome end

@@ -1,6 +1,6 @@
 // How a run ends, and its status.
 ghost use mathlib.Core.Path.{_≡_};
-ghost use Rattle.command_outputs.specs.Outcomes.{statusOf};
+ghost use Rattle.command_outputs.specs.Outcomes.{statusOf, refusedAt};
 use messages::Spot;
 
 pub enum Outcome {
@@ -39,4 +39,12 @@ pub fn status_of(outcome: Outcome) -> u32
         Outcome::Unread(_) => 3,
         Outcome::Unwritten(_) => 3,
     }
+}
+
+// A refused text, with the line and column of the place.
+pub fn refused_at(text: &[u8], number: u32, place: usize) -> Outcome
+    ensures { λ r. ⌜ r ≡ refusedAt (now (text .entry)) number place ⌝ }
+{
+    let p = positions::position_of(text, place);
+    Outcome::Refused(number, Spot::Text(p.line, p.column), place)
 }

@@ -2,7 +2,7 @@
 ghost use mathlib.Core.List.{[], _∷_, _++_};
 ghost use mathlib.Core.Path.{_≡_};
 ghost use lib.ListN.{length};
-ghost use Rattle.entries.specs.Entries.{entryText};
+ghost use Rattle.entries.specs.Entries.{entryText, cellText};
 ghost use Rattle.command_texts.specs.Texts.{PutWhole};
 ghost use Rattle.command_outputs.specs.Pages.{freshPage, formText, pageOutcome, Printed, Added};
 use crate::outcomes::Outcome;
@@ -95,6 +95,46 @@ pub fn add(p: Page, form: Form, n: usize, s: &[u8], page: &mut [u8], shown: &mut
     }
     p = flush(p, page, shown);
     p.at = put_form(form, n, s, 0, page);
+    p
+}
+
+fn put_cell(
+    row: usize,
+    name: &[u8],
+    quoted: bool,
+    value: &[u8],
+    at: usize,
+    page: &mut [u8],
+) -> usize
+    ensures { λ r. ⌜ PutWhole (cellText row (now (name .entry)) quoted (now (value .entry))) at r (now (page .entry)) (now (page .exit)) ⌝ }
+{
+    if page.len() < at {
+        return at;
+    }
+    let written = entries::write_cell(row, name, quoted, value, &mut page[at..]);
+    command_texts::behind(written, at, page)
+}
+
+// The same of a cell of a log.
+pub fn add_cell(
+    p: Page,
+    row: usize,
+    name: &[u8],
+    quoted: bool,
+    value: &[u8],
+    page: &mut [u8],
+    shown: &mut [u8],
+) -> Page
+    ensures { λ r. ⌜ Added p (cellText row (now (name .entry)) quoted (now (value .entry))) (now (page .entry)) (now (shown .entry)) r (now (page .exit)) (now (shown .exit)) ⌝ }
+{
+    let mut p = p;
+    let at = put_cell(row, name, quoted, value, p.at, page);
+    if p.at < at {
+        p.at = at;
+        return p;
+    }
+    p = flush(p, page, shown);
+    p.at = put_cell(row, name, quoted, value, 0, page);
     p
 }
 

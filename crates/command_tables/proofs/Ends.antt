@@ -1,4 +1,4 @@
--- How a run ends, by what the reader, the writer and the system say.
+-- How a run ends, by what the reader and the writer say.
 -- Assumes nothing.
 use Prim.Native.Nat.{ℕ, _/_, _≤_, _<_}
 use mathlib.Core.Bool.{Bool, true, false}
@@ -6,8 +6,7 @@ use mathlib.Core.List.{List}
 use mathlib.Core.Path.{_≡_, refl, sym, ap, ap₂, subst, _∙_}
 use native.Mathlib.Omega.{arith}
 use lib.ListN.{length}
-use Rattle.prelude.proofs.Cases.{split, never}
-use Rattle.prelude.proofs.Picks.{pick-case}
+use Rattle.prelude.proofs.Cases.{never}
 use Rattle.prelude.specs.Limits.{textMax}
 use Rattle.prelude.specs.declared.answers.Written.{Written}
 use Rattle.prelude.specs.declared.answers.Written.the-variants as written
@@ -17,34 +16,10 @@ use Rattle.trees.specs.Tables.{nodesIn, treeOf}
 use Rattle.json8_write.specs.Write.{wroteTree}
 use Rattle.json8.specs.declared.answers.Parsed.{Parsed}
 use Rattle.json8.specs.declared.answers.Parsed.the-variants as parsed
-use Rattle.positions.specs.declared.Position.{Position}
-use Rattle.positions.specs.Positions.{positionOf}
-use Rattle.messages.specs.declared.Spot.the-variants.{Text}
 use Rattle.command_outputs.specs.declared.outcomes.Outcome.{Outcome}
-use Rattle.command_outputs.specs.declared.outcomes.Outcome.the-variants.{Done, Refused, Long, Mixed, Misused, Unread, Unwritten}
-use Rattle.command_outputs.specs.declared.pages.Page.{Page}
-use Rattle.command_outputs.specs.Outcomes.{isUnwritten}
-use Rattle.command_outputs.specs.Pages.{pageOutcome}
-use Rattle.command_tables.specs.Runs.{refusedAt, isPrinted, ByRead, ByWritten, Listed, Rewritten}
-
-pub refused-there : (text : List ℕ) (number place : ℕ) (p : Position) → p ≡ positionOf text place → Refused number (Text (p .line) (p .column)) place ≡ refusedAt text number place
-refused-there text number place p e = ap (λ (q : Position). Refused number (Text (q .line) (q .column)) place) e
-
-unwritten : (o : Outcome) → isUnwritten o ≡ true → isPrinted o ≡ true
-unwritten Done e = refl
-unwritten (Refused number spot place) e = e
-unwritten (Long size) e = e
-unwritten (Mixed line) e = e
-unwritten (Misused fault argument) e = e
-unwritten (Unread error) e = e
-unwritten (Unwritten error) e = refl
-
-pub ended-printed : (printed : Bool) (o : Outcome) → (printed ≡ true → o ≡ Done) × (printed ≡ false → isUnwritten o ≡ true) → isPrinted o ≡ true
-ended-printed printed o p = split printed (λ e. ap isPrinted (p .0 e)) (λ e. unwritten o (p .1 e))
-
-pub page-printed : (p : Page) (o : Outcome) → o ≡ pageOutcome p → isPrinted o ≡ true
-unfolding pageOutcome
-page-printed p o e = ap isPrinted e ∙ pick-case (λ (x : Outcome). isPrinted x ≡ true) (p .failed) (Unwritten (p .error)) Done (λ q. refl) (λ q. refl)
+use Rattle.command_outputs.specs.declared.outcomes.Outcome.the-variants.{Long}
+use Rattle.command_outputs.specs.Outcomes.{refusedAt, isPrinted}
+use Rattle.command_tables.specs.Runs.{ByRead, ByWritten, Listed, Rewritten}
 
 pub written-long : (n : ℕ) → textMax < n → (textMax < n → Long n ≡ Long n) × (n ≤ textMax → isPrinted (Long n) ≡ true)
 written-long n h = (λ q. refl, λ q. absurd (omega (arith, h, q)))

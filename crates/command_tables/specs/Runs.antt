@@ -1,7 +1,7 @@
 -- How a run on a JSON8 text ends: all but whether the system takes what is printed.
 -- Assumes nothing.
 use Prim.Native.Nat.{ℕ, _/_, _≤_, _<_}
-use mathlib.Core.Bool.{Bool, true, false}
+use mathlib.Core.Bool.{true}
 use mathlib.Core.List.{List}
 use mathlib.Core.Path.{_≡_}
 use lib.ListN.{length}
@@ -12,24 +12,9 @@ use Rattle.json8.specs.Nodes.{Read, got, refused}
 use Rattle.json8.specs.Read.{readOf, tableAfter, storeAfter}
 use Rattle.trees.specs.Tables.{nodesIn, treeOf}
 use Rattle.json8_write.specs.Write.{wroteTree}
-use Rattle.positions.specs.Positions.{positionOf}
-use Rattle.messages.specs.declared.Spot.the-variants.{Text}
 use Rattle.command_outputs.specs.declared.outcomes.Outcome.{Outcome}
-use Rattle.command_outputs.specs.declared.outcomes.Outcome.the-variants.{Done, Refused, Long, Mixed, Misused, Unread, Unwritten}
-
--- a refusal, with the line and column of its place
-abbrev pub refusedAt : List ℕ → ℕ → ℕ → Outcome
-refusedAt text number place = Refused number (Text (positionOf text place .line) (positionOf text place .column)) place
-
--- printed, or not written, as the system has it
-abbrev pub isPrinted : Outcome → Bool
-isPrinted Done = true
-isPrinted (Refused number spot place) = false
-isPrinted (Long size) = false
-isPrinted (Mixed line) = false
-isPrinted (Misused fault argument) = false
-isPrinted (Unread error) = false
-isPrinted (Unwritten error) = true
+use Rattle.command_outputs.specs.declared.outcomes.Outcome.the-variants.{Long}
+use Rattle.command_outputs.specs.Outcomes.{refusedAt, isPrinted}
 
 -- by what the reader says of the text: a refusal of it, or what holds of an accepted one
 abbrev pub ByRead : List ℕ → Read → (Outcome → Type 0) → Outcome → Type 0

@@ -7,8 +7,10 @@ ghost use Rattle.prelude.specs.Limits.{textMax};
 ghost use Rattle.json8.specs.Read.{readOf, tableAfter, storeAfter};
 ghost use Rattle.trees.specs.Tables.{nodesIn, treeOf};
 ghost use Rattle.json8_write.specs.Write.{wroteTree};
+ghost use Rattle.command_outputs.specs.Outcomes.{isPrinted};
 ghost use Rattle.command_outputs.specs.declared.outcomes.Outcome.the-variants.{Long};
-ghost use Rattle.command_tables.specs.Runs.{refusedAt, isPrinted, ByWritten, Listed, Rewritten};
+ghost use Rattle.command_tables.specs.Runs.{ByWritten, Listed, Rewritten};
+use command_outputs::outcomes;
 use command_outputs::outcomes::Outcome;
 use command_outputs::outputs;
 use command_outputs::pages;
@@ -19,16 +21,8 @@ use json8_read::read;
 use json8_show::show;
 use json8_show::show::Shown;
 use json8_write::write;
-use messages::Spot;
 use prelude::answers::Written;
 use prelude::limits::TEXT_MAX;
-
-fn refused(text: &[u8], number: u32, place: usize) -> Outcome
-    ensures { λ r. ⌜ r ≡ refusedAt (now (text .entry)) number place ⌝ }
-{
-    let p = positions::position_of(text, place);
-    Outcome::Refused(number, Spot::Text(p.line, p.column), place)
-}
 
 // Puts LF behind a text, unless that would be too long with it.
 fn put_end(n: usize, page: &mut [u8]) -> usize {
@@ -63,7 +57,7 @@ fn print_table(
     let written = write::write(table, text, store, page);
     match written {
         Written::Wrote(n) => print_written(n, terminal, page, shown),
-        Written::Refused(number) => refused(text, number, 0),
+        Written::Refused(number) => outcomes::refused_at(text, number, 0),
     }
 }
 
@@ -83,7 +77,7 @@ pub fn rewrite(
     let parsed = read::read(text, table, store);
     match parsed {
         Parsed::Done(_, _) => print_table(text, table, store, terminal, page, shown),
-        Parsed::Refused(number, place) => refused(text, number, place),
+        Parsed::Refused(number, place) => outcomes::refused_at(text, number, place),
     }
 }
 
@@ -160,6 +154,6 @@ pub fn list(
     let parsed = read::read(text, table, store);
     match parsed {
         Parsed::Done(nodes, _) => list_nodes(nodes, text, terminal, table, store, page, shown),
-        Parsed::Refused(number, place) => refused(text, number, place),
+        Parsed::Refused(number, place) => outcomes::refused_at(text, number, place),
     }
 }

@@ -18,7 +18,7 @@ use Rattle.prelude.specs.Bytes.{ascii}
 use Rattle.prelude.specs.Pick.{pick}
 use Rattle.tokens.specs.Words.{sameBytes}
 use Rattle.command_words.specs.declared.arguments.Command.{Command}
-use Rattle.command_words.specs.declared.arguments.Command.the-variants.{Help, Version, Lines, Quote, Unquote, Json8, Strings, Missing, Unknown}
+use Rattle.command_words.specs.declared.arguments.Command.the-variants.{Help, Version, Lines, Quote, Unquote, Json8, Strings, Tsv8, Missing, Unknown}
 use Rattle.command_words.specs.declared.arguments.Options.{Options}
 use Rattle.command_words.specs.Arguments.{isWord, readerOf, commandOf, json, help, pieces, line, lines, nul, optionOf, pieceMax, sizeFrom, sizeOf, noOption, secondFile, badSize, lineAndLines, withFault, withSize, withFile, withOption, sizeAt, hasSize, withSized, isOption, withEnd, withWord, unsized, withArgument, withLong, allChecked}
 
@@ -73,9 +73,13 @@ pub reader-5 : (word : List ℕ) → isWord word "lines" ≡ false → isWord wo
 unfolding readerOf
 reader-5 word e1 e2 e3 e4 e = sym (pick-false _ _ _ e1 ∙ pick-false _ _ _ e2 ∙ pick-false _ _ _ e3 ∙ pick-false _ _ _ e4 ∙ pick-true _ _ _ e)
 
-pub reader-6 : (word : List ℕ) → isWord word "lines" ≡ false → isWord word "quote" ≡ false → isWord word "unquote" ≡ false → isWord word "json8" ≡ false → isWord word "strings" ≡ false → Unknown ≡ readerOf word
+pub reader-6 : (word : List ℕ) → isWord word "lines" ≡ false → isWord word "quote" ≡ false → isWord word "unquote" ≡ false → isWord word "json8" ≡ false → isWord word "strings" ≡ false → isWord word "tsv8" ≡ true → Tsv8 ≡ readerOf word
 unfolding readerOf
-reader-6 word e1 e2 e3 e4 e5 = sym (pick-false _ _ _ e1 ∙ pick-false _ _ _ e2 ∙ pick-false _ _ _ e3 ∙ pick-false _ _ _ e4 ∙ pick-false _ _ _ e5)
+reader-6 word e1 e2 e3 e4 e5 e = sym (pick-false _ _ _ e1 ∙ pick-false _ _ _ e2 ∙ pick-false _ _ _ e3 ∙ pick-false _ _ _ e4 ∙ pick-false _ _ _ e5 ∙ pick-true _ _ _ e)
+
+pub reader-7 : (word : List ℕ) → isWord word "lines" ≡ false → isWord word "quote" ≡ false → isWord word "unquote" ≡ false → isWord word "json8" ≡ false → isWord word "strings" ≡ false → isWord word "tsv8" ≡ false → Unknown ≡ readerOf word
+unfolding readerOf
+reader-7 word e1 e2 e3 e4 e5 e6 = sym (pick-false _ _ _ e1 ∙ pick-false _ _ _ e2 ∙ pick-false _ _ _ e3 ∙ pick-false _ _ _ e4 ∙ pick-false _ _ _ e5 ∙ pick-false _ _ _ e6)
 
 pub named-1 : (word : List ℕ) → isWord word "help" ≡ true → Help ≡ commandOf word
 unfolding commandOf

@@ -12,7 +12,7 @@ use Rattle.prelude.specs.Bytes.{ascii}
 use Rattle.prelude.specs.Pick.{pick}
 use Rattle.tokens.specs.Words.{sameBytes}
 use Rattle.command_words.specs.declared.arguments.Command.{Command}
-use Rattle.command_words.specs.declared.arguments.Command.the-variants.{Help, Version, Lines, Quote, Unquote, Json8, Strings, Missing, Unknown}
+use Rattle.command_words.specs.declared.arguments.Command.the-variants.{Help, Version, Lines, Quote, Unquote, Json8, Strings, Tsv8, Missing, Unknown}
 use Rattle.command_words.specs.declared.arguments.Options.{Options}
 
 abbrev pub isWord : List ℕ → String → Bool
@@ -26,7 +26,8 @@ readerOf word =
     (pick (isWord word "unquote") Unquote
     (pick (isWord word "json8") Json8
     (pick (isWord word "strings") Strings
-    Unknown))))
+    (pick (isWord word "tsv8") Tsv8
+    Unknown)))))
 
 -- the command that a word names
 unfoldable pub commandOf : List ℕ → Command
@@ -65,6 +66,7 @@ optionsOf Quote = json + help + line + lines + nul
 optionsOf Unquote = json + help + lines + nul
 optionsOf Json8 = json + help
 optionsOf Strings = json + help
+optionsOf Tsv8 = json + help
 optionsOf Missing = json + help
 optionsOf Unknown = json + help
 

@@ -14,6 +14,7 @@ pub enum Command {
     Unquote,
     Json8,
     Strings,
+    Tsv8,
     Missing,
     Unknown,
 }
@@ -76,6 +77,9 @@ fn command_that_reads(word: &[u8]) -> Command
     if same(word, b"strings") {
         return Command::Strings;
     }
+    if same(word, b"tsv8") {
+        return Command::Tsv8;
+    }
     Command::Unknown
 }
 
@@ -110,6 +114,7 @@ pub fn options_of(command: Command) -> u32
         Command::Version => JSON | HELP,
         Command::Json8 => JSON | HELP,
         Command::Strings => JSON | HELP,
+        Command::Tsv8 => JSON | HELP,
         Command::Missing => JSON | HELP,
         Command::Unknown => JSON | HELP,
     }

@@ -93,7 +93,7 @@ fields-plain (Refused number spot place) =
     (printed-append (spotFields spot) (counted "\"place\":" place ",") (spot-fields-plain spot) (counted-plain "\"place\":" "," place refl refl))
 fields-plain Note = words-plain "{\"number\":null,\"line\":null,\"column\":null,\"place\":null," refl
 
-as-printed : (s : List ℕ) → InOneLine s → Printed s
+pub as-printed : (s : List ℕ) → InOneLine s → Printed s
 as-printed [] p = tt
 as-printed (x ∷ s) p = (p .0, as-printed s (p .1))
 

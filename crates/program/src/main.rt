@@ -3,7 +3,7 @@
 // Rooms of what the command is lent, as command/main.c has them.
 const TEXT: usize = 32771;
 
-const TABLE: usize = 4096;
+const TABLE: usize = 48546;
 
 const STORE: usize = 32768;
 

@@ -18,8 +18,8 @@ list-nodes-requires c κs = search needs
 enum-known-parsed-2 : tie.Need-enum-known-parsed-2
 enum-known-parsed-2 c = search needs
 
-refused-requires : tie.Need-refused-requires
-refused-requires c κs = search needs
+refused-at-requires : tie.Need-refused-at-requires
+refused-at-requires c κs = search needs
 
 same-length : tie.Need-same-length
 same-length c = search needs
@@ -45,7 +45,7 @@ same-length-6 c = search needs
 
 returns-2 : tie.Need-returns-2
 returns-2 c =
-    (unlisted (now (c .before .before .before .before .before .before .before .before .before .before .before .before .before .before .before .before .args .text)) (now (c .before .before .before .before .before .before .before .before .before .before .before .before .before .before .before .before .args .table)) (now (c .before .before .before .before .before .before .before .before .before .before .before .before .before .before .before .before .args .store)) (c .before .before .before .before .before .before .before .before .read .ensures .0) _ _ (c .refused .result) (c .before .before .parsed2 .given .1) (c .refused .ensures), (c .before .before .before .before .before .before .before .before .read .ensures .1 .0, c .before .before .before .before .before .before .before .before .read .ensures .1 .1))
+    (unlisted (now (c .before .before .before .before .before .before .before .before .before .before .before .before .before .before .before .before .args .text)) (now (c .before .before .before .before .before .before .before .before .before .before .before .before .before .before .before .before .args .table)) (now (c .before .before .before .before .before .before .before .before .before .before .before .before .before .before .before .before .args .store)) (c .before .before .before .before .before .before .before .before .read .ensures .0) _ _ (c .refused-at .result) (c .before .before .parsed2 .given .1) (c .refused-at .ensures), (c .before .before .before .before .before .before .before .before .read .ensures .1 .0, c .before .before .before .before .before .before .before .before .read .ensures .1 .1))
 
 pub list-spec : {M : Type 1} → statement M
 list-spec =
@@ -55,7 +55,7 @@ list-spec =
     enum-known-parsed
     list-nodes-requires
     enum-known-parsed-2
-    refused-requires
+    refused-at-requires
     same-length
     same-length-2
     same-length-3

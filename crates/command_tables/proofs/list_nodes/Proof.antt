@@ -6,7 +6,7 @@ use borrow.Author.Needs.{needs}
 use Prim.Native.Nat.{_-_}
 use lib.ListN.{length}
 use mathlib.Core.Path.{_≡_}
-use Rattle.command_tables.proofs.Ends.{page-printed}
+use Rattle.command_outputs.proofs.Ends.{page-printed}
 
 abbrev Inv-loop : tie.InvT-loop
 Inv-loop nodes text terminal table store page₀ shown₀ p₀ node₀ page shown p node =

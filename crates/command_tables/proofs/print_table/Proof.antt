@@ -19,8 +19,8 @@ print-written-requires c κs = search needs
 enum-known-written-2 : tie.Need-enum-known-written-2
 enum-known-written-2 c = search needs
 
-refused-requires : tie.Need-refused-requires
-refused-requires c κs = search needs
+refused-at-requires : tie.Need-refused-at-requires
+refused-at-requires c κs = search needs
 
 same-length : tie.Need-same-length
 same-length c = search needs
@@ -37,7 +37,7 @@ same-length-3 c = search needs
 
 returns-2 : tie.Need-returns-2
 returns-2 c =
-    by-written (now (c .before .before .before .before .before .before .before .before .before .before .before .before .before .args .text)) _ _ _ (sym (c .before .before .written2 .given .1) ∙ c .before .before .before .before .before .before .write .ensures .0) (c .refused .ensures)
+    by-written (now (c .before .before .before .before .before .before .before .before .before .before .before .before .before .args .text)) _ _ _ (sym (c .before .before .written2 .given .1) ∙ c .before .before .before .before .before .before .write .ensures .0) (c .refused-at .ensures)
 
 pub print-table-spec : {M : Type 1} → statement M
 print-table-spec =
@@ -47,7 +47,7 @@ print-table-spec =
     enum-known-written
     print-written-requires
     enum-known-written-2
-    refused-requires
+    refused-at-requires
     same-length
     same-length-2
     returns

@@ -3,7 +3,8 @@
 use borrow.Author.Needs.{needs}
 use Rattle.command_tables.proofs.print_written.Statement.{statement}
 use Rattle.command_tables.proofs.print_written.Tie as tie
-use Rattle.command_tables.proofs.Ends.{ended-printed, written-long, written-short}
+use Rattle.command_outputs.proofs.Ends.{ended-printed}
+use Rattle.command_tables.proofs.Ends.{written-long, written-short}
 
 returns : tie.Need-returns
 returns c =

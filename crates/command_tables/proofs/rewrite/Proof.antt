@@ -19,8 +19,8 @@ print-table-requires c κs = search needs
 enum-known-parsed : tie.Need-enum-known-parsed
 enum-known-parsed c = search needs
 
-refused-requires : tie.Need-refused-requires
-refused-requires c κs = search needs
+refused-at-requires : tie.Need-refused-at-requires
+refused-at-requires c κs = search needs
 
 same-length : tie.Need-same-length
 same-length c = search needs
@@ -46,7 +46,7 @@ same-length-6 c = search needs
 
 returns-2 : tie.Need-returns-2
 returns-2 c =
-    (unwritten-form (now (c .before .before .before .before .before .before .before .before .before .before .before .before .before .before .before .before .args .text)) (now (c .before .before .before .before .before .before .before .before .before .before .before .before .before .before .before .before .args .table)) (now (c .before .before .before .before .before .before .before .before .before .before .before .before .before .before .before .before .args .store)) (c .before .before .before .before .before .before .before .before .read .ensures .0) (length (now (c .before .before .before .before .before .before .before .before .before .before .before .before .before .before .before .before .args .page))) _ _ (c .refused .result) (c .before .before .parsed .given .1) (c .refused .ensures), (c .before .before .before .before .before .before .before .before .read .ensures .1 .0, c .before .before .before .before .before .before .before .before .read .ensures .1 .1))
+    (unwritten-form (now (c .before .before .before .before .before .before .before .before .before .before .before .before .before .before .before .before .args .text)) (now (c .before .before .before .before .before .before .before .before .before .before .before .before .before .before .before .before .args .table)) (now (c .before .before .before .before .before .before .before .before .before .before .before .before .before .before .before .before .args .store)) (c .before .before .before .before .before .before .before .before .read .ensures .0) (length (now (c .before .before .before .before .before .before .before .before .before .before .before .before .before .before .before .before .args .page))) _ _ (c .refused-at .result) (c .before .before .parsed .given .1) (c .refused-at .ensures), (c .before .before .before .before .before .before .before .before .read .ensures .1 .0, c .before .before .before .before .before .before .before .before .read .ensures .1 .1))
 
 pub rewrite-spec : {M : Type 1} → statement M
 rewrite-spec =
@@ -56,7 +56,7 @@ rewrite-spec =
     enum-told
     print-table-requires
     enum-known-parsed
-    refused-requires
+    refused-at-requires
     same-length
     same-length-2
     same-length-3

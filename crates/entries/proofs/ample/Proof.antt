@@ -1,4 +1,4 @@
--- 24 bytes and six for each.
+-- 27 bytes and six for each.
 -- Assumes nothing.
 use Rattle.entries.proofs.ample.Statement.{statement}
 use Rattle.entries.proofs.ample.Tie as tie
@@ -15,7 +15,7 @@ returns c =
 
 returns-2 : tie.Need-returns-2
 returns-2 c =
-    λ e. omega (arith, leb-true (c .before .args .size) ((c .before .args .room - 24) / 6) e)
+    λ e. omega (arith, leb-true (c .before .args .size) ((c .before .args .room - 27) / 6) e)
 
 pub ample-spec : {M : Type 1} → statement M
 ample-spec = tie.close (tie.spec returns returns-2)

@@ -4,7 +4,7 @@ use borrow.Author.Needs.{needs}
 use Rattle.command_outputs.proofs.pages.add.Statement.{statement}
 use Rattle.command_outputs.proofs.pages.add.Tie as tie
 use denote.Ref.{now}
-use Rattle.command_outputs.proofs.Adding.{added-behind, added-anew}
+use Rattle.command_outputs.proofs.Adding.{form-some, added-behind, added-anew}
 
 put-form-requires : tie.Need-put-form-requires
 put-form-requires c κs = search needs
@@ -14,7 +14,7 @@ same-length c = search needs
 
 returns : tie.Need-returns
 returns c =
-    added-behind (c .before .before .before .before .before .before .before .before .before .args .p) (c .before .before .before .before .before .before .before .before .before .args .form) (c .before .before .before .before .before .before .before .before .before .args .n) (now (c .before .before .before .before .before .before .before .before .before .args .s)) (now (c .before .before .before .before .before .before .before .before .before .args .page)) (now (c .before .before .before .before .before .before .before .before .before .args .shown)) (c .before .before .before .before .put-form .ensures) (c .if1 .taken)
+    added-behind (c .before .before .before .before .before .before .before .before .before .args .p) (form-some (c .before .before .before .before .before .before .before .before .before .args .form) (c .before .before .before .before .before .before .before .before .before .args .n) (now (c .before .before .before .before .before .before .before .before .before .args .s))) (now (c .before .before .before .before .before .before .before .before .before .args .page)) (now (c .before .before .before .before .before .before .before .before .before .args .shown)) (c .before .before .before .before .put-form .ensures) (c .if1 .taken)
 
 flush-requires : tie.Need-flush-requires
 flush-requires c κs = search needs
@@ -30,7 +30,7 @@ same-length-3 c = search needs
 
 returns-2 : tie.Need-returns-2
 returns-2 c =
-    added-anew (c .before .before .before .before .before .before .before .before .before .before .before .before .before .before .before .before .before .before .args .p) (c .before .before .before .before .before .before .before .before .before .before .before .before .before .before .before .before .before .before .args .form) (c .before .before .before .before .before .before .before .before .before .before .before .before .before .before .before .before .before .before .args .n) (now (c .before .before .before .before .before .before .before .before .before .before .before .before .before .before .before .before .before .before .args .s)) (now (c .before .before .before .before .before .before .before .before .before .before .before .before .before .before .before .before .before .before .args .page)) (now (c .before .before .before .before .before .before .before .before .before .before .before .before .before .before .before .before .before .before .args .shown)) (c .before .before .before .before .before .before .before .before .before .before .before .before .before .put-form .ensures) (c .before .before .before .before .before .before .before .before .before .if1 .left) _ (c .before .before .before .before .before .before .flush .ensures .1) (c .before .before .put-form2 .ensures)
+    added-anew (c .before .before .before .before .before .before .before .before .before .before .before .before .before .before .before .before .before .before .args .p) (form-some (c .before .before .before .before .before .before .before .before .before .before .before .before .before .before .before .before .before .before .args .form) (c .before .before .before .before .before .before .before .before .before .before .before .before .before .before .before .before .before .before .args .n) (now (c .before .before .before .before .before .before .before .before .before .before .before .before .before .before .before .before .before .before .args .s))) (now (c .before .before .before .before .before .before .before .before .before .before .before .before .before .before .before .before .before .before .args .page)) (now (c .before .before .before .before .before .before .before .before .before .before .before .before .before .before .before .before .before .before .args .shown)) (c .before .before .before .before .before .before .before .before .before .before .before .before .before .put-form .ensures) (c .before .before .before .before .before .before .before .before .before .if1 .left) _ (c .before .before .before .before .before .before .flush .ensures .1) (c .before .before .put-form2 .ensures)
 
 pub add-spec : {M : Type 1} → statement M
 add-spec =

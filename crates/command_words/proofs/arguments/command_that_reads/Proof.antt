@@ -4,7 +4,7 @@ use borrow.Author.Needs.{needs}
 use Rattle.command_words.proofs.arguments.command_that_reads.Statement.{statement}
 use Rattle.command_words.proofs.arguments.command_that_reads.Tie as tie
 use denote.Ref.{now}
-use Rattle.command_words.proofs.Choices.{alike, differ, reader-1, reader-2, reader-3, reader-4, reader-5, reader-6}
+use Rattle.command_words.proofs.Choices.{alike, differ, reader-1, reader-2, reader-3, reader-4, reader-5, reader-6, reader-7}
 
 slice-aggregate-same : tie.Need-slice-aggregate-same
 slice-aggregate-same c = search needs
@@ -56,9 +56,19 @@ returns-5 : tie.Need-returns-5
 returns-5 c =
     reader-5 (now (c .before .before .before .before .before .before .before .before .before .before .before .before .before .before .before .before .args .word)) (differ (c .before .before .before .before .before .before .before .before .before .before .before .before .before .same .ensures) (c .before .before .before .before .before .before .before .before .before .before .before .before .if1 .left)) (differ (c .before .before .before .before .before .before .before .before .before .before .same2 .ensures) (c .before .before .before .before .before .before .before .before .before .if2 .left)) (differ (c .before .before .before .before .before .before .before .same3 .ensures) (c .before .before .before .before .before .before .if3 .left)) (differ (c .before .before .before .before .same4 .ensures) (c .before .before .before .if4 .left)) (alike (c .before .same5 .ensures) (c .if5 .taken))
 
+slice-aggregate-same-6 : tie.Need-slice-aggregate-same-6
+slice-aggregate-same-6 c = search needs
+
+same-requires-6 : tie.Need-same-requires-6
+same-requires-6 c κs = search needs
+
 returns-6 : tie.Need-returns-6
 returns-6 c =
-    reader-6 (now (c .before .before .before .before .before .before .before .before .before .before .before .before .before .before .before .before .args .word)) (differ (c .before .before .before .before .before .before .before .before .before .before .before .before .before .same .ensures) (c .before .before .before .before .before .before .before .before .before .before .before .before .if1 .left)) (differ (c .before .before .before .before .before .before .before .before .before .before .same2 .ensures) (c .before .before .before .before .before .before .before .before .before .if2 .left)) (differ (c .before .before .before .before .before .before .before .same3 .ensures) (c .before .before .before .before .before .before .if3 .left)) (differ (c .before .before .before .before .same4 .ensures) (c .before .before .before .if4 .left)) (differ (c .before .same5 .ensures) (c .if5 .left))
+    reader-6 (now (c .before .before .before .before .before .before .before .before .before .before .before .before .before .before .before .before .before .before .before .args .word)) (differ (c .before .before .before .before .before .before .before .before .before .before .before .before .before .before .before .before .same .ensures) (c .before .before .before .before .before .before .before .before .before .before .before .before .before .before .before .if1 .left)) (differ (c .before .before .before .before .before .before .before .before .before .before .before .before .before .same2 .ensures) (c .before .before .before .before .before .before .before .before .before .before .before .before .if2 .left)) (differ (c .before .before .before .before .before .before .before .before .before .before .same3 .ensures) (c .before .before .before .before .before .before .before .before .before .if3 .left)) (differ (c .before .before .before .before .before .before .before .same4 .ensures) (c .before .before .before .before .before .before .if4 .left)) (differ (c .before .before .before .before .same5 .ensures) (c .before .before .before .if5 .left)) (alike (c .before .same6 .ensures) (c .if6 .taken))
+
+returns-7 : tie.Need-returns-7
+returns-7 c =
+    reader-7 (now (c .before .before .before .before .before .before .before .before .before .before .before .before .before .before .before .before .before .before .before .args .word)) (differ (c .before .before .before .before .before .before .before .before .before .before .before .before .before .before .before .before .same .ensures) (c .before .before .before .before .before .before .before .before .before .before .before .before .before .before .before .if1 .left)) (differ (c .before .before .before .before .before .before .before .before .before .before .before .before .before .same2 .ensures) (c .before .before .before .before .before .before .before .before .before .before .before .before .if2 .left)) (differ (c .before .before .before .before .before .before .before .before .before .before .same3 .ensures) (c .before .before .before .before .before .before .before .before .before .if3 .left)) (differ (c .before .before .before .before .before .before .before .same4 .ensures) (c .before .before .before .before .before .before .if4 .left)) (differ (c .before .before .before .before .same5 .ensures) (c .before .before .before .if5 .left)) (differ (c .before .same6 .ensures) (c .if6 .left))
 
 pub command-that-reads-spec : {M : Type 1} → statement M
 command-that-reads-spec =
@@ -79,4 +89,7 @@ command-that-reads-spec =
     slice-aggregate-same-5
     same-requires-5
     returns-5
-    returns-6)
+    slice-aggregate-same-6
+    same-requires-6
+    returns-6
+    returns-7)

@@ -1,0 +1,4 @@
+mod Parts
+mod Lines
+mod Printing
+mod Ends
