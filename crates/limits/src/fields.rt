@@ -150,7 +150,31 @@ fn put_pair(high: u8, low: u8, n: usize, out: &mut [u8]) -> usize {
     put(16 * high + low, n, out)
 }
 
-// Stores the bytes of a field. A part with a count is read again until it was read so often.
+// Where reading goes on behind a part that was read so often, and how often it was read then.
+struct Turn {
+    at: usize,
+    times: usize,
+}
+
+// A part with a count is read again until it was read so often.
+fn again(s: &[u8], at: usize, part: usize, times: usize) -> Turn {
+    let d = digits(s, at);
+    if d.value <= times {
+        return Turn { at: d.at, times };
+    }
+    if d.value - times == 1 {
+        return Turn {
+            at: d.at,
+            times: times + 1,
+        };
+    }
+    Turn {
+        at: part,
+        times: times + 1,
+    }
+}
+
+// Stores the bytes of a field.
 pub fn bytes(s: &[u8], out: &mut [u8]) -> usize {
     let mut n = 0;
     let mut at = 0;
@@ -179,14 +203,9 @@ pub fn bytes(s: &[u8], out: &mut [u8]) -> usize {
             continue;
         }
         if x == b'*' {
-            let d = digits(s, at);
-            at = d.at;
-            if times < d.value {
-                times += 1;
-                if times < d.value {
-                    at = part;
-                }
-            }
+            let next = again(s, at, part, times);
+            at = next.at;
+            times = next.times;
             continue;
         }
         if x != b'-' {
@@ -234,14 +253,9 @@ pub fn table(s: &[u8], out: &mut [u32]) -> usize {
             continue;
         }
         if x == b'*' {
-            let d = digits(s, at);
-            at = d.at;
-            if times < d.value {
-                times += 1;
-                if times < d.value {
-                    at = part;
-                }
-            }
+            let next = again(s, at, part, times);
+            at = next.at;
+            times = next.times;
             continue;
         }
         if x != b',' && x != b'-' {

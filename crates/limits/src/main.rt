@@ -1,13 +1,13 @@
-// The edges that document 01 wants run in a program: each row of standard input is a call with its fields, and is printed with what the
+// The edges that documents 01 and 02 want run in a program: each row of standard input is a call with its fields, and is printed with what the
 // call answers. What the program writes is held to the file `stdout`, which the reference makes.
 mod fields;
-mod nodes;
+mod numbers;
+mod sheets;
 mod show;
 mod tables;
 mod texts;
 mod uploads;
 
-use check::same;
 use libc::STDIN_FILENO;
 use prelude::slices;
 
@@ -28,29 +28,8 @@ fn run_table(verb: u8, row: &[u8]) {
     tables::run(verb == b'w', row);
 }
 
-// The calls on a text and a room.
-fn is_text_call(name: &[u8]) -> bool {
-    same(name, b"string_read")
-        || same(name, b"token_read")
-        || same(name, b"line_read")
-        || same(name, b"string_write")
-        || same(name, b"bytes_write")
-        || same(name, b"lines_write")
-}
-
-fn is_call(name: &[u8]) -> bool {
-    is_text_call(name)
-        || same(name, b"upload")
-        || same(name, b"json8_read")
-        || same(name, b"json8_show")
-        || same(name, b"json8_write")
-}
-
-// Runs a call and prints what it answers. The first letters of its words tell the calls apart.
+// Runs a call and prints what it answers. A few letters tell the calls apart: the reference stops at a name that is none.
 fn run(row: &[u8]) {
-    if !is_call(fields::field(row, 0)) {
-        return show::wrong();
-    }
     let object = slices::byte_at(row, 0, 0);
     let verb = slices::byte_at(fields::part(row, b'_', 1), 0, 0);
     if object == b'j' {
@@ -58,6 +37,9 @@ fn run(row: &[u8]) {
     }
     if object == b'u' {
         return uploads::run(row);
+    }
+    if slices::byte_at(row, 1, 0) == b's' {
+        return sheets::read(row);
     }
     texts::run(object, verb, row);
 }

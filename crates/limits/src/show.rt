@@ -36,6 +36,11 @@ pub fn four(a: usize, b: usize, c: usize, d: usize) {
     marked(b',', d);
 }
 
+pub fn five(a: usize, b: usize, c: usize, d: usize, e: usize) {
+    four(a, b, c, d);
+    marked(b',', e);
+}
+
 // A byte, and how often it stands there in a row.
 fn print_run(b: u8, n: usize) {
     io::print_hex(STDOUT_FILENO, b as u64, 2);

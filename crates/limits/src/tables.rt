@@ -2,17 +2,19 @@
 ghost use mathlib.Core.Path.{_≡_};
 ghost use lib.ListN.{length};
 use crate::fields;
-use crate::nodes;
+use crate::numbers;
 use crate::show;
 use crate::texts;
 use json8::answers::Parsed;
-use prelude::answers::Written;
+
+// The numbers of a node.
+const NODE: usize = 4;
 
 // A table before a call.
-fn filled() -> [u32; fields::TABLE_MAX]
+pub fn filled() -> [u32; fields::TABLE_MAX]
     ensures { λ r. ⌜ 4112 ≡ length r ⌝ }
 {
-    [nodes::FILL; fields::TABLE_MAX]
+    [numbers::FILL; fields::TABLE_MAX]
 }
 
 fn print_parsed(answer: Parsed) {
@@ -24,7 +26,7 @@ fn print_parsed(answer: Parsed) {
 
 fn read_in(text: &[u8], table: &mut [u32], store: &mut [u8]) {
     print_parsed(json8_read::read::read(text, table, store));
-    nodes::print(table);
+    numbers::print(table, NODE);
     show::bytes(store);
 }
 
@@ -66,13 +68,6 @@ fn show_in<'a>(table: &[u32], text: &'a [u8], store: &'a [u8], node: usize) {
     show::bytes(json8_show::show::show(table, text, store, node));
 }
 
-fn print_wrote(answer: Written) {
-    match answer {
-        Written::Wrote(n) => show::three(0, 0, n),
-        Written::Refused(number) => show::three(number as usize, 0, 0),
-    }
-}
-
 fn print_fit(fit: bool) {
     if fit {
         return show::marked(b',', 1);
@@ -86,7 +81,7 @@ fn ask_fit(table: &[u32], text: &[u8], store: &[u8]) {
 
 // Prints number, place and length, whether the table is fit, and the buffer.
 fn write_in(table: &[u32], text: &[u8], store: &[u8], out: &mut [u8]) {
-    print_wrote(json8_write::write::write(table, text, store, out));
+    texts::print_written(json8_write::write::write(table, text, store, out));
     ask_fit(table, text, store);
     show::bytes(out);
 }

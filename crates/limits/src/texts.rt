@@ -39,14 +39,7 @@ fn print_line(answer: Line) {
     }
 }
 
-fn print_written(answer: Written) {
-    match answer {
-        Written::Wrote(n) => show::three(0, 0, n),
-        Written::Refused(number) => show::three(number as usize, 0, 0),
-    }
-}
-
-fn print_lines(answer: Written) {
+pub fn print_written(answer: Written) {
     match answer {
         Written::Wrote(n) => show::three(0, 0, n),
         Written::Refused(number) => show::three(number as usize, 0, 0),
@@ -74,7 +67,7 @@ fn write_bytes(data: &[u8], out: &mut [u8]) {
 }
 
 fn write_lines(records: &[u8], out: &mut [u8]) {
-    print_lines(lines_write::write::write(records, out));
+    print_written(lines_write::write::write(records, out));
 }
 
 fn answer_write(object: u8, data: &[u8], out: &mut [u8]) {

@@ -54,29 +54,14 @@ loop-less-3 c = search needs
 loop-again-3 : tie.Need-loop-again-3 Inv-loop μ-loop
 loop-again-3 c = search needs
 
-digits-requires : tie.Need-digits-requires Inv-loop μ-loop
-digits-requires c κs = search needs
-
-add-times : tie.Need-add-times Inv-loop μ-loop
-add-times c = search needs
+again-requires : tie.Need-again-requires Inv-loop μ-loop
+again-requires c κs = search needs
 
 loop-less-4 : tie.Need-loop-less-4 Inv-loop μ-loop
 loop-less-4 c = search needs
 
 loop-again-4 : tie.Need-loop-again-4 Inv-loop μ-loop
 loop-again-4 c = search needs
-
-loop-less-5 : tie.Need-loop-less-5 Inv-loop μ-loop
-loop-less-5 c = search needs
-
-loop-again-5 : tie.Need-loop-again-5 Inv-loop μ-loop
-loop-again-5 c = search needs
-
-loop-less-6 : tie.Need-loop-less-6 Inv-loop μ-loop
-loop-less-6 c = search needs
-
-loop-again-6 : tie.Need-loop-again-6 Inv-loop μ-loop
-loop-again-6 c = search needs
 
 digit-requires : tie.Need-digit-requires Inv-loop μ-loop
 digit-requires c κs = search needs
@@ -93,17 +78,17 @@ put-pair-requires c κs = search needs
 add-at-2 : tie.Need-add-at-2 Inv-loop μ-loop
 add-at-2 c = search needs
 
-loop-less-7 : tie.Need-loop-less-7 Inv-loop μ-loop
-loop-less-7 c = search needs
+loop-less-5 : tie.Need-loop-less-5 Inv-loop μ-loop
+loop-less-5 c = search needs
 
-loop-again-7 : tie.Need-loop-again-7 Inv-loop μ-loop
-loop-again-7 c = search needs
+loop-again-5 : tie.Need-loop-again-5 Inv-loop μ-loop
+loop-again-5 c = search needs
 
-loop-less-8 : tie.Need-loop-less-8 Inv-loop μ-loop
-loop-less-8 c = search needs
+loop-less-6 : tie.Need-loop-less-6 Inv-loop μ-loop
+loop-less-6 c = search needs
 
-loop-again-8 : tie.Need-loop-again-8 Inv-loop μ-loop
-loop-again-8 c = search needs
+loop-again-6 : tie.Need-loop-again-6 Inv-loop μ-loop
+loop-again-6 c = search needs
 
 same-length-2 : tie.Need-same-length-2 Inv-loop μ-loop
 same-length-2 c = search needs
@@ -136,23 +121,18 @@ bytes-spec =
     loop-again-2
     loop-less-3
     loop-again-3
-    digits-requires
-    add-times
+    again-requires
     loop-less-4
     loop-again-4
-    loop-less-5
-    loop-again-5
-    loop-less-6
-    loop-again-6
     digit-requires
     byte-at-requires
     digit-requires-2
     put-pair-requires
     add-at-2
-    loop-less-7
-    loop-again-7
-    loop-less-8
-    loop-again-8
+    loop-less-5
+    loop-again-5
+    loop-less-6
+    loop-again-6
     same-length-2
     returns-2
     same-length-3

@@ -54,11 +54,8 @@ loop-less-2 c = search needs
 loop-again-2 : tie.Need-loop-again-2 Inv-loop μ-loop
 loop-again-2 c = search needs
 
-digits-requires-2 : tie.Need-digits-requires-2 Inv-loop μ-loop
-digits-requires-2 c κs = search needs
-
-add-times : tie.Need-add-times Inv-loop μ-loop
-add-times c = search needs
+again-requires : tie.Need-again-requires Inv-loop μ-loop
+again-requires c κs = search needs
 
 loop-less-3 : tie.Need-loop-less-3 Inv-loop μ-loop
 loop-less-3 c = search needs
@@ -77,18 +74,6 @@ loop-less-5 c = search needs
 
 loop-again-5 : tie.Need-loop-again-5 Inv-loop μ-loop
 loop-again-5 c = search needs
-
-loop-less-6 : tie.Need-loop-less-6 Inv-loop μ-loop
-loop-less-6 c = search needs
-
-loop-again-6 : tie.Need-loop-again-6 Inv-loop μ-loop
-loop-again-6 c = search needs
-
-loop-less-7 : tie.Need-loop-less-7 Inv-loop μ-loop
-loop-less-7 c = search needs
-
-loop-again-7 : tie.Need-loop-again-7 Inv-loop μ-loop
-loop-again-7 c = search needs
 
 same-length-2 : tie.Need-same-length-2 Inv-loop μ-loop
 same-length-2 c = search needs
@@ -115,17 +100,12 @@ table-spec =
     add-at
     loop-less-2
     loop-again-2
-    digits-requires-2
-    add-times
+    again-requires
     loop-less-3
     loop-again-3
     loop-less-4
     loop-again-4
     loop-less-5
     loop-again-5
-    loop-less-6
-    loop-again-6
-    loop-less-7
-    loop-again-7
     same-length-2
     returns-2)

@@ -1,16 +1,16 @@
 -- Each number is looked at; nothing else is asked.
 -- Assumes nothing.
 use borrow.Author.Needs.{needs}
-use Rattle.limits.proofs.nodes.print.Statement.{statement}
-use Rattle.limits.proofs.nodes.print.Tie as tie
+use Rattle.limits.proofs.numbers.print.Statement.{statement}
+use Rattle.limits.proofs.numbers.print.Tie as tie
 use Prim.Native.Nat.{_-_}
 
 abbrev Inv-loop : tie.InvT-loop
-Inv-loop table n₀ i₀ i-end n i =
+Inv-loop table width n₀ i₀ i-end n i =
     Unit {0}
 
 abbrev μ-loop : tie.MeasureT-loop
-μ-loop table n₀ i₀ i-end n i =
+μ-loop table width n₀ i₀ i-end n i =
     i-end - i
 
 loop-holds : tie.Need-loop-holds Inv-loop μ-loop
