@@ -61,6 +61,13 @@ try 'the end of a range in 32 bits' reference/src/json8.rs json8_show "$mismatch
 try 'no stored key written' reference/src/json8/write.rs json8_write "$mismatch" 's/\[PLAIN \| DECODED, \.\.\]/[PLAIN, ..]/'
 try 'a number of the other kind written' reference/src/json8/write.rs json8_write "$mismatch" 's/number_kind\(token\) != Some\(kind\)/number_kind(token).is_none()/'
 try 'a false count of members' reference/src/json8/write.rs json8_write "$mismatch" 's/page\)\? != length/page)? > length/'
+try '65 columns taken' reference/src/tsv8.rs tsv8_read "$mismatch" 's/\(1\.\.=COLUMNS_MAX\)/(1..=COLUMNS_MAX + 1)/'
+try 'a third line of types taken' reference/src/tsv8.rs tsv8_read "$mismatch" 's/if !is_second \{/if !is_second \&\& line.start == 0 {/'
+try '-0 taken as Int' reference/src/tsv8.rs tsv8_read "$mismatch" "s/let digits_only = .*/let digits_only = !token.iter().any(|b| b\".eE\".contains(b));/"
+try 'a line of tabs ignored' reference/src/tsv8.rs tsv8_read "$mismatch" "s/matches!\(b, b' ' \| b'\\\\r'\)/matches!(b, b' ' | b'\\\\r' | b'\\\\t')/"
+try '21 behind the blanks' reference/src/tsv8.rs tsv8_read "$mismatch" 's/None => refuse\(WRONG_TYPE, cell\.start\)/None => refuse(WRONG_TYPE, at)/'
+try '21 before a fault of the cell' reference/src/tsv8.rs tsv8_read "$mismatch" 's/^( *)judge_bare\(token\)\.map_err\(in_text\)\?;/\1if bare_kind(token, column).is_some() { judge_bare(token).map_err(in_text)?; }/'
+try 'types written though the cells have no room' reference/src/tsv8.rs tsv8_read "$mismatch" 's/if !fits \{/if !fits { if sheet.types.len() <= types.len() { fill(types, \&sheet.types); }/'
 # Over the C functions: a byte outside what is lent, a lent byte, an input, a field, a crash. A pointer to an input goes by black_box: the compiler
 # leaves out a write where it knows that nothing may be written, and there would be no fault to find.
 try 'a byte behind the room written' src/raw.rs string_write "$mismatch" 's/^(pub fn string_write\(.*\{)$/\1 unsafe { out.as_mut_ptr().add(out.len()).write(0xa5) };/'
@@ -70,11 +77,14 @@ try 'the text of a table written' src/raw.rs json8_write "$mismatch" 's/^(pub fn
 try 'the number behind a table written' src/raw.rs json8_show "$mismatch" 's/^(pub fn json8_show\(.*\{)$/\1 unsafe { std::hint::black_box(table.as_ptr().cast_mut()).add(table.len()).write(5) };/'
 try 'a byte of a text written' src/raw.rs string_read "$mismatch" 's/^(pub fn string_read\(.*\{)$/\1 if let [.., last] = text { unsafe { std::hint::black_box(std::ptr::from_ref(last).cast_mut()).write(0xa5) } };/'
 try 'a byte behind a piece written' src/raw.rs upload_states "$mismatch" 's/^(pub fn upload_feed\(.*\{)$/\1 unsafe { std::hint::black_box(piece.as_ptr().cast_mut()).add(piece.len()).write(0xa5) };/'
+try 'the number behind the cells written' src/raw.rs tsv8_read "$mismatch" 's/^\) -> j8_sheet \{$/) -> j8_sheet { unsafe { cells.as_mut_ptr().add(cells.len()).write(5) };/'
+try 'a name written where the rest is no room' src/raw.rs tsv8_read "$mismatch" 's/^\) -> j8_sheet \{$/) -> j8_sheet { if names.len() % 3 == 1 { names[names.len() - 1] ^= 1 };/'
 try 'a fresh upload that is ended' src/raw.rs upload "$mismatch" 's/unsafe \{ j8_upload_fresh\(\) \}/j8_upload { ended: 1, ..unsafe { j8_upload_fresh() } }/'
 try 'a finish that keeps a held byte' src/raw.rs upload "$mismatch" 's/^(pub fn upload_finish\()upload(: .*\{)$/\1mut upload\2 upload.held = upload.held.saturating_sub(1);/'
 try 'a crash' src/raw.rs lines_write 'compare --replay lines_write 1 ' 's/^(pub fn lines_write\(.*\{)$/\1 if records.len() == 77 { std::process::abort() };/'
 # Of the generators: one that no longer reaches something. It takes a whole run to be sure.
 try 'no upload about the limit made' inputs/src/lines.rs upload 'upload_feed never answered 17' 's/once_in\(600\)/once_in(1 << 31)/' 20
+try 'no text with the most cells made' inputs/src/tsv8.rs tsv8_read 'never reached: 16,182 cells read' 's/62, 62, 62, 64/61, 63, 64/' 20
 try 'an upload that is never freed' compare/src/load.rs load 'load: FAILED' 's/drop\(\(text, line, output, upload\)\)/drop((text, line, output)); std::mem::forget(upload)/'
 try 'a record that is lost' src/raw.rs load '^WRONG' 's/^(pub fn upload_finish\()upload(: .*\{)$/\1mut upload\2 upload.held = 0;/'
 

@@ -46,6 +46,17 @@ pub enum Refusal {
     UploadLimit = 17,
     /// An upload already ended.
     Ended = 18,
+    /// TSV8: the first line is missing or isn't `!tsv8` with 1 to
+    /// [`COLUMNS_MAX`](crate::COLUMNS_MAX) names, a type is none of the four, or a
+    /// `!type` isn't the second line.
+    BadHeader = 19,
+    /// TSV8: a line has the wrong number of cells, begins with neither tab nor `!`,
+    /// or begins with `!` after data.
+    BadLine = 20,
+    /// TSV8: a cell doesn't fit the type of its column.
+    WrongType = 21,
+    /// TSV8: a cell is empty, or blank.
+    EmptyCell = 22,
 }
 
 impl Refusal {
@@ -69,9 +80,13 @@ impl Refusal {
         Refusal::TooManyNodes,
         Refusal::UploadLimit,
         Refusal::Ended,
+        Refusal::BadHeader,
+        Refusal::BadLine,
+        Refusal::WrongType,
+        Refusal::EmptyCell,
     ];
 
-    /// Its number, from 1 to 18.
+    /// Its number, from 1 to 22.
     pub const fn number(self) -> u32 {
         self as u32
     }

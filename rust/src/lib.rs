@@ -1,4 +1,4 @@
-//! J8 Notation strings, lines and JSON8 for printer backups.
+//! J8 Notation strings, lines, JSON8 and TSV8 for printer backups and logs.
 //!
 //! A J8 string is a text for any bytes: `"..."` for valid UTF-8, as in JSON,
 //! and `b'...'` for the rest. So a folder name with odd bytes comes back from
@@ -50,9 +50,21 @@
 //! # Ok::<(), j8::Error>(())
 //! ```
 //!
-//! Whatever has `_to_vec` in its name, [`Upload`], [`Json8`], [`Table`], [`Value`]
-//! and an [`io::Error`](std::io::Error) made of an [`Error`] allocate; everything
-//! else works in what it is lent.
+//! TSV8 is a table with typed columns, divided by tabs: [`Tsv8`] reads a counter
+//! log to a [`Sheet`] in memory of its own, [`read_tsv8`] to lent buffers.
+//!
+//! ```
+//! let log = j8::Tsv8::read("!tsv8\tdesk\tscans\n!type\tStr\tInt\n\tFront desk\t41\n")?;
+//! for row in log.sheet().rows() {
+//!     println!("{row:?}");
+//! }
+//! assert_eq!(log.sheet().cell(0, 1), Some(j8::Cell::Int("41")));
+//! # Ok::<(), j8::Error>(())
+//! ```
+//!
+//! Whatever has `_to_vec` in its name, [`Upload`], [`Json8`], [`Tsv8`], [`Table`],
+//! [`Value`] and an [`io::Error`](std::io::Error) made of an [`Error`] allocate;
+//! everything else works in what it is lent.
 
 #![deny(missing_docs, unsafe_code, missing_debug_implementations)]
 
@@ -60,6 +72,7 @@ mod error;
 mod json8;
 mod lines;
 mod strings;
+mod tsv8;
 mod upload;
 
 // The one place where pointers are handed to the archive.
@@ -76,6 +89,10 @@ pub use lines::{
     KIND_TEXT, RECORD_HEAD,
 };
 pub use strings::{read, read_to_vec, write, write_room, write_to_vec, TEXT_MAX};
+pub use tsv8::{
+    read_tsv8, Cell, Cells, Column, Columns, Row, Rows, Sheet, Tsv8, Type, CELLS_ROOM, CELL_ROOM,
+    COLUMNS_MAX, NAMES_ROOM, TYPES_ROOM,
+};
 pub use upload::{
     feed_room, LentUpload, Upload, UploadState, LINE_ROOM, UPLOAD_MAX, UPLOAD_OUTPUT_MAX,
 };

@@ -94,6 +94,22 @@ pub struct j8_shown {
     pub length: usize,
 }
 
+/// What reading TSV8 answers.
+#[repr(C)]
+#[derive(Clone, Copy, Debug, PartialEq, Eq)]
+pub struct j8_sheet {
+    /// The refusal's number, or 0.
+    pub number: u32,
+    /// Its place, or 0.
+    pub place: usize,
+    /// Names, and types, or 0.
+    pub columns: usize,
+    /// Cells of all rows, or 0.
+    pub cells: usize,
+    /// Bytes in the store, or 0.
+    pub stored: usize,
+}
+
 /// Room that suffices for the sentence of any number.
 pub const SENTENCE_ROOM: usize = 128;
 
@@ -220,6 +236,24 @@ extern "C" {
         store_len: usize,
         node: usize,
     ) -> j8_shown;
+
+    /// Reads a TSV8 text to the lent names, types, cells and store. The lengths of
+    /// names, types and cells count numbers: three a name or cell, one a type.
+    ///
+    /// # Safety
+    /// As for [`j8_string_read`].
+    pub fn j8_tsv8_read(
+        text: *const u8,
+        text_len: usize,
+        names: *mut u32,
+        names_len: usize,
+        types: *mut u32,
+        types_len: usize,
+        cells: *mut u32,
+        cells_len: usize,
+        store: *mut u8,
+        store_len: usize,
+    ) -> j8_sheet;
 }
 
 /// [`j8_version`].
@@ -341,6 +375,32 @@ pub fn json8_show(table: &[u32], text: &[u8], store: &[u8], node: usize) -> j8_s
             store.as_ptr(),
             store.len(),
             node,
+        )
+    }
+}
+
+/// [`j8_tsv8_read`] over slices.
+pub fn tsv8_read(
+    text: &[u8],
+    names: &mut [u32],
+    types: &mut [u32],
+    cells: &mut [u32],
+    store: &mut [u8],
+) -> j8_sheet {
+    // SAFETY: all parts are slices, so those of numbers are aligned for them, and
+    // the four that are written, being lent mutably, overlap nothing.
+    unsafe {
+        j8_tsv8_read(
+            text.as_ptr(),
+            text.len(),
+            names.as_mut_ptr(),
+            names.len(),
+            types.as_mut_ptr(),
+            types.len(),
+            cells.as_mut_ptr(),
+            cells.len(),
+            store.as_mut_ptr(),
+            store.len(),
         )
     }
 }

@@ -2,7 +2,7 @@
 
 use crate::{raw, Error};
 
-/// The longest text that is read, of a string or of JSON8.
+/// The longest text that is read, of a string, of JSON8 or of TSV8.
 pub const TEXT_MAX: usize = 32_768;
 
 /// The room that always suffices to write `length` bytes: six for each, and

@@ -1,5 +1,9 @@
 //! The examples print what those for C do: the files `*.expected` of `examples/c`.
+//! That of counter logs prints what the command does.
 
+#[allow(dead_code)]
+#[path = "../examples/counters.rs"]
+mod counters;
 #[allow(dead_code)]
 #[path = "../examples/restore.rs"]
 mod restore;
@@ -45,4 +49,21 @@ fn restores() {
         assert_eq!(answer.unwrap(), good, "{sample}");
         same(&printed, sample);
     }
+}
+
+#[test]
+fn counter_logs() {
+    let transcripts = String::from_utf8(file("../../tests/command/expected/tsv8")).unwrap();
+    let mut samples = 0;
+    for transcript in transcripts.split("$ j8 tsv8 ").skip(1) {
+        let (sample, told) = transcript.split_once('\n').unwrap();
+        let (told, status) = told.split_once("-- status ").unwrap();
+        let mut printed = Vec::new();
+        let accepted = counters::run(file(&format!("../../{sample}")).as_slice(), &mut printed);
+        assert_eq!(accepted.unwrap(), status.starts_with('0'), "{sample}");
+        let told = told.replace("-- standard error\n", "");
+        assert_eq!(String::from_utf8(printed).unwrap(), told, "{sample}");
+        samples += 1;
+    }
+    assert_eq!(samples, 5);
 }

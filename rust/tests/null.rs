@@ -88,3 +88,74 @@ fn json8_written() {
     }
     assert_eq!(&out, b"\"\"\xaa");
 }
+
+#[test]
+fn tsv8() {
+    let refused = |number| j8_sheet {
+        number,
+        place: 0,
+        columns: 0,
+        cells: 0,
+        stored: 0,
+    };
+    let (mut names, mut types, mut cells) = ([7; 3], [7; 1], [7; 3]);
+    let text = b"!tsv8\ta\n\tx";
+    // SAFETY: null stands only where the length is 0.
+    unsafe {
+        let read = j8_tsv8_read(
+            null(),
+            0,
+            null_mut(),
+            0,
+            null_mut(),
+            0,
+            null_mut(),
+            0,
+            null_mut(),
+            0,
+        );
+        assert_eq!(read, refused(19));
+        let read = j8_tsv8_read(
+            text.as_ptr(),
+            text.len(),
+            names.as_mut_ptr(),
+            3,
+            types.as_mut_ptr(),
+            1,
+            null_mut(),
+            0,
+            null_mut(),
+            0,
+        );
+        assert_eq!(read, refused(12));
+        assert_eq!((names, types), ([7; 3], [7; 1]));
+        // No cells need no room.
+        let read = j8_tsv8_read(
+            text.as_ptr(),
+            7,
+            names.as_mut_ptr(),
+            3,
+            types.as_mut_ptr(),
+            1,
+            null_mut(),
+            0,
+            null_mut(),
+            0,
+        );
+        assert_eq!((read.number, read.columns, read.cells), (0, 1, 0));
+        let read = j8_tsv8_read(
+            text.as_ptr(),
+            text.len(),
+            names.as_mut_ptr(),
+            3,
+            types.as_mut_ptr(),
+            1,
+            cells.as_mut_ptr(),
+            3,
+            null_mut(),
+            0,
+        );
+        assert_eq!((read.number, read.cells, read.stored), (0, 1, 0));
+    }
+    assert_eq!((names, types, cells), ([5, 6, 1], [4], [5, 9, 1]));
+}

@@ -47,13 +47,13 @@ fn vectors_of_their_own() {
     assert_eq!(too_long, error(Refusal::TooLong, 0));
     assert_eq!(
         too_long.to_string(),
-        "refusal 2: too long: a line may have 1,024 bytes, a string or JSON8 text 32,768"
+        "refusal 2: too long: a line may have 1,024 bytes, a string, JSON8 or TSV8 text 32,768"
     );
 }
 
 #[test]
 fn refusals_have_their_numbers() {
-    assert_eq!(Refusal::ALL.len(), 18);
+    assert_eq!(Refusal::ALL.len(), 22);
     for (index, &refusal) in Refusal::ALL.iter().enumerate() {
         let number = index as u32 + 1;
         assert_eq!(refusal.number(), number);
@@ -61,7 +61,7 @@ fn refusals_have_their_numbers() {
         assert_eq!(Refusal::try_from(number), Ok(refusal));
         assert_eq!(error(refusal, 3).number(), number);
     }
-    for number in [0, 19, 256, 257, u32::MAX] {
+    for number in [0, 23, 256, 257, u32::MAX] {
         assert_eq!(Refusal::try_from(number), Err(number));
     }
 }
@@ -98,6 +98,9 @@ fn the_header_says_the_same() {
         ("NODES_MAX", j8::NODES_MAX),
         ("DEPTH_MAX", j8::DEPTH_MAX),
         ("NODE_ROOM", j8::NODE_ROOM),
+        ("COLUMNS_MAX", j8::COLUMNS_MAX),
+        ("CELL_ROOM", j8::CELL_ROOM),
+        ("CELLS_ROOM", j8::CELLS_ROOM),
         ("SENTENCE_ROOM", j8::raw::SENTENCE_ROOM),
     ] {
         defined(&format!("#define J8_{name} {number}"));
@@ -133,7 +136,7 @@ fn errors_say_what_and_where() {
         let start = format!("refusal {number} in line 7 at byte 5: ");
         assert!(in_line.to_string().starts_with(&start), "{in_line}");
     }
-    assert_eq!(sentences.len(), 18);
+    assert_eq!(sentences.len(), 22);
     assert!(error(Refusal::CutOff, 5)
         .to_string()
         .contains(" at byte 5: "));
@@ -219,6 +222,8 @@ fn threads() {
     shared::<j8::LentUpload<'static>>();
     shared::<j8::Json8>();
     shared::<j8::Nodes<'static>>();
+    shared::<j8::Tsv8>();
+    shared::<j8::Sheet<'static>>();
     shared::<j8::Value>();
     shared::<Error>();
     let texts = (0..8).map(|n| std::thread::spawn(move || j8::write_to_vec(&[n, 0xff])));

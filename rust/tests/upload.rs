@@ -374,7 +374,7 @@ fn an_upload_refuses() {
     let too_long = upload.feed(&[b' '; 1_025]).unwrap_err();
     assert_eq!(
         too_long.to_string(),
-        "refusal 2 in line 1 at byte 1024: too long: a line may have 1,024 bytes, a string or JSON8 text 32,768"
+        "refusal 2 in line 1 at byte 1024: too long: a line may have 1,024 bytes, a string, JSON8 or TSV8 text 32,768"
     );
     assert_eq!(upload.records().next(), None);
     assert!(format!("{upload:?}").starts_with("LentUpload { state: UploadState { taken: 1024,"));

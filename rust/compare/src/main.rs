@@ -16,6 +16,7 @@ mod run;
 mod sides;
 mod strings;
 mod table;
+mod tsv8;
 mod uploads;
 
 use run::{Entry, Run, STEP};
@@ -25,7 +26,7 @@ use std::sync::atomic::{AtomicUsize, Ordering};
 use std::time::Duration;
 use table::Report;
 
-const ENTRIES: [Entry; 8] = [
+const ENTRIES: [Entry; 9] = [
     strings::READ,
     strings::WRITE,
     uploads::CALLS,
@@ -34,6 +35,7 @@ const ENTRIES: [Entry; 8] = [
     json8::READ,
     json8::SHOW,
     json8::WRITE,
+    tsv8::READ,
 ];
 
 /// A shorter run may miss something.
@@ -49,7 +51,7 @@ fn usage() -> ! {
 }
 
 fn entry(name: &str) -> &'static Entry {
-    static ALL: [Entry; 8] = ENTRIES;
+    static ALL: [Entry; 9] = ENTRIES;
     ALL.iter()
         .find(|entry| entry.name == name)
         .unwrap_or_else(|| usage())

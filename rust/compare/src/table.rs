@@ -3,6 +3,9 @@
 use crate::run::Entry;
 use std::collections::BTreeMap;
 
+/// The last number that a refusal has.
+const LAST: u32 = 22;
+
 /// What the process of one entry said.
 pub struct Report {
     pub entry: &'static Entry,
@@ -132,7 +135,7 @@ pub fn print(reports: &[Report]) {
     }
     println!("\n| number | {} |", functions.join(" | "));
     println!("|---|{}", "---|".repeat(functions.len()));
-    for number in 0..=18 {
+    for number in 0..=LAST {
         let cell = |function: &&str| {
             counts
                 .get(&(function, number))
@@ -144,7 +147,7 @@ pub fn print(reports: &[Report]) {
     let other = |function: &&str| -> u64 {
         let over = counts
             .iter()
-            .filter(|(key, _)| key.0 == *function && key.1 > 18);
+            .filter(|(key, _)| key.0 == *function && key.1 > LAST);
         over.map(|(_, count)| count).sum()
     };
     if functions.iter().any(|function| other(function) > 0) {

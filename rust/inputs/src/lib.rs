@@ -11,5 +11,6 @@ pub mod random;
 pub mod strings;
 pub mod tables;
 pub mod trees;
+pub mod tsv8;
 
 pub use lent::{Item, Lent};

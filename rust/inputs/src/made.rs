@@ -91,9 +91,9 @@ fn padding(random: &mut Random, plain: bool, length: usize) -> Vec<u8> {
 }
 
 /// A piece of a string, and the bytes that it gives.
-type Piece = (&'static str, &'static [u8]);
+pub(crate) type Piece = (&'static str, &'static [u8]);
 
-const LITERAL: [&str; 16] = [
+pub(crate) const LITERAL: [&str; 16] = [
     "a",
     "scans/in",
     "2024",
@@ -111,7 +111,7 @@ const LITERAL: [&str; 16] = [
     "null",
     "a name that is longer than a block of bytes, of thirty-two or of sixty-four",
 ];
-const COMMON: [Piece; 8] = [
+pub(crate) const COMMON: [Piece; 8] = [
     (r#"\""#, b"\""),
     (r"\\", b"\\"),
     (r"\/", b"/"),
@@ -122,7 +122,7 @@ const COMMON: [Piece; 8] = [
     (r"\t", b"\t"),
 ];
 /// A high half never stands last, or the next piece might make a pair of it.
-const JSON: [Piece; 7] = [
+pub(crate) const JSON: [Piece; 7] = [
     ("'", b"'"),
     (r"\u0041", b"A"),
     (r"\u00E9", b"\xc3\xa9"),
@@ -131,7 +131,7 @@ const JSON: [Piece; 7] = [
     (r"\udd26", b"\xed\xb4\xa6"),
     (r"\u0000", b"\0"),
 ];
-const SINGLE: [Piece; 6] = [
+pub(crate) const SINGLE: [Piece; 6] = [
     ("\"", b"\""),
     (r"\'", b"'"),
     (r"\u{41}", b"A"),
@@ -139,7 +139,7 @@ const SINGLE: [Piece; 6] = [
     (r"\u{0}", b"\0"),
     (r"\u{E9}", b"\xc3\xa9"),
 ];
-const BYTES: [Piece; 4] = [
+pub(crate) const BYTES: [Piece; 4] = [
     (r"\yff", b"\xff"),
     (r"\yC3\ya9", b"\xc3\xa9"),
     (r"\y00", b"\0"),

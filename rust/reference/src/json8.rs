@@ -249,7 +249,7 @@ fn digits(text: &[u8]) -> Option<&[u8]> {
 }
 
 /// The kind of a number by RFC 8259, or nothing if it is malformed.
-fn number_kind(token: &[u8]) -> Option<u32> {
+pub(crate) fn number_kind(token: &[u8]) -> Option<u32> {
     let unsigned = token.strip_prefix(b"-").unwrap_or(token);
     // No digit stands behind a leading 0.
     let mut rest = match unsigned {

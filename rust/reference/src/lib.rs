@@ -1,12 +1,13 @@
-//! J8 strings, J8 Lines in [`lines`] and JSON8 in [`json8`], written from the
-//! rules alone and from none of the library's code, so that the two can be
-//! compared. It is also a contestant of the benchmark.
+//! J8 strings, J8 Lines in [`lines`], JSON8 in [`json8`] and TSV8 in [`tsv8`],
+//! written from the rules alone and from none of the library's code, so that the
+//! two can be compared. It is also a contestant of the benchmark.
 //!
 //! Every function on strings fills the lent room from its start and answers the
 //! length, or refuses and leaves the room as it was.
 
 pub mod json8;
 pub mod lines;
+pub mod tsv8;
 
 /// The longest text that is read.
 pub const TEXT_MAX: usize = 32_768;

@@ -26,15 +26,15 @@ const ENDED: u32 = 18;
 
 /// What is left without the blanks at both ends, and where it starts; nothing
 /// if the line is ignored.
-fn stripped(line: &[u8]) -> Option<(usize, &[u8])> {
+pub(crate) fn stripped(line: &[u8]) -> Option<(usize, &[u8])> {
     let stays = |b: &u8| !matches!(b, b' ' | b'\t' | b'\r');
     let start = line.iter().position(stays)?;
     let end = line.iter().rposition(stays)? + 1;
     Some((start, &line[start..end]))
 }
 
-/// A bare line's payload: itself, if it is valid UTF-8 with no control but tab.
-fn read_bare(text: &[u8], out: &mut [u8]) -> Result<usize, Refusal> {
+/// A bare line is valid UTF-8 with no control but tab.
+pub(crate) fn judge_bare(text: &[u8]) -> Result<(), Refusal> {
     let valid = match std::str::from_utf8(text) {
         Ok(_) => text.len(),
         Err(fault) => fault.valid_up_to(),
@@ -52,6 +52,12 @@ fn read_bare(text: &[u8], out: &mut [u8]) -> Result<usize, Refusal> {
     if valid < text.len() {
         return refuse(ILL_FORMED, valid);
     }
+    Ok(())
+}
+
+/// A bare line's payload: itself.
+fn read_bare(text: &[u8], out: &mut [u8]) -> Result<usize, Refusal> {
+    judge_bare(text)?;
     match out.get_mut(..text.len()) {
         Some(room) => room.copy_from_slice(text),
         None => return refuse(NO_ROOM, 0),

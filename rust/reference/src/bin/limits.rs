@@ -3,7 +3,7 @@
 //! A row is a call and its fields; crates/limits/stdin tells the notation.
 
 use j8_reference::lines::{self, Upload};
-use j8_reference::{json8, Refusal};
+use j8_reference::{json8, tsv8, Refusal};
 use std::io::{self, BufRead, Write};
 
 /// A table's numbers before a call.
@@ -101,14 +101,15 @@ fn runs(buffer: &[u8]) -> String {
         .join(".")
 }
 
-/// A table by columns: `-` for a number that is as it was, and a count for numbers that are as far from those of the node before as these from
-/// their own.
-fn nodes(table: &[u32]) -> String {
+/// A table by columns, so many numbers a row: `-` for a number that is as it was, and a count for numbers that are as far from those of the row before as
+/// these from their own.
+fn rows(table: &[u32], width: usize) -> String {
     let mut out = String::new();
     let mut more = 0;
     for (i, &number) in table.iter().enumerate() {
-        let goes_on =
-            i >= 8 && number.wrapping_sub(table[i - 4]) == table[i - 4].wrapping_sub(table[i - 8]);
+        let goes_on = i >= 2 * width
+            && number.wrapping_sub(table[i - width])
+                == table[i - width].wrapping_sub(table[i - 2 * width]);
         if goes_on {
             more += 1;
             continue;
@@ -119,7 +120,7 @@ fn nodes(table: &[u32]) -> String {
         }
         out.push(match i {
             0 => ' ',
-            _ if i % 4 == 0 => ',',
+            _ if i % width == 0 => ',',
             _ => ':',
         });
         match number {
@@ -215,7 +216,28 @@ fn json8_read(text: &[u8], room: usize, bytes: usize) -> String {
         Ok(filled) => format!("0,0,{},{}", filled.nodes, filled.stored),
         Err(refusal) => format!("{},{},0,0", refusal.number, refusal.place),
     };
-    format!("{answer}{} {}", nodes(&table), runs(&store))
+    format!("{answer}{} {}", rows(&table, json8::NODE), runs(&store))
+}
+
+/// An empty part is `-`, so that each stands at its place.
+fn tsv8_read(text: &[u8], [names, types, cells, bytes]: [usize; 4]) -> String {
+    let [mut names, mut types, mut cells] = [names, types, cells].map(|room| vec![FILL; room]);
+    let mut store = vec![0xaa; bytes];
+    let answer = match tsv8::read(text, &mut names, &mut types, &mut cells, &mut store) {
+        Ok(filled) => format!("0,0,{},{},{}", filled.columns, filled.cells, filled.stored),
+        Err(refusal) => format!("{},{},0,0,0", refusal.number, refusal.place),
+    };
+    let part = |table: &[u32], width| match table {
+        [] => " -".to_string(),
+        _ => rows(table, width),
+    };
+    format!(
+        "{answer}{}{}{} {}",
+        part(&names, tsv8::CELL),
+        part(&types, 1),
+        part(&cells, tsv8::CELL),
+        runs(&store)
+    )
 }
 
 fn json8_show(table: &[u32], text: &[u8], store: &[u8], node: usize) -> String {
@@ -269,6 +291,7 @@ fn answer(row: &str) -> String {
             &bytes(field(3)),
             number(4),
         ),
+        "tsv8_read" => tsv8_read(&bytes(field(1)), [2, 3, 4, 5].map(number)),
         call => panic!("no such call: {call}"),
     }
 }
