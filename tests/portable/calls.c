@@ -332,17 +332,22 @@ static void upload(void)
     give_back(&held, 1);
 }
 
-static void json8_read(void)
+static part room_of_numbers(size_t count)
 {
-    part text = bytes(word()), nodes, store;
-    size_t i, count = number(word()), list[4];
-    j8_nodes r;
+    size_t i;
 
     for (i = 0; i < count; i++) {
         numbers[i] = UINT32_C(0xdddddddd);
     }
-    nodes = lend(numbers, count, sizeof numbers[0]);
-    store = room(number(word()), 0xbb);
+    return lend(numbers, count, sizeof numbers[0]);
+}
+
+static void json8_read(void)
+{
+    part text = bytes(word()), nodes = room_of_numbers(number(word())), store = room(number(word()), 0xbb);
+    size_t list[4];
+    j8_nodes r;
+
     r = j8_json8_read(text.at, text.count, nodes.at, nodes.count, store.at, store.count);
     list[0] = r.number;
     list[1] = r.place;
@@ -394,6 +399,30 @@ static void json8_show(void)
     give_back(&store, 0);
 }
 
+static void tsv8_read(void)
+{
+    part text = bytes(word()), names = room_of_numbers(number(word())), types = room_of_numbers(number(word()));
+    part cells = room_of_numbers(number(word())), store = room(number(word()), 0xbb);
+    size_t list[5];
+    j8_sheet r = j8_tsv8_read(text.at, text.count, names.at, names.count, types.at, types.count, cells.at, cells.count, store.at, store.count);
+
+    list[0] = r.number;
+    list[1] = r.place;
+    list[2] = r.columns;
+    list[3] = r.cells;
+    list[4] = r.stored;
+    show_numbers(list, 5);
+    show_table(&names);
+    show_table(&types);
+    show_table(&cells);
+    show_bytes(&store);
+    give_back(&text, 0);
+    give_back(&names, 1);
+    give_back(&types, 1);
+    give_back(&cells, 1);
+    give_back(&store, 1);
+}
+
 static void version(void)
 {
     printf("%lu", (unsigned long)j8_version());
@@ -417,6 +446,8 @@ static void make_call(const char *name)
         json8_write();
     } else if (strcmp(name, "json8_show") == 0) {
         json8_show();
+    } else if (strcmp(name, "tsv8_read") == 0) {
+        tsv8_read();
     } else if (strcmp(name, "version") == 0) {
         version();
     } else {

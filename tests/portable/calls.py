@@ -107,9 +107,18 @@ def show_vectors():
         yield "json8_show %s %s %s %s" % (table, text, store, node), "%s,? %s" % (number, shown(raw(made)))
 
 
+def sheet_vectors():
+    for text, names, types, cells, store, number, place, *given in cases("tsv8_read"):
+        stored = raw(given.pop())
+        made = [[] if part == "-" else [int(one) for one in part.replace(":", ",").split(",")] for part in given]
+        answer = "%s,%s,%d,%d,%d" % (number, place, len(made[1]), len(made[2]) // 3, len(stored))
+        filled = [shown_table(part + [0xDDDDDDDD] * (int(room) - len(part))) for part, room in zip(made, (names, types, cells))]
+        yield "tsv8_read %s %s %s %s %s" % (text, names, types, cells, store), " ".join([answer] + filled + [over(stored, int(store), 0xBB)])
+
+
 def sentence_calls():
     """Other tests have their words: here builds are compared."""
-    for which in list(range(21)) + [255, 2**32 - 1]:
+    for which in list(range(25)) + [255, 2**32 - 1]:
         for room in (0, 20, 60, 128):
             yield "sentence %d %d" % (which, room), "? ?"
     yield "version", "?"
@@ -118,7 +127,7 @@ def sentence_calls():
 def vectors():
     for name in ("string_read", "string_write", "lines_write"):
         yield from text_vectors(name)
-    for part in (upload_vectors, line_vectors, read_vectors, write_vectors, show_vectors, sentence_calls):
+    for part in (upload_vectors, line_vectors, read_vectors, write_vectors, show_vectors, sheet_vectors, sentence_calls):
         yield from part()
 
 
@@ -147,7 +156,7 @@ TOKENS = [token.strip("\n").encode("latin-1") or b"\n" for token in TOKENS] + [b
 class Chance:
     def __init__(self, seed, top=2**32 - 1):
         self.r, self.top = random.Random(seed), top
-        self.makers = [self.string_read, self.string_write, self.lines_write, self.upload, self.state, self.read, self.write, self.show, self.sentence]
+        self.makers = [self.string_read, self.string_write, self.lines_write, self.upload, self.state, self.read, self.write, self.show, self.sheet, self.sentence]
 
     def noise(self, most):
         return b"".join(self.r.choice(TOKENS) for _ in range(self.r.randrange(most)))
@@ -216,6 +225,27 @@ class Chance:
         table = [self.r.choice([0, 5, 6, 5, 6, 7, 1, 2, 3]) for _ in range(self.r.randrange(14))]
         node = self.r.choice([0, 1, 2, 3, self.top // 4 + 1, self.top // 2 + 1, self.top])
         return "json8_show %s %s %s %d" % (shown_table(table), shown(self.noise(9)), shown(self.noise(9)), node)
+
+    def cell(self):
+        return self.r.choice([b"1", b"0.5", b"true", b"x", b" a b ", b"", b"-0", b"Int", b"Str", self.quoted(), self.noise(4)])
+
+    def sheet(self):
+        """Mostly as many cells as names; lines of every sort."""
+        columns = self.r.choice([1, 1, 2, 3, 3, 64, 65] if self.r.randrange(9) == 0 else [1, 2, 3])
+        lines = [b"!tsv8" + b"".join(b"\t" + self.r.choice([b"a", b"'n'", self.quoted()]) for _ in range(columns))]
+        if self.r.randrange(2):
+            lines.append(b"!type" + b"".join(b"\t" + self.r.choice([b"Bool", b"Int", b"Float", b"Str", b"Str"]) for _ in range(columns)))
+        for _ in range(self.r.randrange(5)):
+            first = self.r.choice([b"", b"", b"", b"", b"", b"!x", b"!type", b"x"])
+            count = self.r.randrange(4) if self.r.randrange(9) == 0 else columns
+            lines.append(first + b"".join(b"\t" + self.cell() for _ in range(count)))
+        if self.r.randrange(4) == 0:
+            lines.insert(self.r.randrange(len(lines) + 1), self.r.choice([b"", b" ", b" \r", b"\t"]))
+        text = self.r.choice([b"\n", b"\n", b"\r\n"]).join(lines)
+        rooms = self.r.choice([0, 2, 3, 8, 200]), self.r.choice([0, 1, 3, 70]), self.r.choice([0, 5, 9, 700]), self.r.choice([0, 3, 3000])
+        if self.r.randrange(2):
+            rooms = 200, 70, 3000, 3000
+        return "tsv8_read %s %d %d %d %d" % ((shown(text),) + rooms)
 
     def sentence(self):
         return "sentence %d %d" % (self.r.randrange(25), self.r.randrange(130))

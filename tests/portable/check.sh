@@ -8,7 +8,7 @@ set -u
 cd "$(dirname "$0")/../.." || exit 1
 made=target/portable
 source=$made/j8.c
-programs=(strings upload drain json8 json8_write sentences)
+programs=(strings upload drain json8 json8_write tsv8 sentences)
 strict=(-Wall -Wextra -Werror -pedantic)
 
 fail() {

@@ -97,7 +97,7 @@ def differs(name, compiler, options):
 
 def programs(name, compiler, options):
     """The first of the C programs that doesn't pass."""
-    for one in ("strings", "upload", "json8", "json8_write", "sentences", "drain"):
+    for one in ("strings", "upload", "json8", "json8_write", "tsv8", "sentences", "drain"):
         program = "%s/%s_%s" % (FOLDER, name, one)
         run([compiler] + options + ["-std=c99", "-Iinclude", "tests/c/%s.c" % one, FOLDER + "/j8.c", "-o", program])
         try:

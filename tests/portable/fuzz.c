@@ -144,6 +144,7 @@ OTHER(j8_fed, j8_upload_finish, (j8_upload, const uint8_t *, size_t, uint8_t *, 
 OTHER(j8_nodes, j8_json8_read, (const uint8_t *, size_t, uint32_t *, size_t, uint8_t *, size_t))
 OTHER(j8_result, j8_json8_write, (const uint32_t *, size_t, const uint8_t *, size_t, const uint8_t *, size_t, uint8_t *, size_t))
 OTHER(j8_shown, j8_json8_show, (const uint32_t *, size_t, const uint8_t *, size_t, const uint8_t *, size_t, size_t))
+OTHER(j8_sheet, j8_tsv8_read, (const uint8_t *, size_t, uint32_t *, size_t, uint32_t *, size_t, uint32_t *, size_t, uint8_t *, size_t))
 
 static void need(int holds)
 {
@@ -262,6 +263,30 @@ static void json8_show(void)
     free(nodes.at);
     free(text.at);
     free(store.at);
+#endif
+}
+
+static void tsv8_read(void)
+{
+    size_t names = one(), types = one(), cells = two(), store = two();
+    part text = rest();
+#ifdef PRINT
+    printf("tsv8_read ");
+    print_bytes(&text);
+    printf(" %lu %lu %lu %lu\n", (unsigned long)names, (unsigned long)types, (unsigned long)cells, (unsigned long)store);
+#else
+    part n = lend(names, sizeof(uint32_t), 0xdd), m = lend(names, sizeof(uint32_t), 0xdd), t = lend(types, sizeof(uint32_t), 0xdd), u = lend(types, sizeof(uint32_t), 0xdd);
+    part c = lend(cells, sizeof(uint32_t), 0xdd), d = lend(cells, sizeof(uint32_t), 0xdd), a = lend(store, 1, 0xbb), b = lend(store, 1, 0xbb);
+    j8_sheet left = j8_tsv8_read(text.at, text.count, n.at, n.count, t.at, t.count, c.at, c.count, a.at, a.count);
+    j8_sheet right = archive_j8_tsv8_read(text.at, text.count, m.at, m.count, u.at, u.count, d.at, d.count, b.at, b.count);
+
+    need(left.number == right.number && left.place == right.place);
+    need(left.columns == right.columns && left.cells == right.cells && left.stored == right.stored);
+    same_parts(n, m);
+    same_parts(t, u);
+    same_parts(c, d);
+    same_parts(a, b);
+    free(text.at);
 #endif
 }
 
@@ -398,6 +423,7 @@ static void make_call(const uint8_t *data, size_t size)
     } entries[] = {
         { "string_read", string_read }, { "string_write", string_write }, { "lines_write", lines_write }, { "sentence", sentence },
         { "json8_read", json8_read }, { "json8_write", json8_write }, { "json8_show", json8_show }, { "upload", upload },
+        { "tsv8_read", tsv8_read },
     };
     size_t i;
 

@@ -5,7 +5,7 @@
 set -u
 cd "$(dirname "$0")/../.." || exit 1
 folder=target/portable/fuzz
-all=(string_read string_write lines_write upload json8_read json8_write json8_show sentence)
+all=(string_read string_write lines_write upload json8_read json8_write json8_show tsv8_read sentence)
 [ $# -gt 0 ] && all=("$@")
 seconds=${J8_SECONDS:-600}
 mkdir -p $folder

@@ -229,13 +229,15 @@ def program_of(source, wanted):
     return program
 
 
-def called(term, found):
-    """The functions that a term names, added to what was found."""
-    if isinstance(term, list):
-        if term and term[0] == "fnRef":
-            found.add(str(term[1]))
-        for part in term:
-            called(part, found)
+def calls_in(term):
+    """The functions that a term names, once for each place that names it."""
+    found, left = [], [term]
+    while left:
+        one = left.pop()
+        if isinstance(one, list):
+            if one and one[0] == "fnRef":
+                found.append(str(one[1]))
+            left += one
     return found
 
 
@@ -248,7 +250,7 @@ def reached(terms, wanted):
             return
         begun.add(symbol)
         need(symbol in terms, "no function is named", symbol)
-        for other in sorted(called(terms[symbol][2], set())):
+        for other in sorted(set(calls_in(terms[symbol][2]))):
             visit(other)
         order.append(symbol)
 

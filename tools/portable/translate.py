@@ -11,13 +11,13 @@ import sys
 
 from forms import HELPERS, operand, place, statement
 from header import Header
-from mir import Array, Int, Raw, Ref, Stop, Unit, function_of, items, need, number, program_of, type_of
+from mir import Array, Int, Raw, Ref, Stop, Unit, calls_in, function_of, items, need, number, program_of, type_of
 from shapes import Shapes, c_name, size
 from sources import Sources
 
 HEAD = """\
 /*
- * j8.c - J8 Notation strings, lines and JSON8 for printer backups, version %(version)s: the whole library in one C99 file, for any processor.
+ * j8.c - J8 Notation strings, lines, JSON8 and TSV8 for printer backups and logs, version %(version)s: the whole library in one C99 file, for any processor.
  *
  * Made by tools/portable of the j8 repository from the MIR of its proved crates. Don't edit it. Compile it with j8.h beside it:
  *
@@ -56,6 +56,13 @@ HEAD = """\
 #else
 #define J8_CHECK(condition) ((void)0)
 #define J8_ROOM(statement)
+#endif
+
+/* A part of its one caller in a ring of calls, so that each turn of the ring takes one frame of the stack and not several. */
+#if defined __GNUC__ && !defined J8_PLAIN
+#define J8_PART inline __attribute__((always_inline))
+#else
+#define J8_PART inline
 #endif
 """
 
@@ -167,7 +174,8 @@ class Writer:
     def head(self):
         """Inline, so that gcc -O2 puts a block's loop where its length is a number that it knows."""
         params = [self.shapes.declare(self.locals[at], "v%d" % at) for at in range(1, self.function.params + 1)]
-        return ("static inline %s %s(%s)" % (self.shapes.name(self.locals[0]), c_name(self.function.symbol), ", ".join(params) or "void")).replace("* ", "*")
+        kind = "J8_PART" if self.function.symbol in self.files.parts else "inline"
+        return ("static %s %s %s(%s)" % (kind, self.shapes.name(self.locals[0]), c_name(self.function.symbol), ", ".join(params) or "void")).replace("* ", "*")
 
     def whole(self):
         """The function in C."""
@@ -195,6 +203,7 @@ class File:
         self.functions = {}
         for symbol, term in program.terms.items():
             with_name(symbol, lambda: self.functions.update({symbol: function_of(symbol, term)}))
+        self.parts = parts_of(program.terms)
 
     def constant(self, ty, numbers):
         """A constant array's name: it stands once in the file, and a function copies it."""
@@ -218,6 +227,23 @@ class File:
         made = [HEAD % {"version": self.header.version}, "\n".join(types), "\n".join(self.constants), "\n".join(helpers), "".join(heads)]
         made.append("\n".join(bodies + wrappers))
         return "\n".join(one for one in made if one)
+
+
+def parts_of(terms):
+    """The functions that are called at one place, by another of the ring of calls that they stand in."""
+    calls = {symbol: calls_in(term) for symbol, term in terms.items()}
+    every = [other for one in calls.values() for other in one]
+
+    def reach(symbol):
+        seen, left = set(), list(calls[symbol])
+        while left:
+            one = left.pop()
+            if one not in seen:
+                seen.add(one)
+                left += calls[one]
+        return seen
+
+    return {symbol for symbol in terms if every.count(symbol) == 1 and symbol not in calls[symbol] and symbol in reach(symbol)}
 
 
 def with_name(name, made):
