@@ -8,7 +8,7 @@ use std::path::{Path, PathBuf};
 use std::process::Command;
 
 /// The functions of j8.h, which each build of the C file has under names of its own.
-const FUNCTIONS: [&str; 11] = [
+const FUNCTIONS: [&str; 12] = [
     "version",
     "sentence",
     "string_read",
@@ -20,6 +20,7 @@ const FUNCTIONS: [&str; 11] = [
     "json8_read",
     "json8_show",
     "json8_write",
+    "tsv8_read",
 ];
 
 /// The C file as one builds it: the name of its table, the compiler and its options.

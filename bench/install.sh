@@ -4,6 +4,7 @@ set -eu
 
 packages=(
   librust-serde-json-dev                                  # strings and JSON8
+  librust-csv-dev                                         # TSV8
   libsimdjson-dev rapidjson-dev libyajl-dev libcjson-dev  # JSON8
   g++ binutils                                            # compile the C and C++ ones
   gcc clang                                               # compile the C file

@@ -2,7 +2,8 @@
 //! earlier archive: the same calls for all.
 
 use super::race::OURS;
-use j8::raw::{j8_fed, j8_nodes, j8_result, j8_upload};
+use super::tsv8::Buffers;
+use j8::raw::{j8_fed, j8_nodes, j8_result, j8_sheet, j8_upload};
 
 /// As library.c has it.
 #[repr(C)]
@@ -25,6 +26,18 @@ pub struct Library {
         *mut u8,
         usize,
     ) -> j8_result,
+    tsv8_read: unsafe extern "C" fn(
+        *const u8,
+        usize,
+        *mut u32,
+        usize,
+        *mut u32,
+        usize,
+        *mut u32,
+        usize,
+        *mut u8,
+        usize,
+    ) -> j8_sheet,
 }
 
 pub const ARCHIVE: Library = Library {
@@ -35,6 +48,7 @@ pub const ARCHIVE: Library = Library {
     upload_finish: j8::raw::j8_upload_finish,
     json8_read: j8::raw::j8_json8_read,
     json8_write: j8::raw::j8_json8_write,
+    tsv8_read: j8::raw::j8_tsv8_read,
 };
 
 /// The C file's builds, by compiler and options.
@@ -143,6 +157,30 @@ impl Library {
                 store.len(),
                 out.as_mut_ptr(),
                 out.len(),
+            )
+        }
+    }
+
+    pub fn tsv8_read(&self, text: &[u8], buffers: &mut Buffers) -> j8_sheet {
+        let Buffers {
+            names,
+            types,
+            cells,
+            store,
+        } = buffers;
+        // SAFETY: all parts are slices that don't overlap.
+        unsafe {
+            (self.tsv8_read)(
+                text.as_ptr(),
+                text.len(),
+                names.as_mut_ptr(),
+                names.len(),
+                types.as_mut_ptr(),
+                types.len(),
+                cells.as_mut_ptr(),
+                cells.len(),
+                store.as_mut_ptr(),
+                store.len(),
             )
         }
     }

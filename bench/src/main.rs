@@ -1,4 +1,4 @@
-//! The benchmark: strings, uploads and JSON8 beside other libraries. The README
+//! The benchmark: strings, uploads, JSON8 and TSV8 beside other libraries. The README
 //! says how it is run, and docs/BENCHMARKS.md what is compared.
 
 mod json8;
@@ -9,19 +9,21 @@ mod race;
 mod report;
 mod strings;
 mod texts;
+mod tsv8;
 mod upload;
 
 use race::{race, race_case, Call, Case, Plan, OURS};
 use std::path::Path;
 
 /// The tables, by the words that name them on the command line.
-const JOBS: [&str; 6] = [
+const JOBS: [&str; 7] = [
     "read",
     "write",
     "upload",
     "json8",
     "json8_dense",
     "json8_write",
+    "tsv8",
 ];
 
 /// Calls before the counted ones, so that memory which is kept is there.
@@ -38,6 +40,7 @@ fn kinds(job: &str) -> Vec<&'static str> {
     match job {
         "read" | "write" => strings::KINDS.to_vec(),
         "upload" => upload::KINDS.to_vec(),
+        "tsv8" => tsv8::KINDS.to_vec(),
         _ => texts::names(job == "json8_dense"),
     }
 }
@@ -47,6 +50,7 @@ fn case(plan: Plan) -> Case {
         "read" | "write" => strings::case(plan),
         "upload" => upload::case(plan),
         "json8" | "json8_dense" => json8::case(plan),
+        "tsv8" => tsv8::case(plan),
         _ => json8_write::case(plan),
     }
 }
@@ -80,6 +84,7 @@ fn rows(job: &'static str, kind: &'static str) -> Vec<Plan> {
             let rows = texts::kind(kind).rows();
             plans_of(job, kind, rows.map(|(texts, size)| (size, 0, texts)))
         }
+        "tsv8" => plans_of(job, kind, tsv8::SIZES.map(|size| (size, 0, 1))),
         _ => plans_of(job, kind, json8::SIZES.map(|size| (size, 0, 1))),
     }
 }
@@ -96,6 +101,7 @@ fn curve(job: &'static str, kind: &'static str) -> Vec<Plan> {
     let (least, limit, piece) = match job {
         "read" | "write" => (16, strings::LIMIT, 0),
         "upload" => (4_096, j8::UPLOAD_MAX, upload::PACKET),
+        "tsv8" => (1_024, tsv8::LIMIT, 0),
         _ => (1_024, texts::kind(kind).most, 0),
     };
     let next = |size: &usize| match job {

@@ -36,7 +36,7 @@ const READERS: &[&str] = &[
     "reference",
 ];
 
-const JOBS: [Job; 6] = [
+const JOBS: [Job; 7] = [
     Job {
         word: "read",
         title: "Strings, read",
@@ -95,6 +95,14 @@ const JOBS: [Job; 6] = [
             "j8 exact",
         ],
         marks: &[("Value", 1.0, true), ("cJSON", 1.0, true)],
+    },
+    Job {
+        word: "tsv8",
+        title: "TSV8, read",
+        rows: "size",
+        plotted: "a row: kind and size of the text",
+        peers: &["csv", "reference"],
+        marks: &[("csv", 1.0, false), ("reference", 1.0, false)],
     },
 ];
 
@@ -590,6 +598,7 @@ fn machine(out: &mut String, facts: &BTreeMap<String, String>) {
         ("RapidJSON", version("rapidjson-dev")),
         ("yajl", version("libyajl-dev")),
         ("cJSON", version("libcjson-dev")),
+        ("csv", version("librust-csv-dev")),
         ("run", format!("{} to {} UTC", facts["start"], facts["end"])),
         (
             "load of the machine",
@@ -760,6 +769,7 @@ pub fn write(folder: &Path, docs: &Path) {
             "JSON8, dense texts read",
             vec![("", of("json8_dense"))],
         ),
+        ("tsv8", "TSV8", vec![("", of("tsv8"))]),
     ];
     for (name, title, jobs) in plotted {
         let title = format!("{title}: cost a byte by size");
