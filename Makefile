@@ -81,7 +81,7 @@ stack: archive
 size: archive
 	@size target/staticlib/libj8.a
 	@nm -u target/staticlib/libj8.a
-	@for group in NONE STRINGS UPLOADS JSON8 ALL; do \
+	@for group in NONE STRINGS UPLOADS JSON8 TSV8 ALL; do \
 	  gcc -std=c99 $(STRICT) -D$$group -Wl,--gc-sections tests/c/size.c target/staticlib/libj8.a -o target/c_size || exit 1; \
 	  bytes=$$(size target/c_size | awk 'NR == 2 { print $$1 }'); \
 	  [ $$group = NONE ] && none=$$bytes || echo "$$group: $$((bytes - none)) bytes of code and constants"; \
