@@ -1,5 +1,6 @@
 pub mod Cases
 pub mod Picks
+pub mod Numbers
 pub mod Tables
 pub mod Suffix
 pub mod Stores

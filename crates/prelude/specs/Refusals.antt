@@ -1,6 +1,8 @@
 -- The refusal numbers of document 01, each with its row of the table, and those of document 02, each with its words.
 -- Assumes nothing.
-use Prim.Native.Nat.{ℕ}
+use Prim.Native.Nat.{ℕ, _≤_}
+use mathlib.Core.Logic.{_⊎_}
+use mathlib.Core.Path.{_≡_}
 
 -- "a lent buffer, table or state is unfit"
 abbrev pub unfit : ℕ
@@ -17,10 +19,6 @@ noOpening = 3
 -- "the text ends where more is needed"
 abbrev pub cutOff : ℕ
 cutOff = 4
-
--- "ill-formed UTF-8"
-abbrev pub illFormed : ℕ
-illFormed = 5
 
 -- "literal control byte, below 0x20"
 abbrev pub control : ℕ
@@ -90,3 +88,27 @@ wrongType = 21
 -- "cell stripped to nothing"
 abbrev pub emptyCell : ℕ
 emptyCell = 22
+
+-- request [2]: "23 bad encoding, 24 incomplete, 25 overlong, 26 surrogate, 27 too large replace 5 everywhere"
+abbrev pub utf8BadEncoding : ℕ
+utf8BadEncoding = 23
+
+abbrev pub utf8Incomplete : ℕ
+utf8Incomplete = 24
+
+abbrev pub utf8Overlong : ℕ
+utf8Overlong = 25
+
+abbrev pub utf8Surrogate : ℕ
+utf8Surrogate = 26
+
+abbrev pub utf8TooLarge : ℕ
+utf8TooLarge = 27
+
+-- what a unit of a string or a character of a bare text is refused for: 6 to 10, and where 5 stood 23 to 27
+abbrev pub UnitFault : ℕ → Type 0
+UnitFault n = ((control ≤ n) × (n ≤ byteEscape)) ⊎ ((utf8BadEncoding ≤ n) × (n ≤ utf8TooLarge))
+
+-- what a string behind its opening mark, or a bare text, is refused for: a unit, the text's end or what stands behind the string
+abbrev pub TextFault : ℕ → Type 0
+TextFault n = (n ≡ cutOff) ⊎ ((n ≡ trailing) ⊎ UnitFault n)

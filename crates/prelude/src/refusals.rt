@@ -8,8 +8,6 @@ pub const NO_OPENING: u32 = 3;
 
 pub const CUT_OFF: u32 = 4;
 
-pub const ILL_FORMED: u32 = 5;
-
 pub const CONTROL: u32 = 6;
 
 pub const BAD_ESCAPE: u32 = 7;
@@ -43,3 +41,13 @@ pub const BAD_LINE: u32 = 20;
 pub const WRONG_TYPE: u32 = 21;
 
 pub const EMPTY_CELL: u32 = 22;
+
+pub const UTF8_BAD_ENCODING: u32 = 23;
+
+pub const UTF8_INCOMPLETE: u32 = 24;
+
+pub const UTF8_OVERLONG: u32 = 25;
+
+pub const UTF8_SURROGATE: u32 = 26;
+
+pub const UTF8_TOO_LARGE: u32 = 27;

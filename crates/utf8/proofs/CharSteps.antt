@@ -1,6 +1,6 @@
 -- The character check in code, place by place: the definition's decision list, with the class of the byte that stands there.
 -- Assumes nothing.
-use mathlib.Core.Path.{_≡_, refl, sym, _∙_}
+use mathlib.Core.Path.{_≡_, refl, sym, ap, _∙_}
 use mathlib.Core.List.{List}
 use Prim.Native.Nat.{ℕ, zero, suc, _≤_, _<_}
 use native.Mathlib.Omega.{arith}
@@ -9,7 +9,7 @@ use lib.ListN.{length, getD, drop, drop-of-length-le}
 use lib.Seq.{drop-cons}
 use Rattle.prelude.specs.Pick.{pick}
 use Rattle.utf8.specs.Class.{classOf}
-use Rattle.utf8.specs.Utf8.{fourBytes, longLen, lenBy, charLen, charAt}
+use Rattle.utf8.specs.Utf8.{fourBytes, longLen, lenBy, charLen, charFault, charAt}
 use Rattle.utf8.specs.declared.chars.Char.the-variants.{Good, Bad}
 
 pub four-way : (k b c d x y z v : ℕ) → v ≡ fourBytes k x y z → x ≡ b → y ≡ c → z ≡ d → 10 ≤ k → k < 13 → v ≡ longLen k b c d
@@ -40,27 +40,31 @@ module _ (s : List ℕ) (at k : ℕ) (h : at < length s) (ek : k ≡ classOf (ge
   unfolding lenBy pick
   long-char n e l = len-is ∙ rw (le-ltb k 5 (omega arith), le-ltb k 6 l) (sym e)
 
-bad : (r : List ℕ) → charLen r ≡ 0 → Bad 5 ≡ charAt r
-bad r e = rw e
+bad : (r : List ℕ) (f : ℕ) → charLen r ≡ 0 → f ≡ charFault r → Bad f ≡ charAt r
+bad r f e q = rw e (ap Bad q)
 
 good : (r : List ℕ) (n : ℕ) → charLen r ≡ n → (n ≡ 0 → ⊥) → Good n ≡ charAt r
 good r zero e h = absurd (h refl)
 good r (suc n) e h = rw e
 
 -- the answers of the check, way by way
-pub at-end : (s : List ℕ) (at : ℕ) → length s ≤ at → Bad 5 ≡ charAt (drop at s)
-at-end s at h = bad (drop at s) (char-end s at h)
+pub fault-end : (s : List ℕ) (at : ℕ) → length s ≤ at → 24 ≡ charFault (drop at s)
+unfolding charFault
+fault-end s at h = rw (drop-of-length-le s h)
+
+pub at-end : (s : List ℕ) (at : ℕ) → length s ≤ at → Bad 24 ≡ charAt (drop at s)
+at-end s at h = bad (drop at s) 24 (char-end s at h) (fault-end s at h)
 
 module _ (s : List ℕ) (at k : ℕ) (h : at < length s) (ek : k ≡ classOf (getD s at 0)) where
   pub is-one : k < 5 → Good 1 ≡ charAt (drop at s)
   is-one l = good (drop at s) 1 (one-byte s at k h ek l) (λ z. omega arith)
 
-  pub is-lone : 5 ≤ k → k < 6 → Bad 5 ≡ charAt (drop at s)
-  is-lone l m = bad (drop at s) (lone-tail s at k h ek l m)
+  pub is-lone : (f : ℕ) → f ≡ charFault (drop at s) → 5 ≤ k → k < 6 → Bad f ≡ charAt (drop at s)
+  is-lone f q l m = bad (drop at s) f (lone-tail s at k h ek l m) q
 
   module _ (n : ℕ) (en : n ≡ longLen k (getD (drop at s) 1 0) (getD (drop at s) 2 0) (getD (drop at s) 3 0)) (l : 6 ≤ k) where
-    pub is-cut : n ≡ 0 → Bad 5 ≡ charAt (drop at s)
-    is-cut z = bad (drop at s) (long-char s at k h ek n en l ∙ z)
+    pub is-cut : (f : ℕ) → f ≡ charFault (drop at s) → n ≡ 0 → Bad f ≡ charAt (drop at s)
+    is-cut f q z = bad (drop at s) f (long-char s at k h ek n en l ∙ z) q
 
     pub is-long : (n ≡ 0 → ⊥) → Good n ≡ charAt (drop at s)
     is-long z = good (drop at s) n (long-char s at k h ek n en l) z

@@ -145,6 +145,10 @@ pub ascii-len : (a : ℕ) (r : List ℕ) → a < 0x80 → charLen (a ∷ r) ≡ 
 unfolding classOf pick
 ascii-len a r h = class-one a r (ltb-true (classOf a) 5 (at-below (λ (b : ℕ). ltb (classOf b) 5) 0x80 refl a h))
 
+-- a byte that begins no character isn't ASCII
+pub high-start : (a : ℕ) (r : List ℕ) → charLen (a ∷ r) ≡ 0 → 0x80 ≤ a
+high-start a r e = split (ltb a 0x80) (λ l. absurd (omega (arith, ascii-len a r (ltb-true a 0x80 l), e))) (λ l. ltb-false a 0x80 l)
+
 pub valid-skip : (k : ℕ) (s : List ℕ) → validFrom k s ≡ validFrom 0 (drop k s)
 unfolding validFrom
 valid-skip zero s = refl

@@ -4,4 +4,8 @@ pub mod CharSteps
 pub mod Characters
 pub mod Validity
 pub mod Encoded
+pub mod Values
+pub mod Faults
+pub mod FaultSteps
+pub mod Named
 pub mod Claims

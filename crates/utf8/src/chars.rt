@@ -1,10 +1,10 @@
 // The character check, and validity of a whole text.
 ghost use mathlib.Core.Path.{_≡_};
 ghost use mathlib.Core.Bool.{true, false};
-ghost use Prim.Native.Nat.{_+_, _<_, _≤_};
+ghost use Prim.Native.Nat.{_+_, _-_, _<_, _≤_};
 ghost use lib.ListN.{length, getD, drop};
 ghost use Rattle.utf8.specs.Class.{IsTable};
-ghost use Rattle.utf8.specs.Utf8.{between, lowOf, highOf, twoBytes, threeBytes, fourBytes, longLen, charAt, validUtf8};
+ghost use Rattle.utf8.specs.Utf8.{between, lowOf, highOf, twoBytes, threeBytes, fourBytes, longLen, noStart, wanted, startBits, leastOf, valueFault, faultFrom, charFault, charAt, validUtf8};
 ghost use Rattle.utf8.specs.inner.Checks.{AllLow, LowFrom, LowBlocks, ValidUntil};
 use crate::classes;
 use prelude::refusals;
@@ -107,24 +107,142 @@ pub fn long_len(s: &[u8], at: usize, k: u8) -> usize
     0
 }
 
+fn is_surrogate(v: u32) -> bool
+    ensures { λ r. ⌜ r ≡ between 0xd800 0xdfff v ⌝ }
+{
+    if v < 0xd800 {
+        return false;
+    }
+    v <= 0xdfff
+}
+
+// The fault of a number that bytes write, where so many bytes need at least another; 0 where it has none.
+fn value_fault(least: u32, v: u32) -> u32
+    ensures { λ r. ⌜ r ≡ valueFault least v ⌝ }
+{
+    let half = is_surrogate(v);
+    if v < least {
+        return refusals::UTF8_OVERLONG;
+    }
+    if half {
+        return refusals::UTF8_SURROGATE;
+    }
+    if 0x10ffff < v {
+        return refusals::UTF8_TOO_LARGE;
+    }
+    0
+}
+
+// Whether a byte is no start.
+fn no_start(a: u8) -> bool
+    ensures { λ r. ⌜ r ≡ noStart a ⌝ }
+{
+    if in_range(0x80, 0xbf, a) {
+        return true;
+    }
+    0xf8 <= a
+}
+
+// How many continuation bytes a start asks for.
+fn wanted(a: u8) -> usize
+    ensures { λ r. ⌜ r ≡ wanted a ⌝ }
+{
+    if a < 0x80 {
+        return 0;
+    }
+    if a < 0xe0 {
+        return 1;
+    }
+    if a < 0xf0 {
+        return 2;
+    }
+    3
+}
+
+// What a start itself gives of the number.
+fn start_bits(a: u8) -> u32
+    requires { ⌜ noStart a ≡ false ⌝ }
+    ensures { λ r. ⌜ r ≡ startBits a ⌝ }
+{
+    if a < 0x80 {
+        return a as u32;
+    }
+    if a < 0xe0 {
+        return (a - 0xc0) as u32;
+    }
+    if a < 0xf0 {
+        return (a - 0xe0) as u32;
+    }
+    (a - 0xf0) as u32
+}
+
+// The least number that needs as many bytes.
+fn least_of(a: u8) -> u32
+    ensures { λ r. ⌜ r ≡ leastOf a ⌝ }
+{
+    if a < 0x80 {
+        return 0;
+    }
+    if a < 0xe0 {
+        return 0x80;
+    }
+    if a < 0xf0 {
+        return 0x800;
+    }
+    0x10000
+}
+
+// The fault of a start and what stands behind it.
+fn fault_from(s: &[u8], from: usize, a: u8) -> u32
+    requires { ⌜ noStart a ≡ false ⌝ }
+    ensures { λ r. ⌜ r ≡ faultFrom a (drop from (now (s .entry))) ⌝ }
+{
+    let n = wanted(a);
+    let mut v = start_bits(a);
+    let mut k: usize = 0;
+    while k < n {
+        let b = slices::byte_at(s, from, k);
+        if !in_range(0x80, 0xbf, b) {
+            return refusals::UTF8_INCOMPLETE;
+        }
+        v = v * 0x40 + (b - 0x80) as u32;
+        k += 1;
+    }
+    value_fault(least_of(a), v)
+}
+
+// The fault of what stands at a place; 0 where a character does. Apart from the check, so that naming costs only where a fault is.
+fn fault_at(s: &[u8], at: usize) -> u32
+    ensures { λ r. ⌜ r ≡ charFault (drop at (now (s .entry))) ⌝ }
+{
+    if s.len() <= at {
+        return refusals::UTF8_INCOMPLETE;
+    }
+    let a = s[at];
+    if no_start(a) {
+        return refusals::UTF8_BAD_ENCODING;
+    }
+    fault_from(s, at + 1, a)
+}
+
 // The character at a place.
 pub fn char_at(t: &[u8; 256], s: &[u8], at: usize) -> Char
     requires { ⌜ IsTable (now t) ⌝ }
     ensures { λ r. ⌜ r ≡ charAt (drop at (now (s .entry))) ⌝ }
 {
     if s.len() <= at {
-        return Char::Bad(refusals::ILL_FORMED);
+        return Char::Bad(refusals::UTF8_INCOMPLETE);
     }
     let k = classes::class_in(t, s[at]);
     if k < 5 {
         return Char::Good(1);
     }
     if k < 6 {
-        return Char::Bad(refusals::ILL_FORMED);
+        return Char::Bad(fault_at(s, at));
     }
     let n = long_len(s, at, k);
     if n == 0 {
-        return Char::Bad(refusals::ILL_FORMED);
+        return Char::Bad(fault_at(s, at));
     }
     Char::Good(n)
 }

@@ -1,4 +1,4 @@
--- The definition's decision list on the class of the byte that stands there (CharSteps).
+-- The answers way by way (CharSteps).
 -- Assumes nothing.
 use borrow.Author.Needs.{needs}
 use Rattle.utf8.proofs.chars.char_at.Statement.{statement}
@@ -19,12 +19,18 @@ returns-2 : tie.Need-returns-2
 returns-2 c =
     search is-one
 
+fault-at-requires : tie.Need-fault-at-requires
+fault-at-requires c κs = search needs
+
 returns-3 : tie.Need-returns-3
 returns-3 c =
     search is-lone
 
 long-len-requires : tie.Need-long-len-requires
 long-len-requires c κs = search needs
+
+fault-at-requires-2 : tie.Need-fault-at-requires-2
+fault-at-requires-2 c κs = search needs
 
 returns-4 : tie.Need-returns-4
 returns-4 c =
@@ -42,7 +48,9 @@ char-at-spec =
     shared-slice-read-class-in
     class-in-requires
     returns-2
+    fault-at-requires
     returns-3
     long-len-requires
+    fault-at-requires-2
     returns-4
     returns-5)
