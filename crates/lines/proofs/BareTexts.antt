@@ -9,12 +9,15 @@ use lib.Dec.{ltb, eqb}
 use lib.ListN.{length, getD, drop, length-drop, drop-of-length-le}
 use lib.Seq.{drop-drop, drop-cons}
 use Rattle.prelude.specs.Pick.{pick}
-use Rattle.prelude.proofs.Cases.{split}
+use Rattle.prelude.proofs.Cases.{split, never}
 use Rattle.utf8.specs.Class.{classOf}
-use Rattle.utf8.specs.Utf8.{charLen, charBy, longLen}
+use Rattle.utf8.specs.declared.chars.Char.{Char}
+use Rattle.utf8.specs.declared.chars.Char.the-variants.{Good, Bad}
+use Rattle.utf8.specs.Utf8.{charLen, charFault, charBy, charAt}
 use Rattle.utf8.proofs.ByteClasses.{by-byte}
-use Rattle.utf8.proofs.CharSteps.{one-byte, lone-tail, long-char}
+use Rattle.utf8.proofs.CharSteps.{one-byte}
 use Rattle.utf8.proofs.Characters.{char-le}
+use Rattle.utf8.proofs.Faults.{fault-number}
 use Rattle.notation.specs.declared.styles.Style.{Style}
 use Rattle.notation.specs.Literals.{literalRun}
 use Rattle.runs.specs.inner.Blocks.{Running}
@@ -22,7 +25,7 @@ use Rattle.runs.proofs.LiteralRuns.{here}
 use Rattle.notation.proofs.LiteralLaws.{literal-char, literal-printed, by-run, run-fits}
 use Rattle.lines.specs.declared.bare.Checked.{Checked}
 use Rattle.lines.specs.declared.bare.Checked.the-variants.{Fine, Faulty}
-use Rattle.lines.specs.Line.{bareFault, bareFrom, bare}
+use Rattle.lines.specs.Line.{bareFault, unless, bareFrom, bare}
 
 pub bare-skip : (p k : ℕ) (s : List ℕ) → bareFrom p k s ≡ bareFrom p 0 (drop k s)
 unfolding bareFrom
@@ -63,10 +66,31 @@ bare-good p n [] h e z g = absurd (omega arith)
 bare-good p zero (x ∷ r) h e z g = absurd (z refl)
 bare-good p (suc n) (x ∷ r) h e z g = rw (e, fine x (suc n) (x ∷ r) z g) (bare-skip (p + suc n) n r)
 
-bare-stuck : (p : ℕ) (s : List ℕ) → 0 < length s → charLen s ≡ 0 → 32 ≤ getD s 0 0 → bareFrom p 0 s ≡ Faulty 5 p
+-- what the check answers
+good-is : (s : List ℕ) (n : ℕ) → charAt s ≡ Good n → (charLen s ≡ n) × (n ≡ 0 → ⊥)
+good-is s n e = go (charLen s) refl e
+  where
+    go : (m : ℕ) → charLen s ≡ m → charBy m s ≡ Good n → (charLen s ≡ n) × (n ≡ 0 → ⊥)
+    go zero z w = never (cc)
+    go (suc m) z w = let y : suc m ≡ n = cc in (z ∙ y, λ q. omega (arith, y, q))
+
+bad-is : (s : List ℕ) (number : ℕ) → charAt s ≡ Bad number → (charLen s ≡ 0) × (number ≡ charFault s)
+bad-is s number e = go (charLen s) refl e
+  where
+    go : (m : ℕ) → charLen s ≡ m → charBy m s ≡ Bad number → (charLen s ≡ 0) × (number ≡ charFault s)
+    go zero z w = let y : charFault s ≡ number = cc in (z, sym y)
+    go (suc m) z w = never (cc)
+
+-- a fault's number is the character's own
+stuck-by : (p f : ℕ) (c : Checked) → 0 < f → unless p f c ≡ Faulty f p
+stuck-by p zero c h = absurd (omega arith)
+stuck-by p (suc f) c h = refl
+
+pub bare-stuck : (p : ℕ) (s : List ℕ) (f : ℕ) → 0 < length s → charLen s ≡ 0 → f ≡ charFault s → 32 ≤ getD s 0 0 → bareFrom p 0 s ≡ Faulty f p
 unfolding bareFrom bareFault pick
-bare-stuck p [] h e g = absurd (omega arith)
-bare-stuck p (x ∷ r) h e g = simp (e, le-ltb x 32 g)
+bare-stuck p [] f h e q g = absurd (omega arith)
+bare-stuck p (x ∷ r) f h e q g =
+    simp (e, le-ltb x 32 g) (stuck-by p (charFault (x ∷ r)) _ (omega (arith, fault-number (x ∷ r) e .0)) ∙ ap (λ (k : ℕ). Faulty k p) (sym q))
 
 bare-control : (p : ℕ) (s : List ℕ) → 0 < length s → getD s 0 0 < 32 → (getD s 0 0 ≡ 9 → ⊥) → bareFrom p 0 s ≡ Faulty 6 p
 unfolding bareFrom bareFault pick
@@ -137,8 +161,8 @@ module _ (s : List ℕ) (from at : ℕ) (i : Passing s from at) where
       same = i .same ∙ bare-good at n (drop at s) some e p (λ l. first ∙ g (omega (arith, first))) ∙ ap (bareFrom (at + n) 0) (drop-drop n at s);
     }
 
-    stuck : charLen (drop at s) ≡ 0 → 32 ≤ getD s at 0 → Faulty 5 at ≡ bareFrom from 0 (drop from s)
-    stuck e g = sym (i .same ∙ bare-stuck at (drop at s) some e (omega (arith, first)))
+    stuck : (f : ℕ) → f ≡ charFault (drop at s) → charLen (drop at s) ≡ 0 → 32 ≤ getD s at 0 → Faulty f at ≡ bareFrom from 0 (drop from s)
+    stuck f q e g = sym (i .same ∙ bare-stuck at (drop at s) f some e q (omega (arith, first)))
 
     controlled : getD s at 0 < 32 → (getD s at 0 ≡ 9 → ⊥) → Faulty 6 at ≡ bareFrom from 0 (drop from s)
     controlled l g = sym (i .same ∙ bare-control at (drop at s) some (omega (arith, first)) (λ z. g (sym first ∙ z)))
@@ -159,14 +183,15 @@ module _ (s : List ℕ) (from at : ℕ) (i : Passing s from at) where
       pub control-stop : k ≡ 1 → (getD s at 0 ≡ 9 → ⊥) → Faulty 6 at ≡ bareFrom from 0 (drop from s)
       control-stop l g = controlled (is-control (getD s at 0) (sym ek ∙ l)) g
 
-      pub lone-stop : 5 ≤ k → k < 6 → Faulty 5 at ≡ bareFrom from 0 (drop from s)
-      lone-stop l m = stuck (lone-tail s at k h ek l m) (class-over l)
+      module _ (v : Char) (ev : v ≡ charAt (drop at s)) (l : 5 ≤ k) where
+        pub good-on : (n : ℕ) → v ≡ Good n → Passing s from (at + n)
+        good-on n e =
+            let (g, p) = good-is (drop at s) n (sym ev ∙ e) in
+            let m : 32 ≤ getD s at 0 = class-over l in
+            moved n g p (λ q. absurd (omega arith))
 
-      module _ (n : ℕ) (en : n ≡ longLen k (getD (drop at s) 1 0) (getD (drop at s) 2 0) (getD (drop at s) 3 0)) (l : 6 ≤ k) where
-        pub cut-stop : n ≡ 0 → Faulty 5 at ≡ bareFrom from 0 (drop from s)
-        cut-stop z = stuck (long-char s at k h ek n en l ∙ z) (class-over (omega arith))
+        pub further : (n : ℕ) → v ≡ Good n → 0 < n
+        further n e = let (g, p) = good-is (drop at s) n (sym ev ∙ e) in omega (arith, p)
 
-        pub long-on : (n ≡ 0 → ⊥) → Passing s from (at + n)
-        long-on z =
-            let m : 32 ≤ getD s at 0 = class-over (omega arith) in
-            moved n (long-char s at k h ek n en l) z (λ g. absurd (omega arith))
+        pub bad-stop : (number : ℕ) → v ≡ Bad number → Faulty number at ≡ bareFrom from 0 (drop from s)
+        bad-stop number e = let (g, q) = bad-is (drop at s) number (sym ev ∙ e) in stuck number q g (class-over l)

@@ -33,6 +33,7 @@ use Rattle.lines.specs.Line.{LineRead, ignored, holds, faulty, bare, kin
 use Rattle.lines.specs.Answers.{fittedLine, readLineText, lineOf, lineInto}
 use Rattle.lines.specs.inner.Told.{Told}
 use Rattle.lines.proofs.LineEnds.{strip-part, strip-inside}
+use Rattle.prelude.proofs.Numbers.{text-apart}
 use Rattle.lines.proofs.Refusing.{LineFault, stripped-fault}
 
 -- the kind of a payload
@@ -183,7 +184,7 @@ module _ (a m : ℕ) (out new : List ℕ) where
       (λ b. let z : Holds k (length bs) ≡ Refused n p = sym (t .answer ∙ rw b) ∙ e in never (cc))
   as-full (faulty j q) r n p f t e h =
       let z : Refused j q ≡ Refused n p = sym (t .answer) ∙ e in
-      let y : j ≡ n = cc in absurd (omega (arith, f .0 .1))
+      let y : j ≡ n = cc in absurd (text-apart j (f .0) .1 (y ∙ h))
 
   as-faulty : (v : LineRead) (r : Line) (n p : ℕ) → LineFault m v → Told v r out new → r ≡ Refused n p → (n ≡ 12 → ⊥)
       → Told (shifted a v) (Refused n (a + p)) out new × (p ≤ m)

@@ -9,6 +9,7 @@ use prelude::refusals;
 use runs::blocks;
 use runs::literals;
 use utf8::chars;
+use utf8::chars::Char;
 use utf8::classes;
 
 // Nothing wrong, or a refusal's number and place.
@@ -37,14 +38,15 @@ fn check_from(t: &[u8; 256], s: &[u8], from: usize) -> Checked
             }
             return Checked::Faulty(refusals::CONTROL, at);
         }
-        if k < 6 {
-            return Checked::Faulty(refusals::ILL_FORMED, at);
+        let c = chars::char_at(t, s, at);
+        match c {
+            Char::Good(n) => {
+                at += n;
+            }
+            Char::Bad(number) => {
+                return Checked::Faulty(number, at);
+            }
         }
-        let n = chars::long_len(s, at, k);
-        if n == 0 {
-            return Checked::Faulty(refusals::ILL_FORMED, at);
-        }
-        at += n;
     }
     Checked::Fine
 }

@@ -1,6 +1,7 @@
 pub mod Advancing
 pub mod FewStored
 pub mod Lengths
+pub mod Numbers
 pub mod Places
 pub mod Reading
 pub mod Runs

@@ -12,13 +12,14 @@ use borrow.Author.Tests.{eqb-true}
 use Rattle.prelude.specs.Bytes.{doubleQuote, singleQuote}
 use Rattle.prelude.specs.Refusals.{cutOff}
 use Rattle.prelude.proofs.Cases.{and-right}
+use Rattle.prelude.proofs.Numbers.{unit-apart}
 use Rattle.prelude.proofs.Picks.{pick-case}
 use Rattle.prelude.proofs.Rest.{getD-inside}
 use Rattle.prelude.proofs.Suffix.{by-suffix}
 use Rattle.notation.specs.declared.styles.Style.{Style}
 use Rattle.notation.specs.Styles.{StringUnit, close, took, fault}
 use Rattle.units.specs.Units.{unitAt}
-use Rattle.units.proofs.Sizes.{took-size, fault-inside}
+use Rattle.units.proofs.Sizes.{took-size, unit-fault}
 use Rattle.notation.specs.Marks.{Opening, opens, unopened, opening}
 use Rattle.strings.specs.Read.{StringRead, accepted, refused, more, after, nothingBehind, fitted, readUnits, readFrom, readToken, readString, readText}
 use Rattle.prelude.specs.Limits.{textMax}
@@ -51,7 +52,7 @@ inside-one st x r ih p m h = go (unitAt st (x ∷ r)) refl
         rw (read-skip st (p + n) (pred n) r)
         (inside-more p (p + n) m bs (readUnits st (p + n) 0 (drop (pred n) r)) (omega arith)
         (ih (pred n) (p + n) m (omega (arith, length-drop (pred n) r))))
-    go (fault number) e = (omega arith, λ q. absurd (omega (arith, fault-inside st x r number e)))
+    go (fault number) e = (omega arith, λ q. absurd (unit-apart number (unit-fault st x r number e) q))
 
 pub units-inside : (st : Style) (s : List ℕ) (p m : ℕ) → m ≡ p + length s → Inside p m (readUnits st p 0 s)
 units-inside st = by-suffix (UnitsInside st) (inside-none st) (inside-one st)

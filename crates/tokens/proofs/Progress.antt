@@ -9,13 +9,14 @@ use borrow.Author.Tests.{eqb-true}
 use lib.Dec.{eqb}
 use lib.ListN.{length, drop, length-drop}
 use Rattle.prelude.specs.Pick.{pick}
-use Rattle.prelude.specs.Refusals.{cutOff, illFormed}
+use Rattle.prelude.specs.Refusals.{utf8BadEncoding, utf8TooLarge}
 use Rattle.prelude.proofs.Cases.{split, never}
 use Rattle.prelude.proofs.Suffix.{by-suffix}
 use Rattle.utf8.specs.declared.chars.Char.{Char}
 use Rattle.utf8.specs.declared.chars.Char.the-variants.{Good, Bad}
-use Rattle.utf8.specs.Utf8.{charLen, charBy, charAt}
+use Rattle.utf8.specs.Utf8.{charFault, charLen, charBy, charAt}
 use Rattle.notation.specs.Marks.{opening}
+use Rattle.utf8.proofs.Faults.{fault-number}
 use Rattle.tokens.specs.declared.blanks.Blank.{Blank}
 use Rattle.tokens.specs.declared.blanks.Blank.the-variants.{Clear, Ill}
 use Rattle.tokens.specs.declared.numbers.Number.{Number}
@@ -33,19 +34,19 @@ use Rattle.tokens.proofs.Grammar.{digit-number}
 -- behind i bytes, in a text of which s is left
 abbrev pub Passed : ℕ → List ℕ → Blank → Type 0
 Passed i s (Clear j) = (i ≤ j) × (j ≤ i + length s)
-Passed i s (Ill number j) = ((i ≤ j) × (j ≤ i + length s)) × (number ≡ cutOff → ⊥)
+Passed i s (Ill number j) = ((i ≤ j) × (j ≤ i + length s)) × ((utf8BadEncoding ≤ number) × (number ≤ utf8TooLarge))
 
 abbrev Within : List ℕ → Passing → Type 0
 Within s (pass o n) = (0 < n) × (n ≤ length s)
 Within s token = Unit
-Within s (fault number) = number ≡ cutOff → ⊥
+Within s (fault number) = (utf8BadEncoding ≤ number) × (number ≤ utf8TooLarge)
 
-bad-number : (s : List ℕ) (number : ℕ) → charAt s ≡ Bad number → number ≡ cutOff → ⊥
-bad-number s number e c = go (charLen s) e
+bad-number : (s : List ℕ) (number : ℕ) → charAt s ≡ Bad number → (utf8BadEncoding ≤ number) × (number ≤ utf8TooLarge)
+bad-number s number e = go (charLen s) refl e
   where
-    go : (n : ℕ) → charBy n s ≡ Bad number → ⊥
-    go zero e = let z : illFormed ≡ number = cc in omega arith
-    go (suc n) e = never cc
+    go : (n : ℕ) → charLen s ≡ n → charBy n s ≡ Bad number → (utf8BadEncoding ≤ number) × (number ≤ utf8TooLarge)
+    go zero l e = let z : charFault s ≡ number = cc in omega (arith, fault-number s l)
+    go (suc n) l e = never cc
 
 comment-within : (s : List ℕ) (c : Char) → charAt s ≡ c → Within s (inComment c)
 comment-within s (Good n) e = good-len s n e
@@ -80,10 +81,10 @@ pub blanks-passed : (s : List ℕ) → Passed 0 s (blanks s)
 unfolding blanksFrom
 blanks-passed s = by-suffix AllPassed (λ o i. (omega arith, omega arith)) passed-one s false 0
 
--- where a token begins, a byte of it stands
+-- where a token begins, its mark or a byte of it stands
 abbrev pub Begun : List ℕ → Start → Type 0
 Begun s Ended = length s ≡ 0
-Begun s String = Unit
+Begun s String = isOpening (opening s) ≡ true
 Begun s Word = 0 < length (wordOf s)
 Begun s NumberStart = 0 < length (numberToken s)
 Begun s ListStart = 0 < length s
@@ -105,7 +106,7 @@ pub start-begun : (s : List ℕ) → Begun s (startOf s)
 unfolding startOf pick
 start-begun [] = refl
 start-begun (x ∷ r) =
-    split (isOpening (opening (x ∷ r))) (λ a. rw a tt)
+    split (isOpening (opening (x ∷ r))) (λ a. rw a a)
     (λ a. split (isLetter x) (λ b. rw (a, b, run-more isWord x r (letter-word x b)) (omega arith))
     (λ b. split (isDigit x) (λ d. rw (a, b, d) (number-begun x r (digit-number x d)))
     (λ d. split (eqb x 0x2d) (λ e. rw (a, b, d, e) (number-begun x r (minus-number x e)))

@@ -1,12 +1,13 @@
 -- The invariant `Passing`: what is found from a place on is what is found in the whole (BareTexts).
 -- Assumes nothing.
+use borrow.Author.Needs.{needs}
 use Rattle.lines.proofs.bare.check_from.Statement.{statement}
 use Rattle.lines.proofs.bare.check_from.Tie as tie
 use denote.Ref.{now}
 use native.Mathlib.Omega.{arith}
 use Prim.Native.Nat.{_+_, _-_}
 use lib.ListN.{length}
-use Rattle.lines.proofs.BareTexts.{Passing, begun, plain-on, tab-on, control-stop, lone-stop, cut-stop, long-on, ended}
+use Rattle.lines.proofs.BareTexts.{Passing, begun, plain-on, tab-on, control-stop, good-on, further, bad-stop, ended}
 
 abbrev Inv-loop : tie.InvT-loop
 Inv-loop t s from at₀ at =
@@ -56,32 +57,36 @@ returns : tie.Need-returns Inv-loop μ-loop
 returns c =
     search control-stop
 
-returns-2 : tie.Need-returns-2 Inv-loop μ-loop
-returns-2 c =
-    search lone-stop
+char-at-requires : tie.Need-char-at-requires Inv-loop μ-loop
+char-at-requires c κs =
+    c .before .before .before .before .before .before .pre .0
 
-long-len-requires : tie.Need-long-len-requires Inv-loop μ-loop
-long-len-requires c κs =
-    tt
-
-returns-3 : tie.Need-returns-3 Inv-loop μ-loop
-returns-3 c =
-    search cut-stop
+enum-known-c : tie.Need-enum-known-c Inv-loop μ-loop
+enum-known-c c =
+    search needs
 
 add-at-3 : tie.Need-add-at-3 Inv-loop μ-loop
 add-at-3 c =
-    let m : Passing (now (c .before .before .before .before .before .before .before .before .before .args .s)) (c .before .before .before .before .before .before .before .before .before .args .from) (c .before .before .before .before .before .before .before .loop .at + c .before .long-len .result) = search long-on in omega (arith, m .inside)
+    let g = good-on _ _ _ (c .before .before .before .before .before .before .before .before .loop .inv) (omega arith) _ (c .before .before .before .before .before .class-in .ensures) _ (c .before .before .before .char-at .ensures) (omega arith) _ (c .before .c .given .1) in record { fits = omega (arith, g .inside) }
 
 loop-less-3 : tie.Need-loop-less-3 Inv-loop μ-loop
 loop-less-3 c =
-    let m : Passing (now (c .before .before .before .before .before .before .before .before .before .args .s)) (c .before .before .before .before .before .before .before .before .before .args .from) (c .before .before .before .before .before .before .before .loop .at + c .before .long-len .result) = search long-on in omega (arith, m .inside)
+    let g = good-on _ _ _ (c .before .before .before .before .before .before .before .before .loop .inv) (omega arith) _ (c .before .before .before .before .before .class-in .ensures) _ (c .before .before .before .char-at .ensures) (omega arith) _ (c .before .c .given .1) in omega (arith, g .inside, further _ _ _ (c .before .before .before .before .before .before .before .before .loop .inv) (omega arith) _ (c .before .before .before .before .before .class-in .ensures) _ (c .before .before .before .char-at .ensures) (omega arith) _ (c .before .c .given .1))
 
 loop-again-3 : tie.Need-loop-again-3 Inv-loop μ-loop
 loop-again-3 c =
-    search long-on
+    search good-on
 
-returns-4 : tie.Need-returns-4 Inv-loop μ-loop
-returns-4 c =
+enum-known-c-2 : tie.Need-enum-known-c-2 Inv-loop μ-loop
+enum-known-c-2 c =
+    search needs
+
+returns-2 : tie.Need-returns-2 Inv-loop μ-loop
+returns-2 c =
+    search bad-stop
+
+returns-3 : tie.Need-returns-3 Inv-loop μ-loop
+returns-3 c =
     search ended
 
 pub check-from-spec : {M : Type 1} → statement M
@@ -100,10 +105,11 @@ check-from-spec =
     loop-less-2
     loop-again-2
     returns
-    returns-2
-    long-len-requires
-    returns-3
+    char-at-requires
+    enum-known-c
     add-at-3
     loop-less-3
     loop-again-3
-    returns-4)
+    enum-known-c-2
+    returns-2
+    returns-3)
