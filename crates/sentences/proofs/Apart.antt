@@ -73,10 +73,10 @@ abbrev pub apart : List Row → Bool
 apart [] = true
 apart (r ∷ rs) = each (other (ascii (r .says))) rs && apart rs
 
--- the rows have the numbers from k on
-abbrev pub inOrder : ℕ → List Row → Bool
-inOrder k [] = true
-inOrder k (r ∷ rs) = eqb (r .number) k && inOrder (suc k) rs
+-- a row has this number
+abbrev pub has : ℕ → List Row → Bool
+has n [] = false
+has n (r ∷ rs) = pick (eqb n (r .number)) true (has n rs)
 
 module _ (r : Row) (rs : List Row) (d : apart (r ∷ rs) ≡ true) where
   -- a row's words are no sentence of those behind it
@@ -85,10 +85,10 @@ module _ (r : Row) (rs : List Row) (d : apart (r ∷ rs) ≡ true) where
       others-differ (ascii (r .says)) (sentenceIn rs n) (each-sentence (other (ascii (r .says))) rs (and-left (each (other (ascii (r .says))) rs) (apart rs) d) n) h
 
 -- a row's sentence tells its number
-pub sentence-tells : (k : ℕ) (rs : List Row) → inOrder k rs && apart rs ≡ true → (m n : ℕ) → k ≤ m → suc m ≤ k + length rs → sentenceIn rs m ≡ sentenceIn rs n → m ≡ n
+pub sentence-tells : (rs : List Row) → apart rs ≡ true → (m n : ℕ) → has m rs ≡ true → sentenceIn rs m ≡ sentenceIn rs n → m ≡ n
 unfolding sentenceIn
-sentence-tells k [] e m n h g w = absurd (omega arith)
-sentence-tells k (r ∷ rs) e m n h g w =
+sentence-tells [] d m n h w = never (let z : false ≡ true = h in cc)
+sentence-tells (r ∷ rs) d m n h w =
     split (eqb m (r .number))
     (λ a. split (eqb n (r .number))
     (λ b. eqb-true m (r .number) a ∙ sym (eqb-true n (r .number) b))
@@ -96,18 +96,5 @@ sentence-tells k (r ∷ rs) e m n h g w =
     (λ a. split (eqb n (r .number))
     (λ b. never (behind-differ r rs d m (sym (pick-true _ _ _ b) ∙ sym w ∙ pick-false _ _ _ a)))
     (λ b.
-    let j : suc k ≤ m = omega (arith, eqb-false m (r .number) a, q) in
-    sentence-tells (suc k) rs (both (and-right (eqb (r .number) k) (inOrder (suc k) rs) o) (and-right (each (other (ascii (r .says))) rs) (apart rs) d)) m n j (omega arith)
+    sentence-tells rs (and-right (each (other (ascii (r .says))) rs) (apart rs) d) m n (sym (pick-false _ _ _ a) ∙ h)
     (sym (pick-false _ _ _ a) ∙ w ∙ pick-false _ _ _ b)))
-  where
-    o : inOrder k (r ∷ rs) ≡ true
-    o = and-left (inOrder k (r ∷ rs)) (apart (r ∷ rs)) e
-
-    d : apart (r ∷ rs) ≡ true
-    d = and-right (inOrder k (r ∷ rs)) (apart (r ∷ rs)) e
-
-    q : r .number ≡ k
-    q = eqb-true (r .number) k (and-left (eqb (r .number) k) (inOrder (suc k) rs) o)
-
-    both : inOrder (suc k) rs ≡ true → apart rs ≡ true → inOrder (suc k) rs && apart rs ≡ true
-    both x y = rw x y

@@ -1,5 +1,5 @@
--- A text with a line for each number: a computed test goes through the rows and the lines side by side, and a law turns it into each number's
--- sentence. The rows and the text are all that a new sentence changes.
+-- A text with a line for each number: a computed test goes through the lines, and a law turns it into each number's sentence. The rows, the text
+-- and the number of its lines are all that a new sentence changes.
 -- Assumes nothing.
 use Prim.Native.Nat.{ℕ, zero, suc, _+_, _-_, _≤_, _<_}
 use mathlib.Core.Bool.{Bool, true, false, _&&_}
@@ -7,8 +7,8 @@ use mathlib.Core.List.{List, [], _∷_}
 use mathlib.Core.Path.{_≡_, refl, sym, ap, _∙_}
 use native.Mathlib.Numerals.{add-one}
 use native.Mathlib.Omega.{arith}
-use borrow.Author.Tests.{eq-eqb, ne-eqb, eqb-true}
-use lib.Dec.{eqb}
+use borrow.Author.Tests.{eq-eqb, ne-eqb, eqb-true, ltb-true}
+use lib.Dec.{ltb, eqb}
 use lib.ListN.{length, getD, take, drop, drop-of-length-le}
 use lib.Seq.{drop-cons}
 use Rattle.prelude.proofs.Cases.{split, never, and-left, and-right}
@@ -30,11 +30,16 @@ opens w [] = false
 opens [] (x ∷ s) = eqb x LF
 opens (c ∷ w) (x ∷ s) = pick (eqb x LF) false (eqb x c) && opens w s
 
--- the rows from number k on are the lines of a text, one for each, and nothing is left
-abbrev listed : ℕ → List Row → List ℕ → Bool
-listed k [] [] = true
-listed k [] (x ∷ s) = false
-listed k (r ∷ rs) s = eqb (r .number) k && (opens (ascii (r .says)) s && listed (suc k) rs (behind s))
+-- every row has a number below k
+abbrev under : ℕ → List Row → Bool
+under k [] = true
+under k (r ∷ rs) = ltb (r .number) k && under k rs
+
+-- the lines of a text, so many, are the sentences of the numbers from k on, and nothing is left: no line, and no row
+abbrev listed : ℕ → ℕ → List Row → List ℕ → Bool
+listed zero k rs [] = under k rs
+listed zero k rs (x ∷ s) = false
+listed (suc c) k rs s = opens (sentenceIn rs k) s && listed c (suc k) rs (behind s)
 
 -- a byte of words is none of LF
 same-byte : (x c : ℕ) → pick (eqb x LF) false (eqb x c) ≡ true → (eqb x LF ≡ false) × (x ≡ c)
@@ -67,48 +72,31 @@ unfolding fromLine
 first other w [] e = never (let z : false ≡ true = e in cc)
 first other w (x ∷ s) e = refl
 
--- the rows from k on
-module _ (r : Row) (rs : List Row) (s : List ℕ) (k : ℕ) (e : listed k (r ∷ rs) s ≡ true) where
-  numbered : r .number ≡ k
-  numbered = eqb-true (r .number) k (and-left (eqb (r .number) k) _ e)
+unsaid : (rs : List Row) (k n : ℕ) → under k rs ≡ true → k ≤ n → sentenceIn rs n ≡ ascii unknown
+unfolding sentenceIn
+unsaid [] k n e h = refl
+unsaid (r ∷ rs) k n e h =
+    let l = ltb-true (r .number) k (and-left (ltb (r .number) k) (under k rs) e) in
+    pick-false _ _ _ (ne-eqb n (r .number) (λ z. omega (arith, z))) ∙ unsaid rs k n (and-right (ltb (r .number) k) (under k rs) e) h
 
-  said : opens (ascii (r .says)) s ≡ true
-  said = and-left (opens (ascii (r .says)) s) _ (and-right (eqb (r .number) k) _ e)
-
-  others : listed (suc k) rs (behind s) ≡ true
-  others = and-right (opens (ascii (r .says)) s) _ (and-right (eqb (r .number) k) _ e)
-
-listed-line : (other : List ℕ) → opens (ascii unknown) other ≡ true → (rs : List Row) (s : List ℕ) (k n : ℕ) → listed k rs s ≡ true
+listed-line : (other : List ℕ) → opens (ascii unknown) other ≡ true → (rs : List Row) (c : ℕ) (s : List ℕ) (k n : ℕ) → listed c k rs s ≡ true
     → sentenceIn rs (k + n) ≡ firstLine (fromLine other s n)
-unfolding sentenceIn fromLine
-listed-line other u [] [] k n e = sym (opened (ascii unknown) other u)
-listed-line other u [] (x ∷ s) k n e = never (let z : false ≡ true = e in cc)
-listed-line other u (r ∷ rs) s k zero e =
-    let w = said r rs s k e in
-    pick-true _ _ _ (eq-eqb (k + 0) (r .number) (omega (arith, numbered r rs s k e))) ∙ sym (opened (ascii (r .says)) s w)
-    ∙ ap firstLine (sym (first other (ascii (r .says)) s w))
-listed-line other u (r ∷ rs) s k (suc n) e =
-    pick-false _ _ _ (ne-eqb (k + suc n) (r .number) (λ z. omega (arith, numbered r rs s k e, z)))
-    ∙ ap (sentenceIn rs) (let z : k + suc n ≡ suc k + n = omega arith in z)
-    ∙ listed-line other u rs (behind s) (suc k) n (others r rs s k e)
-    ∙ ap firstLine (sym (passed other (ascii (r .says)) s n (said r rs s k e)))
-
-none : sentence 0 ≡ ascii unknown
-unfolding sentenceIn pick
-none = refl
+unfolding fromLine
+listed-line other u rs zero [] k n e = unsaid rs k (k + n) e (omega arith) ∙ sym (opened (ascii unknown) other u)
+listed-line other u rs zero (x ∷ s) k n e = never (let z : false ≡ true = e in cc)
+listed-line other u rs (suc c) s k zero e =
+    let w = and-left (opens (sentenceIn rs k) s) _ e in
+    ap (sentenceIn rs) (let z : k + 0 ≡ k = omega arith in z) ∙ sym (opened (sentenceIn rs k) s w) ∙ ap firstLine (sym (first other (sentenceIn rs k) s w))
+listed-line other u rs (suc c) s k (suc n) e =
+    ap (sentenceIn rs) (let z : k + suc n ≡ suc k + n = omega arith in z)
+    ∙ listed-line other u rs c (behind s) (suc k) n (and-right (opens (sentenceIn rs k) s) _ e)
+    ∙ ap firstLine (sym (passed other (sentenceIn rs k) s n (and-left (opens (sentenceIn rs k) s) _ e)))
 
 -- each number's sentence, where the first line is that of the numbers that no row has
-pub sentence-line : (s : List ℕ) → opens (ascii unknown) s && listed 1 rows (behind s) ≡ true → (n : ℕ) → sentence n ≡ lineOf s n
-sentence-line s e n = go n
-  where
-    u : opens (ascii unknown) s ≡ true
-    u = and-left (opens (ascii unknown) s) _ e
-
-    go : (m : ℕ) → sentence m ≡ lineOf s m
-    go zero = none ∙ sym (opened (ascii unknown) s u) ∙ ap firstLine (sym (first s (ascii unknown) s u))
-    go (suc m) =
-        ap sentence (let z : suc m ≡ 1 + m = omega arith in z) ∙ listed-line s u rows (behind s) 1 m (and-right (opens (ascii unknown) s) _ e)
-        ∙ ap firstLine (sym (passed s (ascii unknown) s m u))
+pub sentence-line : (c : ℕ) (s : List ℕ) → opens (ascii unknown) s && listed c 0 rows s ≡ true → (n : ℕ) → sentence n ≡ lineOf s n
+sentence-line c s e n =
+    ap sentence (let z : n ≡ 0 + n = omega arith in z)
+    ∙ listed-line s (and-left (opens (ascii unknown) s) _ e) rows c s 0 n (and-right (opens (ascii unknown) s) _ e)
 
 -- line n is looked for: it is the line of those that are left, from i on
 pub record Looking (s : List ℕ) (n left i : ℕ) : Type 0 where

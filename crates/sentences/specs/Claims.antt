@@ -4,15 +4,16 @@ use Prim.Native.Nat.{ℕ, _≤_}
 use mathlib.Core.List.{List, [], _∷_}
 use mathlib.Core.Path.{_≡_}
 use lib.ListN.{length}
+use Rattle.prelude.specs.Refusals.{unfit, utf8TooLarge}
 use Rattle.sentences.specs.Sentences.{sentence}
 
--- the refusals have the numbers from 1 to this one
-abbrev pub lastNumber : ℕ
-lastNumber = 22
+-- the refusals have the numbers from 1 to 27 but 5, which 23 to 27 "replace .. everywhere"
+abbrev pub IsRefusal : ℕ → Type 0
+IsRefusal n = (unfit ≤ n) × (n ≤ utf8TooLarge) × (n ≡ 5 → ⊥)
 
 -- a sentence tells its refusal's number: no other number has it, be it a refusal's or not
 abbrev pub Sentences-Tell-Numbers : Type 0
-Sentences-Tell-Numbers = (m n : ℕ) → 1 ≤ m → m ≤ lastNumber → sentence m ≡ sentence n → m ≡ n
+Sentences-Tell-Numbers = (m n : ℕ) → IsRefusal m → sentence m ≡ sentence n → m ≡ n
 
 -- no byte is a control byte, so none ends a line
 abbrev pub InOneLine : List ℕ → Type 0

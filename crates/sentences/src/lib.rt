@@ -40,7 +40,7 @@ fn put_line(s: &[u8], n: usize, room: usize, o: usize, out: &mut [u8]) -> usize
     parts::put_run(s, at, end - at, room, o, out)
 }
 
-// A line for each number, from 1; the first is that of all others.
+// A line for each number, from 0; a number that no refusal has says what the first says, and so does one behind the last.
 fn put_sentence(number: u32, room: usize, out: &mut [u8]) -> usize
     requires { ⌜ room ≤ roomMax ⌝ }
     ensures { λ r. ⌜ Put (sentence number) room 0 r (now (out .entry)) (now (out .exit)) ⌝ }
@@ -52,7 +52,7 @@ what was lent for this is unfit
 too long: a line may have 1,024 bytes, a string, JSON8 or TSV8 text 32,768
 a J8 string begins with \" or ' or u' or b'
 the text ends here, and more is needed: it may be cut off
-this byte isn't UTF-8: only b'' can hold it, written as \\yhh
+no refusal has this number
 a control byte can't stand here as it is: it has to be escaped
 no such escape, or it isn't whole
 \\u{d800} to \\u{dfff} are no characters
@@ -70,6 +70,11 @@ a TSV8 table begins with !tsv8 and 1 to 64 names; !type may follow, with Bool, I
 this line can't stand here, or doesn't have one cell for each column
 this cell doesn't fit the type of its column
 this cell is empty: an empty string is written as \"\"
+no UTF-8 character begins with this byte; only b'' can hold it, written as \\yhh
+this UTF-8 character isn't whole: it is cut off, or in another encoding; only b'' can hold it, written as \\yhh
+overlong: UTF-8 writes this character with fewer bytes; only b'' can hold it, written as \\yhh
+this is half of a surrogate pair, which UTF-8 never has; only b'' can hold it, written as \\yhh
+this UTF-8 form is of a number above 10ffff, which no character has; only b'' can hold it, written as \\yhh
 ",
         number as usize,
         room,

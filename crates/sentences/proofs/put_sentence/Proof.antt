@@ -5,6 +5,7 @@ use Rattle.sentences.proofs.put_sentence.Statement.{statement}
 use Rattle.sentences.proofs.put_sentence.Tie as tie
 use mathlib.Core.Path.{refl}
 use Rattle.prelude.specs.Pick.{pick}
+use Rattle.sentences.specs.Sentences.{sentenceIn}
 use Rattle.rooms.proofs.Puts.{put-as}
 use Rattle.sentences.proofs.SentenceLines.{sentence-line}
 
@@ -18,9 +19,9 @@ same-length : tie.Need-same-length
 same-length c = search needs
 
 returns : tie.Need-returns
-unfolding pick
+unfolding sentenceIn pick
 returns c =
-    put-as (sentence-line _ refl (c .before .before .before .before .before .before .args .number)) (c .before .before .put-line .ensures)
+    put-as (sentence-line 28 _ refl (c .before .before .before .before .before .before .args .number)) (c .before .before .put-line .ensures)
 
 pub put-sentence-spec : {M : Type 1} → statement M
 put-sentence-spec =
