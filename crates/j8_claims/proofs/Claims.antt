@@ -4,11 +4,13 @@ use mathlib.Core.List.{map}
 use mathlib.Core.Path.{sym, ap, _∙_}
 use Rattle.j8_lines.specs.Lists.{run, began}
 use Rattle.j8_lines.proofs.WholeList.{whole-list}
-use Rattle.upload_claims.proofs.Claims.{every-list-of-calls, pieces-do-not-matter, records-after-finish}
+use Rattle.upload_claims.proofs.Claims.{every-list-of-calls, pieces-do-not-matter, answers-numbered, records-after-finish}
 use Rattle.structs.specs.Uploads.{answerOf}
 use Rattle.j8.specs.Runs.{ranCall}
-use Rattle.j8_claims.specs.Claims.{Every-List-Of-C-Calls, C-Pieces-Do-Not-Matter, C-Records-After-Finish, C-Strings-Return, C-Unicode-Is-Utf8, C-Lines-Return, C-Tables-Return, C-Sentences-Have-Room, C-Sentences-Tell-Numbers, C-Sheets-Are-Read, C-Rows-Are-Whole, C-Ranges-Inside, C-Kinds-Fit-Types, C-Cells-Show-Their-Texts, C-Sheets-Done-Or-Refused, C-Room-Is-Last, C-Sheets-Have-Room}
+use Rattle.j8_claims.specs.Claims.{Every-List-Of-C-Calls, C-Pieces-Do-Not-Matter, C-Records-After-Finish, C-Strings-Return, C-Unicode-Is-Utf8, C-Lines-Return, C-Tables-Return, C-Strings-Numbered, C-Tables-Numbered, C-Calls-Numbered, C-Example-Faults, C-Faults-In-Order, C-Sentences-Have-Room, C-Sentences-Tell-Numbers, C-Sheets-Are-Read, C-Rows-Are-Whole, C-Ranges-Inside, C-Kinds-Fit-Types, C-Cells-Show-Their-Texts, C-Sheets-Done-Or-Refused, C-Room-Is-Last, C-Sheets-Have-Room}
 use Rattle.j8_claims.proofs.Lists.{run-back, answers-back, handed-back}
+use Rattle.j8_claims.proofs.Faults.{all-passed-up, in-order}
+use Rattle.j8_claims.proofs.Numbers.{string-numbered, table-numbered}
 use Rattle.j8_claims.proofs.Unicode.{unicode-read}
 use Rattle.j8_claims.proofs.Returned.{string-returned, lines-returned, table-returned}
 use Rattle.j8_claims.proofs.Sheets.{sheet-done, sheet-read, done-or-refused, room-last, room-enough, rows-whole, ranges-in, kinds-fit, texts-shown}
@@ -39,6 +41,21 @@ c-lines-return records text cs line out l b e h = lines-returned records text e 
 
 pub c-tables-return : C-Tables-Return
 c-tables-return = table-returned
+
+pub c-strings-numbered : C-Strings-Numbered
+c-strings-numbered = string-numbered
+
+pub c-tables-numbered : C-Tables-Numbered
+c-tables-numbered = table-numbered
+
+pub c-calls-numbered : C-Calls-Numbered
+c-calls-numbered cs line out h = rw (run-back (began line out) cs) (answers-numbered cs line out h)
+
+pub c-example-faults : C-Example-Faults
+c-example-faults = all-passed-up
+
+pub c-faults-in-order : C-Faults-In-Order
+c-faults-in-order = in-order
 
 pub c-sentences-have-room : C-Sentences-Have-Room
 c-sentences-have-room = sentence-done

@@ -1,4 +1,6 @@
 pub mod Lists
+pub mod Faults
+pub mod Numbers
 pub mod Returned
 pub mod SentencesTold
 pub mod Sheets

@@ -6,7 +6,7 @@ use mathlib.Core.Path.{_≡_, sym, _∙_}
 use native.Mathlib.Omega.{arith}
 use lib.ListN.{length}
 use Rattle.sentences.specs.Sentences.{sentence}
-use Rattle.sentences.specs.Claims.{lastNumber, sentenceRoom}
+use Rattle.sentences.specs.Claims.{IsRefusal, sentenceRoom}
 use Rattle.sentences.proofs.Claims.{sentences-have-room, sentences-tell-numbers}
 use Rattle.structs.specs.Results.{done}
 use Rattle.j8.specs.Runs.{sentenceWrite}
@@ -23,6 +23,6 @@ sentence-told : (n : ℕ) (out : List ℕ) → sentenceRoom ≤ length out → t
 sentence-told n out h = rw (sentence-done n out h) (front (sentence n) out (fits n out h))
 
 pub sentence-tells :
-    (m n : ℕ) (out into : List ℕ) → 1 ≤ m → m ≤ lastNumber → sentenceRoom ≤ length out → sentenceRoom ≤ length into
+    (m n : ℕ) (out into : List ℕ) → IsRefusal m → sentenceRoom ≤ length out → sentenceRoom ≤ length into
     → told (sentenceWrite m out) ≡ told (sentenceWrite n into) → m ≡ n
-sentence-tells m n out into a b h k e = sentences-tell-numbers m n a b (sym (sentence-told m out h) ∙ e ∙ sentence-told n into k)
+sentence-tells m n out into r h k e = sentences-tell-numbers m n r (sym (sentence-told m out h) ∙ e ∙ sentence-told n into k)

@@ -15,6 +15,7 @@ use Rattle.prelude.specs.Limits.{textMax, columnMax}
 use Rattle.prelude.specs.Pick.{pick}
 use Rattle.prelude.specs.Refusals.{tooLong, noRoom}
 use Rattle.prelude.proofs.Cases.{split, never, and-left, and-right}
+use Rattle.prelude.proofs.Numbers.{text-apart}
 use Rattle.tsv8_cells.specs.Types.{ColumnType, typeNumber}
 use Rattle.tsv8_cells.specs.Cells.{Cell}
 use Rattle.tsv8.specs.Read.{SheetRead, read, unread, readAll}
@@ -174,8 +175,9 @@ module _ (text names types cells store : List ℕ) where
   -- a refusal's number isn't 0
   refusal-number : (n : ℕ) → Numbered n → n ≡ 0 → ⊥
   refusal-number n (inl a) z = omega arith
-  refusal-number n (inr (inl a)) z = omega (arith, a .0)
-  refusal-number n (inr (inr a)) z = omega (arith, a .0)
+  refusal-number n (inr (inl a)) z = omega (arith, text-apart n a .0)
+  refusal-number n (inr (inr (inl a))) z = omega (arith, a .0)
+  refusal-number n (inr (inr (inr a))) z = omega arith
 
   pub sheet-done : ran .result .number ≡ 0 → SheetDone text ran names types cells store
   sheet-done =

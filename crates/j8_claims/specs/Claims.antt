@@ -14,15 +14,17 @@ use Rattle.notation.specs.declared.styles.Style.the-variants.{Unicode}
 use Rattle.notation.specs.Marks.{opens, opening}
 use Rattle.strings_write.specs.Write.{writeString}
 use Rattle.sentences.specs.Sentences.{sentence}
-use Rattle.sentences.specs.Claims.{lastNumber, sentenceRoom}
+use Rattle.sentences.specs.Claims.{IsRefusal, sentenceRoom}
 use Rattle.trees.specs.Trees.{Tree, render}
 use Rattle.trees.specs.Tables.{just, nodesIn, treeOf}
 use Rattle.trees.specs.Sizes.{sizeOf, storeOf}
 use Rattle.lines_write.specs.Write.{rightRecords, writeQuoted}
 use Rattle.j8_lines.specs.Lists.{Call, joined, finished, defined}
 use Rattle.j8_lines.specs.Lines.{cut}
-use Rattle.upload_claims.specs.Claims.{definedAnswers, Finished, firstRefusal, EndedWith, Within}
-use Rattle.structs.specs.Results.{done}
+use Rattle.string_claims.specs.Claims.{Numbered as StringNumbered}
+use Rattle.json8.specs.Claims.{Numbered as TableNumbered}
+use Rattle.upload_claims.specs.Claims.{Answered, definedAnswers, Finished, firstRefusal, EndedWith, Within}
+use Rattle.structs.specs.Results.{done, refusal}
 use Rattle.structs.specs.Uploads.{answerOf, given}
 use Rattle.tsv8_cells.specs.Parts.{linesOf}
 use Rattle.tsv8_cells.specs.Types.{ColumnType, strs}
@@ -30,6 +32,7 @@ use Rattle.tsv8_cells.specs.Cells.{Cell}
 use Rattle.tsv8_claims.specs.Claims.{Each, InRange, KindFits, TextFits, Table, OneForOne, Shows, nameParts, dataParts}
 use Rattle.j8.specs.Runs.{Ran, stringWrite, stringRead, linesWrite, sentenceWrite, json8Write, RanNodes, json8Read, RanSheet, tsv8Read, RanCall, ranCall}
 use Rattle.j8_claims.specs.Lists.{runC, beganC, answersC}
+use Rattle.j8_claims.specs.Faults.{Every, PassedUp, faults, Ordered, orderedStrings, orderedTables, orderedSheets}
 use Rattle.j8_claims.specs.Sheets.{readNames, readCells, readStore, Typed, TextHolds, SheetFits, SheetDone, SheetRefused, namesRoom, typesRoom, cellsRoom, textCellsRoom, storeRoom}
 
 -- Demand 3, of `j8_upload_feed` and `j8_upload_finish`: "Take any list of feeds and finishes of one J8 Lines upload, in any order, empty
@@ -101,6 +104,33 @@ C-Tables-Return =
     → TableReturned t (json8Write table text store out)
     (json8Read (take (json8Write table text store out .result .length) (json8Write table text store out .out)) into stored)
 
+-- include/j8.h, "Each call can answer only these": 0, or what its text can be refused with; `j8_tsv8_read` by `C-Sheets-Done-Or-Refused`
+abbrev pub C-Strings-Numbered : Type 0
+C-Strings-Numbered = (text out : List ℕ) → (stringRead text out .result .number ≡ 0) ⊎ StringNumbered (stringRead text out .result .number)
+
+abbrev pub C-Tables-Numbered : Type 0
+C-Tables-Numbered =
+    (text table store : List ℕ)
+    → (json8Read text table store .result .number ≡ 0) ⊎ TableNumbered (json8Read text table store .result .number)
+
+-- the last call of every list that begins with `j8_upload_fresh()`, so each call
+abbrev pub C-Calls-Numbered : Type 0
+C-Calls-Numbered =
+    (cs : List Call) (line out : List ℕ) → lineMax ≤ length line → Answered (runC (beganC line out) cs .fed .answer .number)
+
+-- request [2] in every function that reads a text
+abbrev pub C-Example-Faults : Type 0
+C-Example-Faults = (out table store names types cells : List ℕ) → Every (PassedUp out table store names types cells) faults
+
+abbrev pub C-Faults-In-Order : Type 0
+C-Faults-In-Order =
+    (out table store names types cells : List ℕ)
+    → Every (λ (e : Ordered). stringRead (e .text) out .result ≡ refusal (e .number) (e .place)) orderedStrings
+    × Every (λ (e : Ordered). json8Read (e .text) table store .result ≡ record { number = e .number; place = e .place; nodes = 0; stored = 0 }) orderedTables
+    × Every
+    (λ (e : Ordered). tsv8Read (e .text) names types cells store .result ≡ record { number = e .number; place = e .place; columns = 0; cells = 0; stored = 0 })
+    orderedSheets
+
 -- J8_SENTENCE_ROOM bytes hold the sentence of every number
 abbrev pub C-Sentences-Have-Room : Type 0
 C-Sentences-Have-Room = (n : ℕ) (out : List ℕ) → sentenceRoom ≤ length out → sentenceWrite n out .result ≡ done (length (sentence n))
@@ -112,7 +142,7 @@ told r = take (r .result .length) (r .out)
 -- a refusal's sentence as `j8_sentence` tells it: for no other number it tells the same
 abbrev pub C-Sentences-Tell-Numbers : Type 0
 C-Sentences-Tell-Numbers =
-    (m n : ℕ) (out into : List ℕ) → 1 ≤ m → m ≤ lastNumber → sentenceRoom ≤ length out → sentenceRoom ≤ length into
+    (m n : ℕ) (out into : List ℕ) → IsRefusal m → sentenceRoom ≤ length out → sentenceRoom ≤ length into
     → told (sentenceWrite m out) ≡ told (sentenceWrite n into) → m ≡ n
 
 -- what holds of every call of `j8_tsv8_read` that answers 0: of the text, and of what the call answers and leaves
@@ -156,7 +186,7 @@ C-Cells-Show-Their-Texts =
     (λ text r. OneForOne (Shows text (readStore r)) (nameParts (linesOf text)) (readNames r)
     × OneForOne (Shows text (readStore r)) (dataParts (linesOf text)) (readCells r))
 
--- every other number is a refusal, 2, 4 to 12 or 19 to 22, and it leaves all buffers as they were
+-- every other number is a refusal, 2, 4, 6 to 12 or 19 to 27, and it leaves all buffers as they were
 abbrev pub C-Sheets-Done-Or-Refused : Type 0
 C-Sheets-Done-Or-Refused =
     (text names types cells store : List ℕ)

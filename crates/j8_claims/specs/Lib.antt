@@ -1,3 +1,4 @@
 pub mod Lists
 pub mod Sheets
+pub mod Faults
 pub mod Claims

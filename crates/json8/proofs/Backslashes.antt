@@ -15,7 +15,7 @@ use Rattle.prelude.proofs.Cases.{split, and-left, and-right, never}
 use Rattle.prelude.proofs.Picks.{pick-case}
 use Rattle.prelude.proofs.Rest.{getD-inside}
 use Rattle.utf8.specs.Class.{classOf}
-use Rattle.utf8.specs.Utf8.{between, lowOf, highOf, charLen}
+use Rattle.utf8.specs.Utf8.{charFault, between, lowOf, highOf, charLen}
 use Rattle.utf8.proofs.Characters.{tails, low-bound, char-tails}
 use Rattle.notation.specs.declared.styles.Style.{Style}
 use Rattle.notation.specs.declared.styles.Style.the-variants.{Json, Unicode, Bytes}
@@ -108,7 +108,7 @@ unit-fault : (st : Style) (x : ℕ) (r : List ℕ) → literalLen st (x ∷ r) �
 unfolding unitAt literalLen pick
 unit-fault st x r e q b =
     split (ltb x 32) (λ c. (6, rw (q, b, c)))
-    (λ c. let z : charLen (x ∷ r) ≡ 0 = rw (q, b, c) at e in (5, rw (q, b, c, z)))
+    (λ c. let z : charLen (x ∷ r) ≡ 0 = rw (q, b, c) at e in (charFault (x ∷ r), rw (q, b, c, z)))
 
 none-ends : (st : Style) (p : ℕ) (cs : List ℕ) (f : ℕ) → readUnits st p 0 [] ≡ accepted cs f → _≡_ {A = ℕ} 0 1
 unfolding readUnits

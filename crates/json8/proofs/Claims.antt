@@ -13,8 +13,9 @@ use Rattle.json8.specs.Nodes.{Read, got, refused}
 use Rattle.json8.specs.Leaves.{string, word, number, key}
 use Rattle.json8.specs.Values.{valueOf, group}
 use Rattle.json8.specs.Read.{readAll, fitted, readOf}
-use Rattle.json8.specs.Claims.{Tables-Fit, Values-Progress, Refusals-Inside, Texts-Cut-Off-At-End, Faults-In-Order}
+use Rattle.json8.specs.Claims.{Tables-Fit, Values-Progress, Refusals-Inside, Refusals-Numbered, Faults-Passed-Up, Texts-Cut-Off-At-End, Faults-In-Order}
 use Rattle.json8.proofs.Limited.{limited-full}
+use Rattle.json8.proofs.Numbers.{text-numbered, passed-up}
 use Rattle.json8.proofs.Fair.{Fair, value-fair, read-fair}
 
 pub tables-fit : Tables-Fit
@@ -44,6 +45,12 @@ all-inside nodes room s =
 
 pub refusals-inside : Refusals-Inside
 refusals-inside nodes room s number at e = (rw e at (all-inside nodes room s)) .0
+
+pub refusals-numbered : Refusals-Numbered
+refusals-numbered nodes room s number at e = rw e at (text-numbered nodes room s)
+
+pub faults-passed-up : Faults-Passed-Up
+faults-passed-up = passed-up
 
 pub texts-cut-off-at-end : Texts-Cut-Off-At-End
 texts-cut-off-at-end nodes room s at e = (rw e at (all-inside nodes room s)) .1 refl

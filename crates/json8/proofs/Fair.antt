@@ -70,7 +70,7 @@ weaken a b p n s (refused number at) h f = f
 -- blanks and marks
 passed-fair : (p n : ℕ) (s : List ℕ) (b : Blank) → n ≤ nodeMax → Passed 0 s b → Fair 0 p n s (passed p b)
 passed-fair p n s (Clear i) h f = (omega arith, omega arith, omega arith, omega arith)
-passed-fair p n s (Ill number i) h f = (omega (arith, f .0), λ c. absurd (f .1 c))
+passed-fair p n s (Ill number i) h f = (omega (arith, f .0), λ c. absurd (omega (arith, f .1, c)))
 
 pub spaces-fair : FairBy 0 spaces
 unfolding spaces

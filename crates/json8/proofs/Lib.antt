@@ -1,4 +1,5 @@
 pub mod Fair
 pub mod Limited
+pub mod Numbers
 pub mod Backslashes
 pub mod Claims

@@ -1,10 +1,10 @@
 -- A unit is read the same whatever follows the closing quote: two texts that are one up to it have the same digits, the same
 -- character and the same low half at their head, since the quote is none of these.
 -- Assumes nothing.
-use Prim.Native.Nat.{ℕ, zero, suc, pred, _≤_}
+use Prim.Native.Nat.{ℕ, zero, suc, pred, _+_, _-_, _*_, _≤_}
 use mathlib.Core.Bool.{true, false}
 use mathlib.Core.List.{List, [], _∷_, _++_}
-use mathlib.Core.Path.{_≡_, refl, sym, _∙_}
+use mathlib.Core.Path.{_≡_, refl, sym, ap, _∙_}
 use native.Mathlib.Omega.{arith}
 use lib.Dec.{ltb, eqb, lit≤}
 use lib.ListN.{take, drop, getD}
@@ -13,11 +13,11 @@ use Rattle.prelude.specs.Bytes.{backslash}
 use Rattle.prelude.specs.Pick.{pick}
 use Rattle.prelude.proofs.Cases.{split, and-right}
 use Rattle.utf8.specs.Class.{classOf}
-use Rattle.utf8.specs.Utf8.{between, lowOf, highOf, charLen, charBy}
+use Rattle.utf8.specs.Utf8.{between, lowOf, highOf, charLen, wanted, hasTails, startBits, tailsOn, valueOf, faultFrom, charFault, charBy}
 use Rattle.utf8.proofs.Characters.{tails, sizeOf, low-bound, char-is, char-tails}
 use Rattle.notation.specs.declared.styles.Style.{Style}
 use Rattle.notation.specs.declared.styles.Style.the-variants.{Json, Unicode, Bytes}
-use Rattle.notation.specs.Styles.{quote}
+use Rattle.notation.specs.Styles.{quote, fault}
 use Rattle.escapes.specs.Hex.{hexVal, hexDigits, hexRun}
 use Rattle.escapes.specs.Escapes.{lowHalf, fourDigits, braced, codePoint, rawByte, escape}
 use Rattle.units.specs.Units.{literal, unitAt}
@@ -116,9 +116,29 @@ char-agree : (st : Style) (x : ℕ) {s t : List ℕ} → Agree st s t → charLe
 char-agree st x {s} {t} a =
     char-is x s ∙ rw (tails-agree st (lowOf (classOf x)) (highOf (classOf x)) (pred (sizeOf (classOf x))) (low-bound (classOf x)) a) (sym (char-is x t))
 
+-- the fault by the continuation bytes alone, which the quote is none of
+has-agree : (st : Style) (n : ℕ) {s t : List ℕ} → Agree st s t → hasTails n s ≡ hasTails n t
+unfolding hasTails
+has-agree st zero a = refl
+has-agree st (suc n) stop = simp (lt-leb 0x80 (quote st) (omega (arith, quote-ascii st .1)))
+has-agree st (suc n) (next a) = simp (has-agree st n a)
+
+value-agree : (st : Style) (n v : ℕ) {s t : List ℕ} → Agree st s t → hasTails n s ≡ true → tailsOn v n s ≡ tailsOn v n t
+unfolding hasTails tailsOn
+value-agree st zero v a e = refl
+value-agree st (suc n) v stop e = let z : _≡_ {A = ℕ} 0 1 = cc (lt-leb 0x80 (quote st) (omega (arith, quote-ascii st .1))) in absurd (omega arith)
+value-agree st (suc n) v (next {x = x} a) e = value-agree st n (v * 0x40 + (x - 0x80)) a (and-right (between 0x80 0xbf x) _ e)
+
+fault-agree : (st : Style) (x : ℕ) {s t : List ℕ} → Agree st s t → charFault (x ∷ s) ≡ charFault (x ∷ t)
+unfolding charFault faultFrom valueOf pick
+fault-agree st x {s} a =
+    split (hasTails (wanted x) s)
+    (λ e. rw (← has-agree st (wanted x) a, e, value-agree st (wanted x) (startBits x) a e))
+    (λ e. rw (← has-agree st (wanted x) a, e))
+
 literal-agree : (st : Style) (x : ℕ) {s t : List ℕ} (n : ℕ) → charLen (x ∷ s) ≡ n → Agree st s t
     → literal (charBy n (x ∷ s)) (x ∷ s) ≡ literal (charBy n (x ∷ t)) (x ∷ t)
-literal-agree st x zero e a = refl
+literal-agree st x zero e a = ap fault (fault-agree st x a)
 literal-agree st x {s} (suc n) e a = rw (take-agree st (lowOf (classOf x)) (highOf (classOf x)) n (low-bound (classOf x)) a (char-tails x s n e .1))
 
 pub unit-agree : (st : Style) {s t : List ℕ} → Agree st s t → unitAt st s ≡ unitAt st t

@@ -16,11 +16,12 @@ use Rattle.strings.specs.declared.answers.Token.the-variants.{Ended, Failed}
 use Rattle.notation.specs.Marks.{opening}
 use Rattle.strings.specs.Read.{readUnits, readToken, readString, TokenNumbers}
 use Rattle.strings_write.specs.Write.{writeBytes, writeString}
-use Rattle.string_claims.specs.Claims.{examples, Example-Strings, Written-Reads-Back, Bytes-Form-Reads-Back, Written-Token-Reads-Back, Bytes-Form-Token-Reads-Back, Ends-At-Its-Quote, Unicode-Is-Utf8, Unicode-Token-Is-Utf8, Writer-Is-Injective, Written-Is-One-Line, Bytes-Form-Is-One-Line, Places-Inside, Cut-Off-At-End, Units-Progress, Written-Length, Read-Length, Tokens-Tell-All}
+use Rattle.string_claims.specs.Claims.{examples, Example-Strings, Written-Reads-Back, Bytes-Form-Reads-Back, Written-Token-Reads-Back, Bytes-Form-Token-Reads-Back, Ends-At-Its-Quote, Unicode-Is-Utf8, Unicode-Token-Is-Utf8, Writer-Is-Injective, Written-Is-One-Line, Bytes-Form-Is-One-Line, Places-Inside, Refusals-Numbered, Faults-Passed-Up, Cut-Off-At-End, Units-Progress, Written-Length, Read-Length, Tokens-Tell-All}
 use Rattle.string_claims.proofs.Ends.{token-cut}
 use Rattle.string_claims.proofs.RoundTrip.{quoted-back, token-back, text-back, write-injective}
 use Rattle.strings.proofs.Places.{string-inside, text-inside}
 use Rattle.string_claims.proofs.Texts.{text-valid, token-valid, all-texts}
+use Rattle.string_claims.proofs.Numbers.{text-numbered, passed-up}
 use Rattle.string_claims.proofs.Printed.{quoted-printed, write-printed, printed-at}
 use Rattle.strings.proofs.Lengths.{string-length}
 use Rattle.strings_write.proofs.WriteLengths.{write-length}
@@ -61,6 +62,12 @@ bytes-form-is-one-line s = printed-at (writeBytes s) (quoted-printed AsBytes s)
 
 pub places-inside : Places-Inside
 places-inside room s number at r = (rw r at (text-inside room s)) .0 .1
+
+pub refusals-numbered : Refusals-Numbered
+refusals-numbered room s number at e = rw e at (text-numbered room s)
+
+pub faults-passed-up : Faults-Passed-Up
+faults-passed-up = passed-up
 
 pub cut-off-at-end : Cut-Off-At-End
 cut-off-at-end s at r = (rw r at (string-inside s)) .1 refl

@@ -5,11 +5,12 @@ use Prim.Native.Nat.{ℕ, _+_, _*_, _≤_, _<_}
 use Prim.Native.String.{String}
 use mathlib.Core.Bool.{true}
 use mathlib.Core.List.{List, [], _∷_, _++_, map}
+use mathlib.Core.Logic.{_⊎_}
 use mathlib.Core.Path.{_≡_}
 use lib.ListN.{length, getD, take}
 use Rattle.prelude.specs.Bytes.{IsBytes, ascii}
-use Rattle.prelude.specs.Refusals.{cutOff, badEscape, surrogate, tooLarge, byteEscape, trailing}
-use Rattle.utf8.specs.Utf8.{validUtf8}
+use Rattle.prelude.specs.Refusals.{tooLong, noOpening, cutOff, badEscape, surrogate, tooLarge, byteEscape, trailing, noRoom, TextFault}
+use Rattle.utf8.specs.Utf8.{charLen, charFault, validUtf8}
 use Rattle.notation.specs.declared.styles.Style.{Style}
 use Rattle.notation.specs.declared.styles.Style.the-variants.{Unicode}
 use Rattle.notation.specs.Styles.{took}
@@ -17,7 +18,7 @@ use Rattle.units.specs.Units.{unitAt}
 use Rattle.strings.specs.declared.answers.Token.{Token}
 use Rattle.strings.specs.declared.answers.Token.the-variants.{Ended, Failed}
 use Rattle.notation.specs.Marks.{opens, opening}
-use Rattle.strings.specs.Read.{StringRead, accepted, refused, readToken, readString, readText, tokenNumbers}
+use Rattle.strings.specs.Read.{StringRead, accepted, refused, readUnits, readToken, readString, readText, tokenNumbers}
 use Rattle.prelude.specs.Limits.{textMax}
 use Rattle.strings_write.specs.Write.{writeBytes, writeString}
 
@@ -91,6 +92,17 @@ Bytes-Form-Is-One-Line = (s : List ℕ) (i : ℕ) → i < length (writeBytes s) 
 -- a refusal's place is in the text or at its end
 abbrev pub Places-Inside : Type 0
 Places-Inside = (room : ℕ) (s : List ℕ) (number at : ℕ) → readText room s ≡ refused number at → at ≤ length s
+
+-- a text is refused with 2, 3, what its string is refused for, or 12; never with 5
+abbrev pub Numbered : ℕ → Type 0
+Numbered number = (number ≡ tooLong) ⊎ ((number ≡ noOpening) ⊎ (TextFault number ⊎ (number ≡ noRoom)))
+
+abbrev pub Refusals-Numbered : Type 0
+Refusals-Numbered = (room : ℕ) (s : List ℕ) (number at : ℕ) → readText room s ≡ refused number at → Numbered number
+
+-- request [2], "Strings .. pass it up; places stay": where a unit begins and no character does, the refusal is the character's fault, there
+abbrev pub Faults-Passed-Up : Type 0
+Faults-Passed-Up = (st : Style) (p : ℕ) (s : List ℕ) → 0 < length s → charLen s ≡ 0 → readUnits st p 0 s ≡ refused (charFault s) p
 
 -- refusal 4 stands at the text's end
 abbrev pub Cut-Off-At-End : Type 0

@@ -11,7 +11,8 @@ use lib.ListN.{length}
 use borrow.Author.Tests.{ltb-false, le-leb, le-ltb, lt-leb}
 use Rattle.prelude.specs.Limits.{textMax, columnMax}
 use Rattle.prelude.specs.Pick.{pick}
-use Rattle.prelude.specs.Refusals.{tooLong, noRoom, badHeader}
+use Rattle.prelude.specs.Refusals.{tooLong, cutOff, trailing, noRoom, badHeader, utf8BadEncoding}
+use Rattle.prelude.proofs.Numbers.{text-ranges, text-apart}
 use Rattle.prelude.proofs.Cases.{split, never}
 use Rattle.prelude.proofs.Picks.{and-no-second}
 use Rattle.tsv8_cells.specs.Parts.{Part, linesOf}
@@ -90,29 +91,32 @@ whole-placed : (s : List ℕ) (number : ℕ) → number < badHeader → Placed s
 whole-placed s number h =
     (λ z. absurd (omega arith), λ z. inl refl, λ z. absurd (omega arith), λ z. absurd (omega arith), λ z. refl, λ z. refl)
 
+-- a text's own refusal stands where it stands
+text-placed : (s : List ℕ) (number at : ℕ) → ((cutOff ≤ number) × (number ≤ trailing)) ⊎ (utf8BadEncoding ≤ number) → Placed s number at
+text-placed s number at (inl (a, b)) =
+    (λ z. absurd (omega arith), λ z. absurd (omega arith), λ z. absurd (omega arith), λ z. absurd (omega arith), λ z. absurd (omega arith), λ z. absurd (omega arith))
+text-placed s number at (inr a) =
+    (λ z. absurd (omega arith), λ z. absurd (omega arith), λ z. absurd (omega arith), λ z. absurd (omega arith), λ z. absurd (omega arith), λ z. absurd (omega arith))
+
 told-refusal : (s : List ℕ) (number at : ℕ) → Told s number at → Refusal s number at
-told-refusal s number at (inl a, h) = (
-  inr (inl (a .0, omega (arith, a .1))),
-  h,
-  (λ z. absurd (omega (arith, a)), λ z. absurd (omega (arith, a)), λ z. absurd (omega (arith, a)), λ z. absurd (omega (arith, a)), λ z. absurd (omega (arith, a)), λ z. absurd (omega (arith, a))),
-)
+told-refusal s number at (inl a, h) = (inr (inl a), h, text-placed s number at (text-ranges number a))
 told-refusal s number at (inr (inl (e, b)), h) = (
-  inr (inr (omega arith, omega arith)),
+  inr (inr (inl (omega arith, omega arith))),
   h,
   (λ z. absurd (omega arith), λ z. b, λ z. absurd (omega arith), λ z. absurd (omega arith), λ z. absurd (omega arith), λ z. absurd (omega arith)),
 )
 told-refusal s number at (inr (inr (inl (e, b))), h) = (
-  inr (inr (omega arith, omega arith)),
+  inr (inr (inl (omega arith, omega arith))),
   h,
   (λ z. b, λ z. absurd (omega arith), λ z. absurd (omega arith), λ z. absurd (omega arith), λ z. absurd (omega arith), λ z. absurd (omega arith)),
 )
 told-refusal s number at (inr (inr (inr (inl e, b))), h) = (
-  inr (inr (omega arith, omega arith)),
+  inr (inr (inl (omega arith, omega arith))),
   h,
   (λ z. absurd (omega arith), λ z. absurd (omega arith), λ z. b, λ z. b, λ z. absurd (omega arith), λ z. absurd (omega arith)),
 )
 told-refusal s number at (inr (inr (inr (inr e, b))), h) = (
-  inr (inr (omega arith, omega arith)),
+  inr (inr (inl (omega arith, omega arith))),
   h,
   (λ z. absurd (omega arith), λ z. absurd (omega arith), λ z. b, λ z. b, λ z. absurd (omega arith), λ z. absurd (omega arith)),
 )
@@ -125,7 +129,7 @@ fitted-refusal r s os ps k (read ns ts cs bs) x number at h =
     (λ g. let z = rw g at h in
     let a : noRoom ≡ number = cc in
     let b : 0 ≡ at = cc in
-    rw (← a, ← b) (inr (inl (lit≤ tt, lit≤ tt)), omega arith, whole-placed s noRoom (lit< tt)))
+    rw (← a, ← b) (inr (inr (inr refl)), omega arith, whole-placed s noRoom (lit< tt)))
 fitted-refusal r s os ps k (unread n p) x number at h =
     let a : n ≡ number = cc in
     let b : p ≡ at = cc in
@@ -183,7 +187,7 @@ ample r a b c d s l (unread number p) e at h =
     let z : number ≡ noRoom = cc in none (subst (SheetIs s (nameParts (linesOf s)) (dataParts (linesOf s)) (extent (linesOf s))) e (text-is s)) z
   where
     none : Told s number p → number ≡ noRoom → ⊥
-    none (inl t, i) z = omega (arith, t)
+    none (inl t, i) z = text-apart number t .1 z
     none (inr (inl (t, b)), i) z = omega arith
     none (inr (inr (inl (t, b))), i) z = omega arith
     none (inr (inr (inr (inl t, b))), i) z = omega arith

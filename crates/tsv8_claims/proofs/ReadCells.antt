@@ -12,7 +12,7 @@ use lib.ListN.{length}
 use borrow.Author.Tests.{ne-eqb}
 use Rattle.prelude.specs.Bytes.{TAB, LF}
 use Rattle.prelude.specs.Pick.{pick}
-use Rattle.prelude.specs.Refusals.{cutOff, noRoom, badHeader, badLine, wrongType, emptyCell}
+use Rattle.prelude.specs.Refusals.{badHeader, badLine, wrongType, emptyCell, TextFault}
 use Rattle.prelude.proofs.Cases.{and-left, and-right, never}
 use Rattle.prelude.proofs.Picks.{pick-case}
 use Rattle.utf8.specs.Utf8.{positive}
@@ -36,7 +36,7 @@ use Rattle.tsv8_claims.proofs.Standing.{strip-stands, strip-le}
 -- the request's refusals, with their places in the text
 abbrev pub Told : List ℕ → ℕ → ℕ → Type 0
 Told s number at =
-    (((cutOff ≤ number) × (number < noRoom))
+    (TextFault number
     ⊎ (((number ≡ badHeader) × ((at ≡ 0) ⊎ (Behind s LF at ⊎ Behind s TAB at)))
     ⊎ (((number ≡ badLine) × Behind s LF at) ⊎ (((number ≡ wrongType) ⊎ (number ≡ emptyCell)) × Behind s TAB at))))
     × (at ≤ length s)
@@ -150,7 +150,7 @@ module _ (text : List ℕ) where
       → Judged (length w) r → LineFault (length w) r → CellRead t w m k (cellBy r t q p m w)
   by-read ignored t q p m k w s a i b l j f = (inr (inr (inr (inr refl, b))), i)
   by-read (holds kind bs) t q p m k w s a i b l j f = for-read q p m k w a i b (omega (arith, j .0)) t kind bs s (j .0) (omega (arith, j .1))
-  by-read (faulty number at) t q p m k w s a i b l j f = (inl (j, f .0 .1), omega (arith, f .1, stands-in a))
+  by-read (faulty number at) t q p m k w s a i b l j f = (inl (f .0), omega (arith, f .1, stands-in a))
 
   pub cell-read : (t : ColumnType) (m : ℕ) (c : Part) → Stands text (c .place) (c .bytes) → Behind text TAB (c .place)
       → CellRead t (strip (c .bytes)) m (suc (length (c .bytes))) (cellAt t m c)

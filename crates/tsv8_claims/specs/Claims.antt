@@ -12,7 +12,7 @@ use lib.ListN.{length, getD, take, drop}
 use Rattle.prelude.specs.Bytes.{TAB, LF, ascii}
 use Rattle.prelude.specs.Limits.{textMax, columnMax}
 use Rattle.prelude.specs.Pick.{pick}
-use Rattle.prelude.specs.Refusals.{tooLong, cutOff, noRoom, badHeader, badLine, wrongType, emptyCell}
+use Rattle.prelude.specs.Refusals.{tooLong, cutOff, noRoom, badHeader, badLine, wrongType, emptyCell, TextFault}
 use Rattle.lines.specs.Line.{strip, holds, readStripped}
 use Rattle.tokens.specs.Words.{falseWord, trueWord}
 use Rattle.tokens.specs.Numbers.{numberKind}
@@ -133,9 +133,9 @@ Cells-Show-Their-Texts =
 abbrev pub Places-Inside : Type 0
 Places-Inside = (r : Rooms) (s : List ℕ) (number at : ℕ) → readText r s ≡ unread number at → at ≤ length s
 
--- "Refusals: 2 .., then the leftmost of 4 to 11 and these: 19 .. 20 .. 21 .. 22 .. last 12."
+-- "Refusals: 2 .., then the leftmost of 4 to 11 and these: 19 .. 20 .. 21 .. 22 .. last 12."; request [2], "23 .. 27 .. replace 5 everywhere"
 abbrev pub Numbered : ℕ → Type 0
-Numbered number = (number ≡ tooLong) ⊎ (((cutOff ≤ number) × (number ≤ noRoom)) ⊎ ((badHeader ≤ number) × (number ≤ emptyCell)))
+Numbered number = (number ≡ tooLong) ⊎ (TextFault number ⊎ (((badHeader ≤ number) × (number ≤ emptyCell)) ⊎ (number ≡ noRoom)))
 
 abbrev pub Refusals-Numbered : Type 0
 Refusals-Numbered = (r : Rooms) (s : List ℕ) (number at : ℕ) → readText r s ≡ unread number at → Numbered number

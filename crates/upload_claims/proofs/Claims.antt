@@ -9,15 +9,16 @@ use Rattle.prelude.specs.Limits.{lineMax}
 use Rattle.lines.specs.declared.read.Line.the-variants.{Ignored, Holds, Refused}
 use Rattle.lines.specs.Answers.{LineNumbers}
 use Rattle.upload.specs.Calls.{Called}
-use Rattle.j8_lines.specs.Lists.{feeds, finishes, run, began, joined, finished, defined}
+use Rattle.j8_lines.specs.Lists.{feeds, finishes, run, began, joined, finished, earlier, defined}
 use Rattle.j8_lines.proofs.WholeList.{whole-list}
-use Rattle.upload_claims.specs.Claims.{Every-List-Of-Calls, Pieces-Do-Not-Matter, Records-After-Finish, Written-Lines-Read-Back, Every-List-Is-Encoded, Whole-Case, Handing-On-Changes-Nothing, caseText, Unicode-Lines-Are-Utf8, Lines-Tell-All}
+use Rattle.upload_claims.specs.Claims.{Every-List-Of-Calls, Pieces-Do-Not-Matter, Answers-Numbered, Faults-Passed-Up, Records-After-Finish, Written-Lines-Read-Back, Every-List-Is-Encoded, Whole-Case, Handing-On-Changes-Nothing, caseText, Unicode-Lines-Are-Utf8, Lines-Tell-All}
 use Rattle.upload_claims.proofs.UnicodeLines.{unicode-line}
 use Rattle.upload_claims.proofs.Answers.{each-answer, same-pieces}
 use Rattle.upload_claims.proofs.CaseComputed.{case-state, case-out}
 use Rattle.upload_claims.proofs.Encoded.{textOf, planOf, all-lists}
 use Rattle.upload_claims.proofs.Finished.{as-finished}
 use Rattle.upload_claims.proofs.Handing.{handing-on}
+use Rattle.upload_claims.proofs.Numbers.{lines-answered, passed-up}
 use Rattle.upload_claims.proofs.WrittenTexts.{text-read, all-read}
 
 pub every-list-of-calls : Every-List-Of-Calls
@@ -29,6 +30,13 @@ every-list-of-calls cs line out h =
 pub pieces-do-not-matter : Pieces-Do-Not-Matter
 pieces-do-not-matter cs ds line out h a b e =
     rw (whole-list cs line out h, whole-list ds line out h) (same-pieces cs ds line out a b e)
+
+pub answers-numbered : Answers-Numbered
+unfolding defined
+answers-numbered cs line out h = rw (whole-list cs line out h) (lines-answered (joined cs) (finished cs) (earlier cs) line out)
+
+pub faults-passed-up : Faults-Passed-Up
+faults-passed-up = passed-up
 
 pub records-after-finish : Records-After-Finish
 unfolding defined

@@ -4,6 +4,7 @@ pub mod Claims
 pub mod Encoded
 pub mod Finished
 pub mod Handing
+pub mod Numbers
 pub mod WrittenTexts
 pub mod WrittenLines
 pub mod UnicodeLines

@@ -1,21 +1,23 @@
 -- What is claimed of the upload's calls and the J8 Lines definition, beside the contracts: each claim is a type, and proofs/Claims.antt has
 -- a term of it.
 -- Assumes nothing.
-use Prim.Native.Nat.{ℕ, _+_, _≤_}
+use Prim.Native.Nat.{ℕ, _+_, _≤_, _<_}
 use mathlib.Core.Bool.{true, false}
 use mathlib.Core.List.{List, [], _∷_, _++_}
+use mathlib.Core.Logic.{_⊎_}
 use mathlib.Core.Path.{_≡_}
 use lib.ListN.{length, take}
 use Rattle.prelude.specs.Bytes.{IsBytes, ascii, LF}
 use Rattle.prelude.specs.Limits.{uploadMax, lineMax}
-use Rattle.prelude.specs.Refusals.{noRoom}
-use Rattle.utf8.specs.Utf8.{validUtf8}
+use Rattle.prelude.specs.Refusals.{tooLong, noRoom, overLimit, ended, TextFault}
+use Rattle.utf8.specs.Utf8.{charLen, charFault, validUtf8}
 use Rattle.notation.specs.declared.styles.Style.the-variants.{Unicode}
 use Rattle.notation.specs.Marks.{opens, opening}
+use Rattle.lines.specs.declared.bare.Checked.the-variants.{Faulty}
 use Rattle.lines.specs.declared.read.Line.{Line}
 use Rattle.lines.specs.declared.read.Line.the-variants.{Ignored, Holds, Refused}
 use Rattle.lines.specs.Answers.{lineNumbers}
-use Rattle.lines.specs.Line.{holds, strip, readLine}
+use Rattle.lines.specs.Line.{holds, bareFrom, strip, readLine}
 use Rattle.records.specs.Records.{Fault, none, refuse}
 use Rattle.lines_write.specs.Write.{rightRecords, writeQuoted}
 use Rattle.upload.specs.declared.uploads.Upload.{Upload}
@@ -51,6 +53,22 @@ abbrev pub Pieces-Do-Not-Matter : Type 0
 Pieces-Do-Not-Matter =
     (cs ds : List Call) (line out : List ℕ) → lineMax ≤ length line → finished cs ≡ false → finished ds ≡ false
     → joined cs ≡ joined ds → run (began line out) cs ≡ run (began line out) ds
+
+-- what an upload is refused for: 2, a fault in a line, 12 or 17
+abbrev pub UploadFault : ℕ → Type 0
+UploadFault n = (n ≡ tooLong) ⊎ (TextFault n ⊎ ((n ≡ noRoom) ⊎ (n ≡ overLimit)))
+
+-- 0, one of these, or 18; never 5
+abbrev pub Answered : ℕ → Type 0
+Answered n = (n ≡ 0) ⊎ (UploadFault n ⊎ (n ≡ ended))
+
+-- the last call of every list, so each call
+abbrev pub Answers-Numbered : Type 0
+Answers-Numbered = (cs : List Call) (line out : List ℕ) → lineMax ≤ length line → Answered (run (began line out) cs .answer .number)
+
+-- request [2], "lines .. pass it up; places stay", of bare ones: where no character stands, the refusal is its fault, there
+abbrev pub Faults-Passed-Up : Type 0
+Faults-Passed-Up = (p : ℕ) (s : List ℕ) → 0 < length s → charLen s ≡ 0 → bareFrom p 0 s ≡ Faulty (charFault s) p
 
 -- the first refusal of a finished text: a byte's, or else the open line's
 abbrev pub orOpenLine : Fault → ℕ → List ℕ → Fault
