@@ -52,9 +52,9 @@
 
 /* The version of this header and of the library beside it; j8_version() asks the
    library. */
-#define J8_VERSION "0.2.0"
+#define J8_VERSION "0.3.0"
 #define J8_VERSION_MAJOR 0
-#define J8_VERSION_MINOR 2
+#define J8_VERSION_MINOR 3
 #define J8_VERSION_PATCH 0
 
 #ifdef __cplusplus
@@ -64,17 +64,20 @@ extern "C" {
 /*
  * Refusal numbers. 0 is no refusal. Each call can answer only these:
  *
- *   j8_string_read     0, 2 to 12
+ *   j8_string_read     0, 2 to 4, 6 to 12, 23 to 27
  *   j8_string_write    0, 12
- *   j8_upload_feed     0, 1, 2, 4 to 12, 17, 18
- *   j8_upload_finish   the same; by itself 0, 1, 4 to 12 and 18, and it repeats
- *                      what a feed was refused with
+ *   j8_upload_feed     0, 1, 2, 4, 6 to 12, 17, 18, 23 to 27
+ *   j8_upload_finish   the same; by itself 0, 1, 4, 6 to 12, 18 and 23 to 27, and
+ *                      it repeats what a feed was refused with
  *   j8_lines_write     0, 1, 12
- *   j8_json8_read      0, 2, 4 to 16
+ *   j8_json8_read      0, 2, 4, 6 to 16, 23 to 27
  *   j8_json8_write     0, 1, 12
  *   j8_json8_show      0, 1
- *   j8_tsv8_read       0, 2, 4 to 12, 19 to 22
+ *   j8_tsv8_read       0, 2, 4, 6 to 12, 19 to 27
  *   j8_sentence        0, 12
+ *
+ * 5 stood for all of 23 to 27 up to version 0.2.0, at the same place in the order,
+ * and isn't given any more.
  *
  * Order: 1, then 2 on whole texts, then the leftmost fault in the text, then
  * 12. In an upload the faults and 12 are judged for each line by itself, when
@@ -94,8 +97,6 @@ extern "C" {
 /* the text ends where more is needed; place: the text's length, in a line or a TSV8
    cell the end of what is left without blanks */
 #define J8_CUT_OFF 4
-/* ill-formed UTF-8; place: its first byte */
-#define J8_ILL_FORMED 5
 /* literal control byte, below 0x20; place: that byte */
 #define J8_CONTROL 6
 /* escape unknown, cut off or malformed; place: the backslash */
@@ -134,6 +135,22 @@ extern "C" {
 #define J8_WRONG_TYPE 21
 /* TSV8: cell empty or blank; place: after its tab */
 #define J8_EMPTY_CELL 22
+/*
+ * The five faults of UTF-8. A character of several bytes begins with c0 to df, e0 to
+ * ef or f0 to f7; 1, 2 or 3 continuation bytes, 80 to bf, follow. Place of each fault:
+ * the character's first byte.
+ */
+/* 80 to bf or f8 to ff, with which no character begins */
+#define J8_UTF8_BAD_ENCODING 23
+/* else: too few continuation bytes, at the end of the text, the stripped line, the
+   cell or the comment too, and whatever the value would be */
+#define J8_UTF8_INCOMPLETE 24
+/* else: a value that fewer bytes can have, f0 8d a0 80 too */
+#define J8_UTF8_OVERLONG 25
+/* else: a value from d800 to dfff */
+#define J8_UTF8_SURROGATE 26
+/* else: a value above 10ffff */
+#define J8_UTF8_TOO_LARGE 27
 
 /*
  * Sizes, in bytes; of a node table, of names, types and cells, in numbers.
@@ -251,7 +268,7 @@ typedef struct {
 
 /*
  * The version of the library: major times 1,000,000, minor times 1,000, patch.
- * So 0.2.0 is 2000. A program that was compiled with another header sees it here:
+ * So 0.3.0 is 3000. A program that was compiled with another header sees it here:
  *
  *     if (j8_version() / 1000 != J8_VERSION_MAJOR * 1000 + J8_VERSION_MINOR) {
  *         complain("libj8.a is of another version than j8.h");
@@ -291,7 +308,7 @@ j8_result j8_sentence(uint32_t number, uint8_t *out, size_t out_len);
  * NULL, out_len 0) a text is judged all the same: the answer is 0 if it is right
  * and empty, J8_NO_ROOM if it is right and not empty, and else the fault.
  *
- * Refusals: 2 to 12.
+ * Refusals: 2 to 4, 6 to 12 and 23 to 27.
  */
 j8_result j8_string_read(const uint8_t *text, size_t text_len,
                          uint8_t *out, size_t out_len);
@@ -454,9 +471,9 @@ j8_upload j8_upload_fresh(void);
  * with it, is J8_UNFIT. out may be NULL with length 0: every record is then
  * J8_NO_ROOM, while blank lines pass.
  *
- * Refusals: 1, then the one that is kept, then 18; then 2, 4 to 12 and 17. A
- * line whose record doesn't fit whole is 12 at place 0. A state made by hand may
- * keep any number, which is repeated.
+ * Refusals: 1, then the one that is kept, then 18; then 2, 4, 6 to 12, 17 and 23
+ * to 27. A line whose record doesn't fit whole is 12 at place 0. A state made by
+ * hand may keep any number, 5 too, which is repeated.
  */
 j8_fed j8_upload_feed(j8_upload upload,
                       const uint8_t *piece, size_t piece_len,
@@ -468,7 +485,7 @@ j8_fed j8_upload_feed(j8_upload upload,
  * byte is counted for it. A refused finish doesn't end the upload. The line
  * buffer is only read. Both buffers are those of the feeds.
  *
- * Refusals: 1, then the one that is kept, then 18; then 4 to 12.
+ * Refusals: 1, then the one that is kept, then 18; then 4, 6 to 12 and 23 to 27.
  */
 j8_fed j8_upload_finish(j8_upload upload,
                         const uint8_t *line, size_t line_len,
@@ -599,8 +616,8 @@ typedef struct {
  *         child(at);
  *     }
  *
- * Refusals: 2, then the leftmost of 4 to 11 and 13 to 16, then 12 if the table
- * or the store is short. A refusal leaves both as they were.
+ * Refusals: 2, then the leftmost of 4, 6 to 11, 13 to 16 and 23 to 27, then 12 if
+ * the table or the store is short. A refusal leaves both as they were.
  */
 j8_nodes j8_json8_read(const uint8_t *text, size_t text_len,
                        uint32_t *table, size_t table_len,
@@ -783,8 +800,8 @@ typedef struct {
  *               (cell[0] == J8_CELL_STR_STORED ? store : text) + cell[1], cell[2]);
  *     }
  *
- * Refusals: 2, then the leftmost of 4 to 11 and 19 to 22, then 12 if names, types,
- * cells or the store are short. A refusal leaves all four as they were.
+ * Refusals: 2, then the leftmost of 4, 6 to 11 and 19 to 27, then 12 if names,
+ * types, cells or the store are short. A refusal leaves all four as they were.
  */
 j8_sheet j8_tsv8_read(const uint8_t *text, size_t text_len,
                       uint32_t *names, size_t names_len,

@@ -117,5 +117,5 @@ pub(crate) fn missing() -> Outcome {
 }
 
 pub(crate) fn version() -> Outcome {
-    outputs::ended(io::write_all(STDOUT_FILENO, b"j8 0.2.0\n"))
+    outputs::ended(io::write_all(STDOUT_FILENO, b"j8 0.3.0\n"))
 }

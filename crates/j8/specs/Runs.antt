@@ -25,12 +25,12 @@ use Rattle.structs.specs.Sheets.{sheetResult}
 use Rattle.structs.specs.Tables.{nodesResult, shownResult}
 use Rattle.structs.specs.Uploads.{uploadOf, given, fedOf}
 
--- `j8_version()`: "major times 1,000,000, minor times 1,000, patch", of 0.2.0
+-- `j8_version()`: "major times 1,000,000, minor times 1,000, patch", of 0.3.0
 abbrev pub versionOf : ℕ → ℕ → ℕ → ℕ
 versionOf major minor patch = major * 1000000 + (minor * 1000 + patch)
 
 abbrev pub version : ℕ
-version = versionOf 0 2 0
+version = versionOf 0 3 0
 
 -- a result, and the output
 pub record Ran : Type 0 where

@@ -8,12 +8,12 @@ pub mod sheets;
 pub mod tables;
 pub mod uploads;
 
-// The version, as j8.h's three numbers have it: 0.2.0.
+// The version, as j8.h's three numbers have it: 0.3.0.
 #[no_mangle]
 pub extern "C" fn j8_version() -> u32
     ensures { λ r. ⌜ r ≡ version ⌝ }
 {
-    2_000
+    3_000
 }
 
 #[no_mangle]
