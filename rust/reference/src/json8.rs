@@ -2,7 +2,7 @@
 //! and a table written.
 
 use crate::{decode, opening, refuse, Refusal, Sink, TEXT_MAX};
-use crate::{CUT_OFF, ILL_FORMED, NO_ROOM, TOO_LONG, TRAILING};
+use crate::{refuse_character, CUT_OFF, NO_ROOM, TOO_LONG, TRAILING};
 
 mod write;
 pub use write::write;
@@ -109,7 +109,7 @@ impl Reader<'_> {
                 Some(b'#') => {
                     let comment = &self.rest()[..self.run(|b| b != b'\n')];
                     if let Err(fault) = std::str::from_utf8(comment) {
-                        return refuse(ILL_FORMED, self.at + fault.valid_up_to());
+                        return refuse_character(comment, self.at, fault.valid_up_to());
                     }
                     self.at += comment.len();
                 }

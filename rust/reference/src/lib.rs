@@ -23,7 +23,6 @@ const UNFIT: u32 = 1;
 const TOO_LONG: u32 = 2;
 const NO_OPENING: u32 = 3;
 const CUT_OFF: u32 = 4;
-const ILL_FORMED: u32 = 5;
 const CONTROL: u32 = 6;
 const ESCAPE: u32 = 7;
 const SURROGATE: u32 = 8;
@@ -31,6 +30,11 @@ const TOO_LARGE: u32 = 9;
 const BYTE_ESCAPE: u32 = 10;
 const TRAILING: u32 = 11;
 const NO_ROOM: u32 = 12;
+const UTF8_BAD_ENCODING: u32 = 23;
+const UTF8_INCOMPLETE: u32 = 24;
+const UTF8_OVERLONG: u32 = 25;
+const UTF8_SURROGATE: u32 = 26;
+const UTF8_TOO_LARGE: u32 = 27;
 
 fn refuse<T>(number: u32, place: usize) -> Result<T, Refusal> {
     Err(Refusal { number, place })
@@ -200,6 +204,41 @@ fn braced(rest: &[u8], sink: &mut impl Sink) -> Result<usize, u32> {
     Ok(4 + count)
 }
 
+/// Refuses a text that is valid UTF-8 just up to `valid`, the text itself at a place.
+/// A character goes to the text's end at most: what isn't in the text, as the bytes
+/// behind a stripped line, a cell or a comment, can't make it whole.
+fn refuse_character<T>(text: &[u8], at: usize, valid: usize) -> Result<T, Refusal> {
+    refuse(character_fault(&text[valid..]), at + valid)
+}
+
+/// Which fault it is that the bytes begin with: "Byte 80 to bf or f8 to ff at the start
+/// is bad encoding; else too few continuation bytes is incomplete; else by value
+/// overlong first (f0 8d a0 80 too), then surrogate, or above 10ffff."
+fn character_fault(bytes: &[u8]) -> u32 {
+    // What the start gives of the value, the least value that needs so many bytes, and
+    // how many continuation bytes there must be.
+    let (bits, least, wanted) = match bytes[0] {
+        0x80..=0xbf | 0xf8..=0xff => return UTF8_BAD_ENCODING,
+        start @ 0xc0..=0xdf => (start & 0x1f, 0x80, 1),
+        start @ 0xe0..=0xef => (start & 0x0f, 0x800, 2),
+        start @ 0xf0..=0xf7 => (start & 0x07, 0x1_0000, 3),
+        0x00..=0x7f => unreachable!("ASCII is a character"),
+    };
+    let mut value = u32::from(bits);
+    for at in 1..=wanted {
+        match bytes.get(at) {
+            Some(byte @ 0x80..=0xbf) => value = value << 6 | u32::from(byte & 0x3f),
+            _ => return UTF8_INCOMPLETE,
+        }
+    }
+    match value {
+        _ if value < least => UTF8_OVERLONG,
+        0xd800..=0xdfff => UTF8_SURROGATE,
+        0x11_0000.. => UTF8_TOO_LARGE,
+        _ => unreachable!("this is a character"),
+    }
+}
+
 /// Decodes from `at`, right behind the opening mark, and answers where the
 /// text goes on behind the closing quote.
 fn decode(
@@ -214,7 +253,7 @@ fn decode(
         let run = &rest[..run_length(rest, quote)];
         if !run.is_ascii() {
             if let Err(fault) = std::str::from_utf8(run) {
-                return refuse(ILL_FORMED, at + fault.valid_up_to());
+                return refuse_character(rest, at, fault.valid_up_to());
             }
         }
         sink.put(run);

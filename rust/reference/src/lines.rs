@@ -5,7 +5,7 @@
 //! nothing else, so that they can be compared.
 
 use crate::{opening, put_bytes, put_json, read, refuse, Count, Fill, Refusal, Sink};
-use crate::{CONTROL, ILL_FORMED, NO_ROOM, TOO_LONG, UNFIT};
+use crate::{refuse_character, CONTROL, NO_ROOM, TOO_LONG, UNFIT};
 
 /// The longest line, LF not counted, and the least line buffer.
 pub const LINE_MAX: usize = 1_024;
@@ -50,7 +50,7 @@ pub(crate) fn judge_bare(text: &[u8]) -> Result<(), Refusal> {
         return refuse(CONTROL, place);
     }
     if valid < text.len() {
-        return refuse(ILL_FORMED, valid);
+        return refuse_character(text, 0, valid);
     }
     Ok(())
 }

@@ -92,10 +92,10 @@ fn cut_off_escapes_and_characters() {
     refuses(br#""\"#, 7, 1);
     refuses(br#""a\u12"#, 7, 2);
     refuses(br"u'\u{1", 7, 2);
-    refuses(b"\"a\xe2\x82", 5, 2);
-    refuses(b"\"a\xe2\x82\"", 5, 2);
-    refuses(b"'\xf0\x9f\xa4", 5, 1);
-    refuses(b"\"a\xe2\x82\x01", 5, 2);
+    refuses(b"\"a\xe2\x82", 24, 2);
+    refuses(b"\"a\xe2\x82\"", 24, 2);
+    refuses(b"'\xf0\x9f\xa4", 24, 1);
+    refuses(b"\"a\xe2\x82\x01", 24, 2);
 }
 
 #[test]
@@ -108,8 +108,8 @@ fn halves() {
     gives(br#""\uD83E\uDD26""#, b"\xf0\x9f\xa4\xa6");
     gives(br#""\udbff\udfff""#, b"\xf4\x8f\xbf\xbf");
     gives(br#""\ud800\udc00""#, b"\xf0\x90\x80\x80");
-    refuses(b"\"\\ud83e\xed\xb4\xa6\"", 5, 7);
-    refuses(b"\"\xed\xa0\xbe\\udd26\"", 5, 1);
+    refuses(b"\"\\ud83e\xed\xb4\xa6\"", 26, 7);
+    refuses(b"\"\xed\xa0\xbe\\udd26\"", 26, 1);
 }
 
 #[test]
@@ -180,33 +180,137 @@ fn the_cap_comes_first_and_the_room_last() {
     assert_eq!(read(b"\"\"", &mut []), Ok(0));
 }
 
+/// Ill-formed characters, whole or to their end, and their numbers: the first and the
+/// last of each range, and both sides of each value where the answer changes.
+pub(crate) const FAULTS: [(&[u8], u32); 39] = [
+    (b"\x80", 23),
+    (b"\xbf", 23),
+    (b"\x80\x80\x80\x80", 23),
+    (b"\xf8", 23),
+    (b"\xf8\x88\x80\x80\x80", 23),
+    (b"\xfe", 23),
+    (b"\xff", 23),
+    (b"\xff\xbf\xbf\xbf", 23),
+    (b"\xc0", 24),
+    (b"\xc1", 24),
+    (b"\xc2", 24),
+    (b"\xdf", 24),
+    (b"\xe0", 24),
+    (b"\xe0\x80", 24),
+    (b"\xe2\x82", 24),
+    (b"\xed\xa0", 24),
+    (b"\xef\xbf", 24),
+    (b"\xf0", 24),
+    (b"\xf0\x8d\xa0", 24),
+    (b"\xf4\x90", 24),
+    (b"\xf5\x80\x80", 24),
+    (b"\xf7\xbf\xbf", 24),
+    (b"\xc0\x80", 25),
+    (b"\xc1\xbf", 25),
+    (b"\xe0\x80\x80", 25),
+    (b"\xe0\x9f\xbf", 25),
+    (b"\xf0\x80\x80\x80", 25),
+    (b"\xf0\x82\x82\xac", 25),
+    (b"\xf0\x8d\xa0\x80", 25),
+    (b"\xf0\x8d\xbf\xbf", 25),
+    (b"\xf0\x8f\xbf\xbf", 25),
+    (b"\xed\xa0\x80", 26),
+    (b"\xed\xaf\xbf", 26),
+    (b"\xed\xb0\x80", 26),
+    (b"\xed\xbf\xbf", 26),
+    (b"\xf4\x90\x80\x80", 27),
+    (b"\xf4\xbf\xbf\xbf", 27),
+    (b"\xf5\x80\x80\x80", 27),
+    (b"\xf7\xbf\xbf\xbf", 27),
+];
+
 #[test]
 fn ill_formed_characters() {
-    let bad: [&[u8]; 14] = [
-        b"\x80",
-        b"\xbf",
-        b"\xc0\x80",
-        b"\xc1\xbf",
-        b"\xc2",
-        b"\xc2a",
-        b"\xe0\x9f\xbf",
-        b"\xed\xa0\x80",
-        b"\xed\xbf\xbf",
-        b"\xf0\x8f\xbf\xbf",
-        b"\xf4\x90\x80\x80",
-        b"\xf5\x80\x80\x80",
-        b"\xfe",
-        b"\xff",
-    ];
-    for bytes in bad {
-        refuses(&[b"\"ab", bytes, b"\""].concat(), 5, 3);
-        refuses(&[b"b'\xc3\xa9", bytes, b"'"].concat(), 5, 4);
+    for (bytes, number) in FAULTS {
+        // What stands behind a character is none of it: no quote, escape, control or
+        // other character makes it whole, nor does the end of the text.
+        for behind in [
+            "",
+            "\"",
+            "'",
+            "\\",
+            "\\y80",
+            "\n",
+            "\t",
+            "a",
+            "é",
+            "\u{10ffff}",
+        ] {
+            let behind = behind.as_bytes();
+            refuses(&[b"\"ab", bytes, behind].concat(), number, 3);
+            refuses(&[b"'", bytes, behind].concat(), number, 1);
+            refuses(&[b"u'\\n", bytes, behind].concat(), number, 4);
+            refuses(&[b"b'\xc3\xa9", bytes, behind].concat(), number, 4);
+        }
+        // The leftmost of two is told.
+        for (other, _) in FAULTS.iter().filter(|(other, _)| other[0] >= 0xc0) {
+            refuses(&[b"\"", bytes, *other, b"\""].concat(), number, 1);
+        }
         let text = writing(bytes);
         assert!(text.starts_with(b"b'"));
         gives(&text, bytes);
     }
     let good = "\u{80}\u{7ff}\u{800}\u{d7ff}\u{e000}\u{ffff}\u{10000}\u{10ffff}";
     gives(format!("u'{good}'").as_bytes(), good.as_bytes());
+}
+
+#[test]
+fn a_byte_more_makes_another_fault() {
+    // Without its last byte a character is incomplete, whatever it would have been.
+    for (bytes, number) in FAULTS.iter().filter(|(_, number)| *number >= 25) {
+        for cut in 1..bytes.len() {
+            refuses(&[b"'", &bytes[..cut]].concat(), 24, 1);
+            refuses(&[b"'", &bytes[..cut], b"'"].concat(), 24, 1);
+        }
+        // One more continuation byte starts nothing: the fault before it is told.
+        refuses(&[b"'", *bytes, b"\x80'"].concat(), *number, 1);
+    }
+    for whole in ["\u{80}", "\u{800}", "\u{ffff}", "\u{10000}", "\u{10ffff}"] {
+        let bytes = whole.as_bytes();
+        refuses(&[b"'", bytes, b"\xbf'"].concat(), 23, 1 + bytes.len());
+        for cut in 1..bytes.len() {
+            refuses(&[b"'", &bytes[..cut], b"'"].concat(), 24, 1);
+        }
+    }
+}
+
+/// Every value in every length that has room for it, and not only the shortest.
+#[test]
+fn every_value_in_every_length() {
+    let tail = |value: u32, shift: u32| 0x80 | (value >> shift & 0x3f) as u8;
+    for value in 0..0x20_0000 {
+        let two = [0xc0 | (value >> 6) as u8, tail(value, 0)];
+        let three = [0xe0 | (value >> 12) as u8, tail(value, 6), tail(value, 0)];
+        let four = [
+            0xf0 | (value >> 18) as u8,
+            tail(value, 12),
+            tail(value, 6),
+            tail(value, 0),
+        ];
+        let forms: [(&[u8], u32, u32); 3] = [
+            (&two, 0x80, 0x800),
+            (&three, 0x800, 0x1_0000),
+            (&four, 0x1_0000, 0x20_0000),
+        ];
+        for (form, least, end) in forms.into_iter().filter(|form| value < form.2) {
+            let fault = match std::str::from_utf8(form) {
+                Ok(_) => None,
+                Err(_) => Some(character_fault(form)),
+            };
+            let expected = match value {
+                _ if value < least => Some(25),
+                0xd800..=0xdfff => Some(26),
+                0x11_0000.. => Some(27),
+                _ => None,
+            };
+            assert_eq!(fault, expected, "{value:x} below {end:x}");
+        }
+    }
 }
 
 #[test]

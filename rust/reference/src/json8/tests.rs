@@ -1,4 +1,5 @@
 use super::*;
+use crate::tests::FAULTS;
 
 const SPARE: usize = 5;
 
@@ -215,15 +216,15 @@ fn after_the_value() {
     refuses(b"1\xff", 11, 1);
     refuses(b"1\x00", 11, 1);
     refuses(b"1 # c\n,", 11, 6);
-    refuses(b"1 #\xff", 5, 3);
+    refuses(b"1 #\xff", 23, 3);
     gives(b"1 # c\r\t\x00\xc3\xa9", &[[3, 1, 0, 1]], b"");
 }
 
 #[test]
 fn comments_and_blanks() {
-    refuses(b"# \xff", 5, 2);
-    refuses(b"#\xe2\x82\n1", 5, 1);
-    refuses(b"[1,#\xed\xa0\x80\n]", 5, 4);
+    refuses(b"# \xff", 23, 2);
+    refuses(b"#\xe2\x82\n1", 24, 1);
+    refuses(b"[1,#\xed\xa0\x80\n]", 26, 4);
     // A CR ends no comment, and no other blank is skipped.
     refuses(b"#\r1", 4, 3);
     refuses(b"\x0b1", 13, 0);
@@ -237,7 +238,7 @@ fn comments_and_blanks() {
 #[test]
 fn strings_by_their_own_rules() {
     refuses(b"[\"\x01\"]", 6, 2);
-    refuses(b"['\xff']", 5, 2);
+    refuses(b"['\xff']", 23, 2);
     refuses(br#"["\'"]"#, 7, 2);
     refuses(br"['\u{dc00}']", 8, 2);
     refuses(br"[u'\u{110000}']", 9, 3);
@@ -245,6 +246,39 @@ fn strings_by_their_own_rules() {
     refuses(br#"["\u12"]"#, 7, 2);
     // What stands behind a string is no part of it.
     refuses(br#"["\ud83e" \udd26]"#, 13, 10);
+}
+
+/// In strings and comments, before, inside and after the value. Everywhere else a byte
+/// that isn't ASCII can't stand, or is behind the value.
+#[test]
+fn ill_formed_characters() {
+    let strings = ["\"", "'", "u'", "b'", "[1, \"é", "{a: '\\n", "{b'"];
+    let comments = [
+        "#",
+        "# é",
+        "[# ",
+        "{a #",
+        "{a: # \r",
+        "[1 #",
+        "[1, #\t",
+        "1 #",
+        "[] # c\n#",
+    ];
+    for (bytes, number) in FAULTS {
+        for before in strings.iter().chain(&comments) {
+            for behind in ["", "\"", "'", "\n", "\r", "\t", "#", "\\", "a", "é", "]}"] {
+                let text = [before.as_bytes(), bytes, behind.as_bytes()].concat();
+                refuses(&text, number, before.len());
+            }
+        }
+        for before in ["", " ", "[", "[1,", "[1", "{", "{a", "{a:", "[x", "#\n"] {
+            let at = before.find('x').unwrap_or(before.len());
+            refuses(&[before.as_bytes(), bytes].concat(), 13, at);
+        }
+        for before in ["1", "1 ", "''", "[]\n", "1 #\n"] {
+            refuses(&[before.as_bytes(), bytes].concat(), 11, before.len());
+        }
+    }
 }
 
 #[test]
@@ -295,7 +329,7 @@ fn nodes() {
     ] {
         refuses(&open_list(1_024, next.as_bytes()), number, at);
     }
-    refuses(&open_list(1_024, b"#\xff"), 5, at + 1);
+    refuses(&open_list(1_024, b"#\xff"), 23, at + 1);
 
     // A key counts, and so does its value.
     let pairs = b"a:0,".repeat(511);

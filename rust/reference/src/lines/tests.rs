@@ -1,4 +1,5 @@
 use super::*;
+use crate::tests::FAULTS;
 
 /// Reads a line with plenty of room, exact room and one byte less, and sees
 /// that nothing else of the room was touched. Gives the record, empty if the
@@ -73,11 +74,11 @@ fn bare_lines() {
     refuses(b"\x0ba", 6, 0);
     refuses(b" a\rb", 6, 2);
     refuses(b"a\x00", 6, 1);
-    refuses(b"  a\xff", 5, 3);
+    refuses(b"  a\xff", 23, 3);
     refuses(b"\x01\xff", 6, 0);
-    refuses(b"\xff\x01", 5, 0);
-    refuses(b"a\xe2\x82\x01", 5, 1);
-    refuses(b"a\xe2\x82", 5, 1);
+    refuses(b"\xff\x01", 23, 0);
+    refuses(b"a\xe2\x82\x01", 24, 1);
+    refuses(b"a\xe2\x82", 24, 1);
     // Only a state made by hand can hold an LF.
     refuses(b"a\nb", 6, 1);
 }
@@ -97,12 +98,34 @@ fn quoted_lines() {
     refuses(b" 'a'x ", 11, 4);
     refuses(b"\t\"a\tb\"", 6, 3);
     refuses(b"\"a\rb\"", 6, 2);
-    refuses(b" \"\xff\"", 5, 2);
+    refuses(b" \"\xff\"", 23, 2);
     refuses(b" \"\\q\"", 7, 2);
     refuses(br" u'\u{dc00}'", 8, 3);
     refuses(br" u'\u{110000}'", 9, 3);
     refuses(br" '\yff'", 10, 2);
     refuses(br#" "\ "#, 7, 2);
+}
+
+/// Blanks end a line before its bytes are looked at, and a control, a quote or another
+/// character ends what a character has.
+#[test]
+fn ill_formed_characters() {
+    for (bytes, number) in FAULTS {
+        for behind in [
+            "", " ", "\t", "\r", " \t\r", "\"", "'", "\\", "\n", "\x01", "a", "é", " a",
+        ] {
+            let behind = behind.as_bytes();
+            refuses(&[bytes, behind].concat(), number, 0);
+            refuses(&[b" \tab", bytes, behind].concat(), number, 4);
+            refuses(&[b"\"ab", bytes, behind].concat(), number, 3);
+            refuses(&[b"\r'", bytes, behind].concat(), number, 2);
+            refuses(&[b" u'\xc3\xa9", bytes, behind].concat(), number, 5);
+            refuses(&[b"b'\\yff", bytes, behind].concat(), number, 6);
+        }
+        refuses(&[b"a\x01", bytes].concat(), 6, 1);
+        refuses(&[b"\"a\x01", bytes].concat(), 6, 2);
+        refuses(&[b"\"a\" ", bytes].concat(), 11, 3);
+    }
 }
 
 /// Two fit buffers with an upload that begins fresh.
@@ -206,6 +229,32 @@ fn pieces_do_not_matter() {
             }
             calls.insert(1, Call::Finish);
             as_defined(&calls, 23);
+        }
+    }
+}
+
+/// The line is read when it is whole: a character that was cut apart is one again.
+#[test]
+fn pieces_do_not_matter_to_a_character() {
+    let whole = "\u{80}\u{ffff}\u{10ffff}".as_bytes();
+    for (bytes, number) in FAULTS {
+        for (before, after) in [("", ""), ("\"", "\""), ("b'", "'"), (" ", "\r")] {
+            for end in ["\n", "\nx\n", ""] {
+                let good = format!("a\n{before}").into_bytes();
+                let text = [&good, whole, bytes, after.as_bytes(), end.as_bytes()].concat();
+                let place = before.len() + whole.len();
+                for cut in 0..=text.len() {
+                    let calls = [
+                        Call::Feed(&text[..cut]),
+                        Call::Feed(&text[cut..]),
+                        Call::Finish,
+                    ];
+                    let trial = as_defined(&calls, 99);
+                    let state = trial.state;
+                    assert_eq!((state.refusal, state.line, state.place), (number, 2, place));
+                    assert_eq!(state.used, 5);
+                }
+            }
         }
     }
 }
@@ -380,7 +429,8 @@ fn unfit_states_and_buffers() {
     for state in unfit {
         answers(state, LINE_MAX, 10, (1, 0, 0));
     }
-    for refusal in [1, 18, 99, u32::MAX] {
+    // 5 isn't given any more, and is repeated as any other.
+    for refusal in [1, 5, 18, 23, 27, 99, u32::MAX] {
         answers(Upload { refusal, ..kept }, LINE_MAX, 10, (refusal, 7, 8));
     }
     let ended = Upload { refusal: 0, ..kept };
@@ -418,7 +468,7 @@ fn states_made_by_hand() {
         ..Upload::fresh()
     };
     let (after, _) = state.finish(&line, &mut out);
-    assert_eq!((after.refusal, after.line, after.place), (5, 1, 0));
+    assert_eq!((after.refusal, after.line, after.place), (24, 1, 0));
 }
 
 fn writing(records: &[u8]) -> Result<Vec<u8>, u32> {

@@ -1,4 +1,5 @@
 use super::*;
+use crate::tests::FAULTS;
 
 const SPARE: usize = 5;
 const FILL: u32 = 7_777;
@@ -279,7 +280,8 @@ fn cells_by_their_own_rules() {
             (b"  ".as_slice(), 22, 0),
             (b"\"tr ", 4, 3),
             (b" \"tr  ", 4, 4),
-            (b"4\xff", 5, 1),
+            (b"4\xff", 23, 1),
+            (b"4\xe2\x82", 24, 1),
             (b" 4\x01", 6, 2),
             (b"4\r5", 6, 1),
             (b"'\\q'", 7, 1),
@@ -298,6 +300,41 @@ fn cells_by_their_own_rules() {
         &[[6, 1, 1], [5, 23, 1]],
         b"\t\n",
     );
+}
+
+/// In names and in cells of every type, bare and quoted. Where a cell is stripped to
+/// its end, so is a character.
+#[test]
+fn ill_formed_characters() {
+    for (bytes, number) in FAULTS {
+        for start in ["", " ", "4", "é", "tr", "\"", "'a", " u'", "b'\\yff"] {
+            for behind in ["", " ", "\r", "\"", "'", "\\", "\x01", "4", "é", " 4"] {
+                let cell = [start.as_bytes(), bytes, behind.as_bytes()].concat();
+                for (before, after) in [
+                    ("!tsv8\t", ""),
+                    ("!tsv8\t", "\tb\n"),
+                    ("!tsv8\ta\t", "\n\tx\ty"),
+                    ("!tsv8\ta\n\t", ""),
+                    ("!tsv8\ta\n\t", "\n\tx"),
+                    ("!tsv8\ta\n!type\tStr\n\t", "\r\n"),
+                    ("!tsv8\ta\n!type\tInt\n\t", ""),
+                    ("!tsv8\ta\n!type\tBool\n\t", "\n"),
+                    ("!tsv8\ta\tb\n!type\tFloat\tInt\n\t", "\tx"),
+                    ("!tsv8\ta\tb\n!type\tFloat\tInt\n\t1\t", ""),
+                ] {
+                    let text = [before.as_bytes(), &cell, after.as_bytes()].concat();
+                    refuses(&text, number, before.len() + start.len());
+                }
+            }
+        }
+        // 20 and a type's 19 come first, and lines that are skipped aren't read.
+        refuses(&[b"!tsv8\ta\n\tx\t", bytes].concat(), 20, 8);
+        refuses(&[b"!tsv8\ta\n!type\t", bytes].concat(), 19, 14);
+        refuses(&[b"!tsv8\ta\n", bytes].concat(), 20, 8);
+        refuses(&[b"!tsv8", bytes, b"\ta"].concat(), 19, 0);
+        let skipped = [b"!tsv8\ta\n!", bytes, b"\t", bytes].concat();
+        gives(&skipped, &[[5, 6, 1]], &[4], &[], b"");
+    }
 }
 
 #[test]
