@@ -4,6 +4,9 @@ use crate::raw;
 use std::{fmt, io, str};
 
 /// The reasons for a refusal, by their numbers in `j8.h`.
+///
+/// No refusal has the number 5: it stood for all five faults of UTF-8, which are told
+/// apart now. [`is_utf8`](Refusal::is_utf8) asks for any of them.
 #[derive(Clone, Copy, Debug, PartialEq, Eq, Hash)]
 #[non_exhaustive]
 #[repr(u32)]
@@ -17,8 +20,6 @@ pub enum Refusal {
     NoOpening = 3,
     /// The text ends where more is needed.
     CutOff = 4,
-    /// Ill-formed UTF-8.
-    IllFormed = 5,
     /// A literal control byte, below 0x20.
     Control = 6,
     /// An escape is unknown, cut off or malformed.
@@ -57,16 +58,26 @@ pub enum Refusal {
     WrongType = 21,
     /// TSV8: a cell is empty, or blank.
     EmptyCell = 22,
+    /// UTF-8: a byte from 80 to bf or f8 to ff, with which no character begins.
+    Utf8BadEncoding = 23,
+    /// UTF-8: too few continuation bytes, also where the text, the line, the cell or the
+    /// comment ends.
+    Utf8Incomplete = 24,
+    /// UTF-8: more bytes than the character needs.
+    Utf8Overlong = 25,
+    /// UTF-8: half of a surrogate pair, from d800 to dfff.
+    Utf8Surrogate = 26,
+    /// UTF-8: a number above 10ffff.
+    Utf8TooLarge = 27,
 }
 
 impl Refusal {
-    /// All of them, in the order of their numbers, which begin at 1.
+    /// All of them, in the order of their numbers, which begin at 1 and leave out 5.
     pub const ALL: &'static [Refusal] = &[
         Refusal::Unfit,
         Refusal::TooLong,
         Refusal::NoOpening,
         Refusal::CutOff,
-        Refusal::IllFormed,
         Refusal::Control,
         Refusal::BadEscape,
         Refusal::Surrogate,
@@ -84,11 +95,37 @@ impl Refusal {
         Refusal::BadLine,
         Refusal::WrongType,
         Refusal::EmptyCell,
+        Refusal::Utf8BadEncoding,
+        Refusal::Utf8Incomplete,
+        Refusal::Utf8Overlong,
+        Refusal::Utf8Surrogate,
+        Refusal::Utf8TooLarge,
     ];
 
-    /// Its number, from 1 to 22.
+    /// Its number, from 1 to 27 and never 5.
     pub const fn number(self) -> u32 {
         self as u32
+    }
+
+    /// Whether it is a fault of UTF-8: one of the five from
+    /// [`Utf8BadEncoding`](Refusal::Utf8BadEncoding) to
+    /// [`Utf8TooLarge`](Refusal::Utf8TooLarge). A name in Latin-1, say, has mostly one
+    /// of the first two. Only `b'...'` can hold such bytes.
+    ///
+    /// ```
+    /// let error = j8::read_to_vec(b"\"caf\xe9\"").unwrap_err();
+    /// assert_eq!(error.refusal, j8::Refusal::Utf8Incomplete);
+    /// assert!(error.refusal.is_utf8());
+    /// ```
+    pub const fn is_utf8(self) -> bool {
+        matches!(
+            self,
+            Refusal::Utf8BadEncoding
+                | Refusal::Utf8Incomplete
+                | Refusal::Utf8Overlong
+                | Refusal::Utf8Surrogate
+                | Refusal::Utf8TooLarge
+        )
     }
 }
 
@@ -113,9 +150,8 @@ impl TryFrom<u32> for Refusal {
     type Error = u32;
 
     fn try_from(number: u32) -> Result<Refusal, u32> {
-        let index = usize::try_from(number).ok().and_then(|n| n.checked_sub(1));
-        let refusal = index.and_then(|n| Refusal::ALL.get(n));
-        refusal.copied().ok_or(number)
+        let mut all = Refusal::ALL.iter().copied();
+        all.find(|refusal| refusal.number() == number).ok_or(number)
     }
 }
 
@@ -192,6 +228,11 @@ impl Error {
     /// The refusal's number.
     pub const fn number(&self) -> u32 {
         self.refusal.number()
+    }
+
+    /// Whether it is a fault of UTF-8, as of [`Refusal::is_utf8`].
+    pub const fn is_utf8(&self) -> bool {
+        self.refusal.is_utf8()
     }
 
     /// What an answer of the library says, if it is a refusal. Line 0 is none.

@@ -106,7 +106,7 @@ impl TryFrom<u32> for Kind {
 /// ```
 ///
 /// # Errors
-/// Refusals 2, 4 to 11 and 13 to 16 of the text, then
+/// Refusals 2, 4, 6 to 11, 13 to 16 and 23 to 27 of the text, then
 /// [`NoRoom`](crate::Refusal::NoRoom).
 pub fn read_json8<'a>(
     text: &'a [u8],
@@ -486,7 +486,7 @@ impl Json8 {
     /// text: brackets are read to a depth of 32. The room is allocated.
     ///
     /// # Errors
-    /// Refusals 2, 4 to 11 and 13 to 16 with their place.
+    /// Refusals 2, 4, 6 to 11, 13 to 16 and 23 to 27 with their place.
     pub fn read(text: impl Into<Vec<u8>>) -> Result<Json8, Error> {
         let text = text.into();
         // A text over the cap is refused anyway and needs no room.

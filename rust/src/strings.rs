@@ -39,7 +39,8 @@ pub(crate) fn length(result: raw::j8_result) -> Result<usize, Error> {
 /// ```
 ///
 /// # Errors
-/// Refusals 2 to 12: the text is too long, malformed, or there is no room.
+/// Refusals 2 to 4, 6 to 12 and 23 to 27: the text is too long, malformed, or there is
+/// no room.
 pub fn read(text: &[u8], out: &mut [u8]) -> Result<usize, Error> {
     length(raw::string_read(text, out))
 }
@@ -64,7 +65,7 @@ pub fn write(data: &[u8], out: &mut [u8]) -> Result<usize, Error> {
 /// Reads a J8 string's text into a vector of its own.
 ///
 /// # Errors
-/// Refusals 2 to 11, as of [`read`].
+/// Refusals 2 to 4, 6 to 11 and 23 to 27, as of [`read`].
 pub fn read_to_vec(text: &[u8]) -> Result<Vec<u8>, Error> {
     // A text over the cap is refused anyway and needs no room.
     let mut out = vec![0; text.len().min(TEXT_MAX)];

@@ -165,7 +165,7 @@ impl fmt::Debug for Cell<'_> {
 /// ```
 ///
 /// # Errors
-/// Refusals 2, 4 to 11 and 19 to 22 of the text, then
+/// Refusals 2, 4, 6 to 11 and 19 to 27 of the text, then
 /// [`NoRoom`](crate::Refusal::NoRoom) if any of the four is short.
 pub fn read_tsv8<'a>(
     text: &'a [u8],
@@ -553,7 +553,7 @@ impl Tsv8 {
     /// Reads a text, with room for all that it can hold. The room is allocated.
     ///
     /// # Errors
-    /// Refusals 2, 4 to 11 and 19 to 22 with their place.
+    /// Refusals 2, 4, 6 to 11 and 19 to 27 with their place.
     pub fn read(text: impl Into<Vec<u8>>) -> Result<Tsv8, Error> {
         let text = text.into();
         // A text over the cap is refused anyway and needs no room. Else there is a

@@ -214,8 +214,8 @@ impl Upload {
     ///
     /// # Errors
     /// The refusal that an earlier call got; [`Ended`](Refusal::Ended) after a
-    /// finish; refusals 2, 4 to 11 and 17 with their line and place. The byte that
-    /// causes one and those behind it aren't taken.
+    /// finish; refusals 2, 4, 6 to 11, 17 and 23 to 27 with their line and place. The
+    /// byte that causes one and those behind it aren't taken.
     pub fn feed(&mut self, piece: &[u8]) -> Result<(), Error> {
         self.reserve(piece.len());
         self.calls.feed(piece, &mut *self.line, &mut self.out)
@@ -226,8 +226,8 @@ impl Upload {
     ///
     /// # Errors
     /// The refusal that an earlier call got; [`Ended`](Refusal::Ended) after
-    /// another finish; refusals 4 to 11 of the open line. A refused finish
-    /// doesn't end the upload.
+    /// another finish; refusals 4, 6 to 11 and 23 to 27 of the open line. A refused
+    /// finish doesn't end the upload.
     pub fn finish(&mut self) -> Result<(), Error> {
         self.reserve(0);
         self.calls.finish(&*self.line, &mut self.out)

@@ -49,12 +49,12 @@ fn reads(side: &Side) -> usize {
 
 #[test]
 fn library_reads() {
-    assert_eq!(reads(&LIBRARY), 827);
+    assert_eq!(reads(&LIBRARY), 1_091);
 }
 
 #[test]
 fn reference_reads() {
-    assert_eq!(reads(&REFERENCE), 827);
+    assert_eq!(reads(&REFERENCE), 1_091);
 }
 
 // --------------------------------------------------------- json8_show.txt

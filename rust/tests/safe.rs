@@ -53,17 +53,159 @@ fn vectors_of_their_own() {
 
 #[test]
 fn refusals_have_their_numbers() {
-    assert_eq!(Refusal::ALL.len(), 22);
-    for (index, &refusal) in Refusal::ALL.iter().enumerate() {
-        let number = index as u32 + 1;
-        assert_eq!(refusal.number(), number);
-        assert_eq!(u32::from(refusal), number);
-        assert_eq!(Refusal::try_from(number), Ok(refusal));
+    // From 1 to 27, but for 5, which stood for what 23 to 27 tell apart.
+    let numbers: Vec<u32> = (1..=27).filter(|&number| number != 5).collect();
+    let all = Refusal::ALL.iter();
+    assert!(all.map(|refusal| refusal.number()).eq(numbers.clone()));
+    for number in (0..=40).chain([255, 256, 257, 260, 65_541, u32::MAX]) {
+        let Ok(refusal) = Refusal::try_from(number) else {
+            assert_eq!(Refusal::try_from(number), Err(number));
+            assert!(!numbers.contains(&number), "{number}");
+            continue;
+        };
+        assert!(numbers.contains(&number), "{number}");
+        assert_eq!((refusal.number(), u32::from(refusal)), (number, number));
+        assert_eq!(refusal as u32, number);
         assert_eq!(error(refusal, 3).number(), number);
     }
-    for number in [0, 23, 256, 257, u32::MAX] {
-        assert_eq!(Refusal::try_from(number), Err(number));
+}
+
+/// Ill-formed characters, each with its fault.
+const FAULTS: [(&[u8], Refusal); 15] = [
+    (b"\x80", Refusal::Utf8BadEncoding),
+    (b"\xbf\xbf", Refusal::Utf8BadEncoding),
+    (b"\xf8\x88\x80\x80\x80", Refusal::Utf8BadEncoding),
+    (b"\xff", Refusal::Utf8BadEncoding),
+    (b"\xc1", Refusal::Utf8Incomplete),
+    (b"\xe2\x82", Refusal::Utf8Incomplete),
+    (b"\xed\xa0", Refusal::Utf8Incomplete),
+    (b"\xf7\xbf\xbf", Refusal::Utf8Incomplete),
+    (b"\xc1\xbf", Refusal::Utf8Overlong),
+    (b"\xe0\x9f\xbf", Refusal::Utf8Overlong),
+    (b"\xf0\x8d\xa0\x80", Refusal::Utf8Overlong),
+    (b"\xed\xa0\x80", Refusal::Utf8Surrogate),
+    (b"\xed\xbf\xbf", Refusal::Utf8Surrogate),
+    (b"\xf4\x90\x80\x80", Refusal::Utf8TooLarge),
+    (b"\xf7\xbf\xbf\xbf", Refusal::Utf8TooLarge),
+];
+
+#[test]
+fn five_are_faults_of_utf8() {
+    // It can be asked in a constant.
+    const _: () = assert!(Refusal::Utf8Incomplete.is_utf8());
+    for &refusal in Refusal::ALL {
+        let is_one = FAULTS.iter().any(|&(_, fault)| fault == refusal);
+        assert_eq!(refusal.is_utf8(), is_one, "{refusal:?}");
+        assert_eq!(error(refusal, 0).is_utf8(), is_one, "{refusal:?}");
+        assert_eq!(refusal.is_utf8(), (23..=27).contains(&refusal.number()));
     }
+}
+
+/// Each through every reader of a whole text, with its place.
+#[test]
+fn faults_of_utf8() {
+    for (bytes, fault) in FAULTS {
+        for mark in ["\"", "'", "u'", "b'", "\"caf\u{e9}/", "b'\\yff"] {
+            for end in ["", "\"", "'", "\n", "x", "\\", "\u{10ffff}"] {
+                let text = [mark.as_bytes(), bytes, end.as_bytes()].concat();
+                let expected = error(fault, mark.len());
+                assert_eq!(j8::read_to_vec(&text), Err(expected), "{text:?}");
+                assert_eq!(j8::read(&text, &mut []), Err(expected), "{text:?}");
+                let said = format!("refusal {} at byte {}: ", fault.number(), mark.len());
+                assert!(expected.to_string().starts_with(&said), "{expected}");
+            }
+        }
+        for before in [
+            "'",
+            "[1, \"a",
+            "{a: b'",
+            "{\"",
+            "#",
+            "[# c\t",
+            "{a: 1, # ",
+            "1 # c\n#",
+        ] {
+            for end in ["", "\n", "'", "\"]", " x"] {
+                let text = [before.as_bytes(), bytes, end.as_bytes()].concat();
+                let found = j8::Json8::read(text.clone()).map(|_| ());
+                assert_eq!(found, Err(error(fault, before.len())), "{text:?}");
+            }
+        }
+        // Outside strings and comments it is a byte that can't stand there.
+        let outside = j8::Json8::read([b"[", bytes].concat()).map(|_| ());
+        assert_eq!(outside, Err(error(Refusal::Misplaced, 1)));
+        for before in [
+            "!tsv8\t",
+            "!tsv8\ta\t'",
+            "!tsv8\ta\n\t x",
+            "!tsv8\ta\n\tb'",
+            "!tsv8\ta\n!type\tInt\n\t4",
+            "!tsv8\ta\n!type\tBool\n\t\"",
+        ] {
+            for end in ["", " ", "\r\n", "'", "x"] {
+                let text = [before.as_bytes(), bytes, end.as_bytes()].concat();
+                let found = j8::Tsv8::read(text.clone()).map(|_| ());
+                assert_eq!(found, Err(error(fault, before.len())), "{text:?}");
+            }
+        }
+        // A tab and an LF end a cell, and with it the character.
+        let text = [b"!tsv8\ta\tb\n\t", bytes, b"\t", bytes, b"\n"].concat();
+        assert_eq!(j8::Tsv8::read(text).map(|_| ()), Err(error(fault, 11)));
+    }
+}
+
+/// A line is read when it is whole: the answer doesn't hang on where it was cut.
+#[test]
+fn faults_of_utf8_in_pieces() {
+    for (bytes, fault) in FAULTS {
+        for (before, behind) in [
+            ("", "\n"),
+            (" \u{e9}", "\r\nx\n"),
+            ("b'a", "'\n"),
+            ("\"", ""),
+        ] {
+            let text = [b"a\n", before.as_bytes(), bytes, behind.as_bytes()].concat();
+            let expected = error(fault, before.len()).in_line(2);
+            for first in 0..=text.len() {
+                for second in first..=text.len() {
+                    let mut upload = j8::Upload::new();
+                    // The finish repeats what a feed was refused with.
+                    let pieces = [&text[..first], &text[first..second], &text[second..]];
+                    for piece in pieces {
+                        if let Err(error) = upload.feed(piece) {
+                            assert_eq!(error, expected);
+                        }
+                    }
+                    assert_eq!(
+                        upload.finish(),
+                        Err(expected),
+                        "{text:?}, {first}, {second}"
+                    );
+                    assert_eq!(upload.state().refusal, Some(expected));
+                    assert!(upload.records().eq([j8::Record::Text("a")]));
+                }
+            }
+        }
+    }
+}
+
+/// A state that an older version refused with 5 is none of today's.
+#[test]
+fn a_state_that_keeps_5() {
+    let mut state = j8::raw::upload_fresh();
+    state.refusal = 5;
+    assert_eq!(j8::UploadState::try_from(state), Err(5));
+    for number in 23..=27 {
+        state.refusal = number;
+        let kept = j8::UploadState::try_from(state).unwrap();
+        assert_eq!(kept.refusal.map(|error| error.number()), Some(number));
+        assert_eq!(j8::raw::j8_upload::from(kept), state);
+    }
+    // The library takes it all the same, and repeats the number.
+    state.refusal = 5;
+    let mut line = [0; j8::LINE_ROOM];
+    let fed = j8::raw::upload_feed(state, b"a\n", &mut line, &mut [0; 9]);
+    assert_eq!((fed.answer.number, fed.upload), (5, state));
 }
 
 /// The numbers, the rooms and the version are those of the header.
@@ -136,7 +278,7 @@ fn errors_say_what_and_where() {
         let start = format!("refusal {number} in line 7 at byte 5: ");
         assert!(in_line.to_string().starts_with(&start), "{in_line}");
     }
-    assert_eq!(sentences.len(), 22);
+    assert_eq!(sentences.len(), 26);
     assert!(error(Refusal::CutOff, 5)
         .to_string()
         .contains(" at byte 5: "));

@@ -143,7 +143,9 @@ fn texts() {
     assert_seen(
         "texts",
         &seen,
-        &[0, 2, 4, 5, 6, 7, 8, 9, 10, 11, 19, 20, 21, 22],
+        &[
+            0, 2, 4, 6, 7, 8, 9, 10, 11, 19, 20, 21, 22, 23, 24, 25, 26, 27,
+        ],
     );
     assert_seen("rooms", &rooms, &[0, 12]);
     assert_seen("right texts", &limits, &[0, 2, 19]);

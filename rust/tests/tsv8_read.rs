@@ -48,12 +48,12 @@ fn reads(read: Read) -> usize {
 
 #[test]
 fn library_reads() {
-    assert_eq!(reads(LIBRARY), 475);
+    assert_eq!(reads(LIBRARY), 725);
 }
 
 #[test]
 fn reference_reads() {
-    assert_eq!(reads(REFERENCE), 475);
+    assert_eq!(reads(REFERENCE), 725);
 }
 
 // ------------------------------------------------ the types of this crate

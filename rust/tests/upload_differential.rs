@@ -123,7 +123,10 @@ fn texts_in_pieces() {
             run(&calls, &line_lent, &lent, &mut seen, &what);
         }
     }
-    assert_seen(&seen, &[0, 2, 4, 5, 6, 7, 8, 9, 10, 11, 12, 17, 18]);
+    assert_seen(
+        &seen,
+        &[0, 2, 4, 6, 7, 8, 9, 10, 11, 12, 17, 18, 23, 24, 25, 26, 27],
+    );
     assert_seen(&kinds, &[1, 2]);
     assert!(whole_lines >= 3, "names of 1,024 bytes: {whole_lines}");
     assert!(near_limit >= 3, "uploads at the limit: {near_limit}");
@@ -187,7 +190,10 @@ fn drained_uploads() {
         }
         *seen.entry(number).or_default() += 1;
     }
-    assert_seen(&seen, &[0, 2, 4, 5, 6, 7, 8, 9, 10, 11, 17]);
+    assert_seen(
+        &seen,
+        &[0, 2, 4, 6, 7, 8, 9, 10, 11, 17, 23, 24, 25, 26, 27],
+    );
 }
 
 // ------------------------------------------------- states made by hand
@@ -262,8 +268,13 @@ fn states_made_by_hand() {
             state = our_fed.upload;
         }
     }
-    assert_seen(&seen, &[0, 1, 2, 4, 5, 6, 7, 8, 9, 10, 11, 12, 17, 18]);
-    assert_seen(&kept, &[1, 2, 12, 13, 17, 18, 99, u32::MAX]);
+    assert_seen(
+        &seen,
+        &[
+            0, 1, 2, 4, 6, 7, 8, 9, 10, 11, 12, 17, 18, 23, 24, 25, 26, 27,
+        ],
+    );
+    assert_seen(&kept, &[1, 2, 5, 12, 13, 17, 18, 99, u32::MAX]);
 }
 
 // ------------------------------------------------------------- the writer

@@ -67,7 +67,7 @@ fn run(file: &str, call: Call) -> usize {
 
 #[test]
 fn library_reads() {
-    assert_eq!(run("string_read.txt", library_read), 698);
+    assert_eq!(run("string_read.txt", library_read), 1_113);
 }
 
 #[test]
@@ -77,7 +77,7 @@ fn library_writes() {
 
 #[test]
 fn reference_reads() {
-    assert_eq!(run("string_read.txt", reference_read), 698);
+    assert_eq!(run("string_read.txt", reference_read), 1_113);
 }
 
 #[test]
