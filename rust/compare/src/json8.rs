@@ -15,7 +15,9 @@ pub const READ: Entry = Entry {
     case: read,
     numbers: &[(
         "json8_read",
-        &[0, 2, 4, 5, 6, 7, 8, 9, 10, 11, 12, 13, 14, 15, 16],
+        &[
+            0, 2, 4, 6, 7, 8, 9, 10, 11, 12, 13, 14, 15, 16, 23, 24, 25, 26, 27,
+        ],
     )],
     edges: &[
         "32,768 bytes read",
@@ -24,6 +26,15 @@ pub const READ: Entry = Entry {
         "33 deep",
         "1,024 nodes read",
         "node 1,025",
+        "cut off by the end",
+        "cut off by a character",
+        "cut off by an LF",
+        "cut off by a quote",
+        "incomplete past mending",
+        "c0, c1 or f5 to f7 cut off",
+        "an overlong surrogate",
+        "too large from f5 on",
+        "a comment's fault behind the value",
         "table exact",
         "table one number short",
         "table of no whole nodes",
@@ -163,6 +174,15 @@ fn read(random: &mut Random, run: &mut Run) -> Outcome {
         run.edge("33 deep", answer.number == 15);
         run.edge("1,024 nodes read", answer.nodes == 1_024);
         run.edge("node 1,025", answer.number == 16);
+        run.character_edges(&text, answer.number, answer.place);
+        if (23..=27).contains(&answer.number) {
+            // What stands before the fault's comment would be a text by itself.
+            let comment = text[..answer.place].iter().rposition(|&b| b == b'#');
+            let value = &text[..comment.unwrap_or(0)];
+            let (mut table, mut store) = (vec![0; table_room], vec![0; text.len()]);
+            let is_value = raw::json8_read(value, &mut table, &mut store).number == 0;
+            run.edge("a comment's fault behind the value", is_value);
+        }
         if answer.number != 0 {
             // Refused in any rooms, and before these are looked at.
             if random.once_in(4) {

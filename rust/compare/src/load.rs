@@ -185,7 +185,7 @@ fn main() {
     // Fewer uploads are a warm-up and no more.
     let flat = uploads <= WARM_UP || grown <= GROWTH;
     println!("grown by {grown} KiB, of {GROWTH} that are allowed");
-    let all = [0, 2, 4, 5, 6, 7, 8, 9, 10, 11, 17];
+    let all = [0, 2, 4, 6, 7, 8, 9, 10, 11, 17, 23, 24, 25, 26, 27];
     let missed: Vec<_> = all
         .iter()
         .filter(|number| !answers.contains_key(number))

@@ -77,6 +77,55 @@ impl Run {
         }
     }
 
+    /// The edges of a fault of UTF-8 that a text is refused with: what cuts a character
+    /// off, and where two faults could be told.
+    pub fn character_edges(&mut self, text: &[u8], number: u32, place: usize) {
+        if !(23..=27).contains(&number) {
+            return;
+        }
+        let bytes = &text[place..];
+        let tails = bytes[1..].iter().take_while(|b| matches!(b, 0x80..=0xbf));
+        let next = bytes.get(1 + tails.count());
+        let incomplete = number == 24;
+        self.edge("cut off by the end", incomplete && next.is_none());
+        self.edge(
+            "cut off by a character",
+            incomplete && matches!(next, Some(0xc0..)),
+        );
+        self.edge(
+            "cut off by a tab",
+            incomplete && matches!(next, Some(b'\t')),
+        );
+        self.edge(
+            "cut off by an LF",
+            incomplete && matches!(next, Some(b'\n')),
+        );
+        self.edge(
+            "cut off by a quote",
+            incomplete && matches!(next, Some(b'"' | b'\'')),
+        );
+        self.edge(
+            "incomplete past mending",
+            incomplete
+                && matches!(
+                    bytes,
+                    [0xe0, 0x80..=0x9f, ..]
+                        | [0xed, 0xa0..=0xbf, ..]
+                        | [0xf0, 0x80..=0x8f, ..]
+                        | [0xf4, 0x90..=0xbf, ..]
+                ),
+        );
+        self.edge(
+            "c0, c1 or f5 to f7 cut off",
+            incomplete && { matches!(bytes[0], 0xc0 | 0xc1 | 0xf5..=0xf7) },
+        );
+        self.edge(
+            "an overlong surrogate",
+            number == 25 && matches!(bytes, [0xf0, 0x8d, 0xa0..=0xbf, ..]),
+        );
+        self.edge("too large from f5 on", number == 27 && bytes[0] > 0xf4);
+    }
+
     /// One case, made from the seed and its number alone.
     fn case(&mut self, entry: &Entry, seed: u64, case: u64) {
         let mut random = Random::of(seed, case);

@@ -9,10 +9,20 @@ use j8_inputs::{strings, Lent};
 pub const READ: Entry = Entry {
     name: "string_read",
     case: read,
-    numbers: &[("string_read", &[0, 2, 3, 4, 5, 6, 7, 8, 9, 10, 11, 12])],
+    numbers: &[(
+        "string_read",
+        &[0, 2, 3, 4, 6, 7, 8, 9, 10, 11, 12, 23, 24, 25, 26, 27],
+    )],
     edges: &[
         "32,768 bytes read",
         "32,769 bytes",
+        "cut off by the end",
+        "cut off by a character",
+        "cut off by a quote",
+        "incomplete past mending",
+        "c0, c1 or f5 to f7 cut off",
+        "an overlong surrogate",
+        "too large from f5 on",
         "exact room",
         "one byte short",
         "no room",
@@ -33,7 +43,8 @@ pub const WRITE: Entry = Entry {
     ],
 };
 
-const TEMPTING: &[u8] = b"\"'\\uby{}0fF8dcDn/ \n\t\x00\x1f\x7f\x80\xbf\xc0\xc3\xe2\xed\xf0\xf4\xff";
+const TEMPTING: &[u8] =
+    b"\"'\\uby{}0fF8dcDn/ \n\t\x00\x1f\x7f\x80\xbf\xc0\xc3\xe2\xed\xf0\xf4\xf5\xf8\xff";
 
 /// What a call of both sides has, for strings and for lines.
 pub type Call<E> = (
@@ -141,6 +152,7 @@ fn read(random: &mut Random, run: &mut Run) -> Outcome {
             answer.number == 0 && text.len() == 32_768,
         );
         run.edge("32,769 bytes", answer.number == 2 && text.len() == 32_769);
+        run.character_edges(text, answer.number, answer.place);
     }
     Ok(())
 }

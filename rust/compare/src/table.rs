@@ -4,7 +4,7 @@ use crate::run::Entry;
 use std::collections::BTreeMap;
 
 /// The last number that a refusal has.
-const LAST: u32 = 22;
+const LAST: u32 = 27;
 
 /// What the process of one entry said.
 pub struct Report {

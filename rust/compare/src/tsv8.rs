@@ -13,7 +13,9 @@ pub const READ: Entry = Entry {
     case: read,
     numbers: &[(
         "tsv8_read",
-        &[0, 2, 4, 5, 6, 7, 8, 9, 10, 11, 12, 19, 20, 21, 22],
+        &[
+            0, 2, 4, 6, 7, 8, 9, 10, 11, 12, 19, 20, 21, 22, 23, 24, 25, 26, 27,
+        ],
     )],
     edges: &[
         "32,768 bytes read",
@@ -32,6 +34,15 @@ pub const READ: Entry = Entry {
         "19 at a line behind the first",
         "19 behind a tab",
         "20 behind data",
+        "cut off by the end",
+        "cut off by a character",
+        "cut off by a tab",
+        "cut off by an LF",
+        "cut off by a quote",
+        "incomplete past mending",
+        "c0, c1 or f5 to f7 cut off",
+        "an overlong surrogate",
+        "too large from f5 on",
         "names exact",
         "names one number short",
         "names of no whole threes",
@@ -250,6 +261,7 @@ fn edges(run: &mut Run, text: &[u8], answer: &j8_sheet, parts: &Parts) {
             && line.starts_with(b"!")
             && data_before.clone().any(|line| line.starts_with(b"\t")),
     );
+    run.character_edges(text, number, place);
     if number != 0 {
         return;
     }

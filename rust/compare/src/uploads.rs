@@ -18,13 +18,21 @@ pub const CALLS: Entry = Entry {
         ("upload_fresh", &[0]),
         (
             "upload_feed",
-            &[0, 1, 2, 4, 5, 6, 7, 8, 9, 10, 11, 12, 17, 18],
+            &[
+                0, 1, 2, 4, 6, 7, 8, 9, 10, 11, 12, 17, 18, 23, 24, 25, 26, 27,
+            ],
         ),
-        ("upload_finish", &[0, 1, 4, 5, 6, 7, 8, 9, 10, 11, 12, 18]),
-        ("upload_feed, kept", &[2, 4, 5, 6, 7, 8, 9, 10, 11, 12, 17]),
+        (
+            "upload_finish",
+            &[0, 1, 4, 6, 7, 8, 9, 10, 11, 12, 18, 23, 24, 25, 26, 27],
+        ),
+        (
+            "upload_feed, kept",
+            &[2, 4, 6, 7, 8, 9, 10, 11, 12, 17, 23, 24, 25, 26, 27],
+        ),
         (
             "upload_finish, kept",
-            &[2, 4, 5, 6, 7, 8, 9, 10, 11, 12, 17],
+            &[2, 4, 6, 7, 8, 9, 10, 11, 12, 17, 23, 24, 25, 26, 27],
         ),
     ],
     edges: &[
@@ -38,6 +46,15 @@ pub const CALLS: Entry = Entry {
         "an empty piece",
         "pieces of one byte",
         "drained to the end",
+        "cut off by the end",
+        "cut off by a character",
+        "cut off by a tab",
+        "cut off by a quote",
+        "incomplete past mending",
+        "c0, c1 or f5 to f7 cut off",
+        "an overlong surrogate",
+        "too large from f5 on",
+        "a character in two pieces",
     ],
 };
 
@@ -48,9 +65,14 @@ pub const STATES: Entry = Entry {
     numbers: &[
         (
             "upload_feed",
-            &[0, 1, 2, 4, 5, 6, 7, 8, 9, 10, 11, 12, 17, 18],
+            &[
+                0, 1, 2, 4, 6, 7, 8, 9, 10, 11, 12, 17, 18, 23, 24, 25, 26, 27,
+            ],
         ),
-        ("upload_finish", &[0, 1, 4, 5, 6, 7, 8, 9, 10, 11, 12, 18]),
+        (
+            "upload_finish",
+            &[0, 1, 4, 6, 7, 8, 9, 10, 11, 12, 18, 23, 24, 25, 26, 27],
+        ),
     ],
     edges: &[
         "line buffer of 1,023",
@@ -66,6 +88,7 @@ pub const STATES: Entry = Entry {
         "ended as 2",
         "refusal kept",
         "refusal 1 kept",
+        "refusal 5 kept",
         "refusal 18 kept",
         "refusal 99 kept",
     ],
@@ -164,6 +187,20 @@ impl Buffers {
                 }
             )
         })?;
+        if !repeated {
+            // The line that is refused is still held.
+            let held = fed.upload.held.min(line_room);
+            let line = &self.ours.0.items()[..held];
+            run.character_edges(line, fed.answer.number, fed.answer.place);
+        }
+        // Its first byte came with an earlier call, and the rest of it with this one.
+        run.edge(
+            "a character in two pieces",
+            !repeated
+                && matches!(fed.answer.number, 25..=27)
+                && state.held == fed.answer.place + 1
+                && state.lfs == fed.upload.lfs,
+        );
         Ok(fed)
     }
 }
@@ -367,6 +404,7 @@ fn states(random: &mut Random, run: &mut Run) -> Outcome {
             kept && fed.answer.line == state.line && fed.answer.place == state.place,
         );
         run.edge("refusal 1 kept", kept && number == 1 && fed.answer.line > 0);
+        run.edge("refusal 5 kept", kept && number == 5);
         run.edge("refusal 18 kept", kept && number == 18);
         run.edge("refusal 99 kept", kept && number == 99);
         if state.refusal != 0 || number == 1 || number == 18 {

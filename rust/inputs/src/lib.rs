@@ -3,6 +3,7 @@
 //! watched on every side. All of it comes from one random number generator, so that a
 //! seed gives the same again.
 
+pub mod characters;
 pub mod damaged;
 mod lent;
 pub mod lines;

@@ -1,6 +1,7 @@
 //! Texts of J8 Lines, good and damaged, cut into calls; states made by hand; lists of
 //! records.
 
+use crate::characters;
 use crate::random::Random;
 use j8::raw::j8_upload;
 use j8_reference::lines::{Call, LINE_MAX, UPLOAD_MAX};
@@ -50,6 +51,14 @@ const WRONG: [&[u8]; 24] = [
     b"\" x",
 ];
 
+/// One of these, or a damaged character.
+fn wrong(random: &mut Random) -> Vec<u8> {
+    match random.below(5) {
+        0 => characters::damaged(random),
+        _ => random.pick(&WRONG).to_vec(),
+    }
+}
+
 fn blanks(random: &mut Random, damaged: bool) -> Vec<u8> {
     let count = random.pick(&[0, 0, 0, 1, 2]);
     // The other bytes look like blanks and aren't.
@@ -73,8 +82,8 @@ pub fn line(random: &mut Random, damaged: bool) -> Vec<u8> {
     line.extend(mark.unwrap_or("").bytes());
     let start = line.len();
     for _ in 0..random.below(6) {
-        let piece: &[u8] = if damaged && random.once_in(4) {
-            random.pick(&WRONG)
+        let piece = if damaged && random.once_in(4) {
+            wrong(random)
         } else {
             let right: &[&str] = match (style, random.below(4)) {
                 (4.., 0) => &BARE,
@@ -84,7 +93,7 @@ pub fn line(random: &mut Random, damaged: bool) -> Vec<u8> {
                 (3, 2) => &BYTES,
                 _ => &PLAIN,
             };
-            random.pick(right).as_bytes()
+            random.pick(right).as_bytes().to_vec()
         };
         line.extend(piece);
     }
@@ -229,8 +238,8 @@ pub fn hand_made(random: &mut Random, room: usize) -> j8_upload {
             _ => 0,
         },
         refusal: match random.below(10) {
-            0 if random.once_in(2) => random.below(20) as u32,
-            0 => random.pick(&[1, 2, 12, 13, 17, 18, 99, u32::MAX]),
+            0 if random.once_in(2) => random.below(30) as u32,
+            0 => random.pick(&[1, 2, 5, 12, 13, 17, 18, 99, u32::MAX]),
             _ => 0,
         },
         line: random.pick(&[0, 0, 1, 7, most]),
@@ -247,7 +256,7 @@ fn payload(random: &mut Random) -> Vec<u8> {
         match random.below(5) {
             0 => payload.push(random.pick(b"\"'\\/\x08\x0c\n\r\t\x00\x1f\x7f")),
             1 if !valid => payload.push(random.byte()),
-            2 if !valid => payload.extend(random.pick(&WRONG)),
+            2 if !valid => payload.extend(wrong(random)),
             _ => payload.extend(random.pick(&PLAIN).bytes()),
         }
     }

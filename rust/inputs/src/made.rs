@@ -1,6 +1,7 @@
 //! JSON8 texts made by the grammar, each with what must come of it, and the
 //! same texts damaged.
 
+use crate::characters;
 use crate::random::Random;
 
 /// What a text says.
@@ -518,6 +519,25 @@ pub const TOKENS: [&[u8]; 66] = [
     b"\"\\u12\"",
 ];
 
+/// One of these; or a damaged character, which has a number of its own in a string
+/// and in a comment alone.
+fn token(random: &mut Random) -> Vec<u8> {
+    if !random.once_in(8) {
+        return random.pick(&TOKENS).to_vec();
+    }
+    let (before, behind) = random.pick(&[
+        ("", ""),
+        ("'", "'"),
+        ("\"a", "\""),
+        ("b'é", ""),
+        ("#", ""),
+        ("# c", "\n"),
+        ("#é", " \n"),
+    ]);
+    let bytes = characters::damaged(random);
+    [before.as_bytes(), &bytes, behind.as_bytes()].concat()
+}
+
 /// Damages a text, mostly at its tokens.
 pub fn damage(random: &mut Random, made: &Made, other: &Made) -> Vec<u8> {
     let mut text = made.text.clone();
@@ -528,16 +548,16 @@ pub fn damage(random: &mut Random, made: &Made, other: &Made) -> Vec<u8> {
     };
     match random.below(8) {
         0 => {
-            let new = random.pick(&TOKENS);
-            text.splice(token..token, new.iter().copied());
+            let new = self::token(random);
+            text.splice(token..token, new);
         }
         1 | 2 => {
             // In place of a token, or of its beginning.
             let behind = made.tokens.iter().find(|&&place| place > token);
             let most = behind.map_or(text.len(), |&place| place) - token;
             let gone = most.min(1 + random.below(most));
-            let new = random.pick(&TOKENS);
-            text.splice(token..token + gone, new.iter().copied());
+            let new = self::token(random);
+            text.splice(token..token + gone, new);
         }
         3 => text.truncate(random.below(text.len() + 1)),
         4 => {
@@ -548,7 +568,7 @@ pub fn damage(random: &mut Random, made: &Made, other: &Made) -> Vec<u8> {
             text.splice(at..end, other.text[from..to].iter().copied());
         }
         5 => {
-            let junk = random.pick(&TOKENS);
+            let junk = self::token(random);
             text.extend(junk);
         }
         _ => {
@@ -611,7 +631,7 @@ pub fn probe(random: &mut Random, brackets: usize, nodes: usize) -> Vec<u8> {
         }
         None => {}
     }
-    text.extend(random.pick(&TOKENS));
+    text.extend(token(random));
     if random.once_in(2) {
         text.extend(random.pick(&[b":0}]".as_slice(), b"]]]", b",1]", b" ", b":[", b"\xff"]));
     }

@@ -1,6 +1,7 @@
 //! Texts of J8 strings, made by the grammar and damaged, and bytes to be written
 //! as one.
 
+use crate::characters::{self, character};
 use crate::random::Random;
 
 /// The four opening marks.
@@ -24,61 +25,6 @@ fn plain_run(random: &mut Random) -> Vec<u8> {
         run.push(if b"\"'\\".contains(&b) { b'/' } else { b });
     }
     run
-}
-
-fn character(random: &mut Random) -> Vec<u8> {
-    let (low, high) = random.pick(&[
-        (0x80, 0x7ff),
-        (0x800, 0xfff),
-        (0x1000, 0xd7ff),
-        (0xd700, 0xd7ff),
-        (0xe000, 0xffff),
-        (0x10000, 0x3ffff),
-        (0x40000, 0xfffff),
-        (0x100000, 0x10ffff),
-    ]);
-    let code = match random.below(4) {
-        0 => low,
-        1 => high,
-        _ => random.from(low, high),
-    };
-    let c = char::from_u32(code).expect("the ranges hold characters");
-    c.to_string().into_bytes()
-}
-
-/// Ill-formed UTF-8 of each kind, or nearly so.
-fn damaged_character(random: &mut Random) -> Vec<u8> {
-    let tail = |random: &mut Random| random.from(0x80, 0xbf) as u8;
-    match random.below(9) {
-        0 => {
-            let mut bytes = character(random);
-            bytes.pop();
-            bytes
-        }
-        1 => {
-            let mut bytes = character(random);
-            let at = random.below(bytes.len());
-            bytes[at] = random.byte();
-            bytes
-        }
-        2 => vec![tail(random)],
-        3 => vec![random.pick(&[0xc0, 0xc1]), tail(random)],
-        4 => vec![0xe0, random.from(0x80, 0x9f) as u8, tail(random)],
-        5 => vec![0xed, random.from(0xa0, 0xbf) as u8, tail(random)],
-        6 => vec![
-            0xf0,
-            random.from(0x80, 0x8f) as u8,
-            tail(random),
-            tail(random),
-        ],
-        7 => vec![
-            0xf4,
-            random.from(0x90, 0xbf) as u8,
-            tail(random),
-            tail(random),
-        ],
-        _ => vec![random.from(0xf5, 0xff) as u8, tail(random), tail(random)],
-    }
 }
 
 fn any_case(random: &mut Random, digits: String) -> String {
@@ -152,17 +98,17 @@ fn right_piece(random: &mut Random, mark: usize) -> Vec<u8> {
 
 /// A piece that is wrong in this style, or in another one.
 fn damaged_piece(random: &mut Random) -> Vec<u8> {
-    match random.below(14) {
-        0 | 1 => damaged_character(random),
-        2 => vec![random.from(0, 0x1f) as u8],
-        3 => vec![b'\\', random.byte()],
-        4 => b"\\".to_vec(),
-        5 => json_escape(random).into_bytes(),
-        6 | 7 => byte_escape(random).into_bytes(),
-        8 => braced_escape(random, &[(0xd800, 0xdfff)]).into_bytes(),
-        9 => braced_escape(random, &[(0x110000, 0xffffff)]).into_bytes(),
-        10 => braced_escape(random, &[(0x1000000, 0xfffffff)]).into_bytes(),
-        11 => random
+    match random.below(15) {
+        0..=2 => characters::damaged(random),
+        3 => vec![random.from(0, 0x1f) as u8],
+        4 => vec![b'\\', random.byte()],
+        5 => b"\\".to_vec(),
+        6 => json_escape(random).into_bytes(),
+        7 | 8 => byte_escape(random).into_bytes(),
+        9 => braced_escape(random, &[(0xd800, 0xdfff)]).into_bytes(),
+        10 => braced_escape(random, &[(0x110000, 0xffffff)]).into_bytes(),
+        11 => braced_escape(random, &[(0x1000000, 0xfffffff)]).into_bytes(),
+        12 => random
             .pick(&[
                 r"\u{}",
                 r"\u{",
@@ -174,7 +120,7 @@ fn damaged_piece(random: &mut Random) -> Vec<u8> {
             ])
             .as_bytes()
             .to_vec(),
-        12 => random
+        13 => random
             .pick(&[
                 r"\y", r"\yf", r"\yg0", r"\y0g", r"\Yff", r"\U0041", r"\N{A}", r"\'", r"\x41",
             ])
@@ -275,7 +221,7 @@ pub fn data(random: &mut Random) -> Vec<u8> {
             5 => vec![random.pick(b"\"'\\/\x7f")],
             6 => vec![random.from(0, 0x1f) as u8],
             7 if !valid => (0..random.below(6)).map(|_| random.byte()).collect(),
-            8 if !valid => damaged_character(random),
+            8 if !valid => characters::damaged(random),
             9 if !valid => vec![0xed, random.from(0xa0, 0xbf) as u8, 0x80],
             _ => json_escape(random).into_bytes(),
         };

@@ -1,6 +1,7 @@
 //! TSV8 texts made by the rules, each with what must come of it, and the same
 //! texts and counter logs damaged.
 
+use crate::characters;
 use crate::made::{Piece, BYTES, COMMON, JSON, LITERAL, SINGLE};
 use crate::random::Random;
 
@@ -427,6 +428,17 @@ pub const CELLS: [&[u8]; 64] = [
     b"\"a\"\"b\"",
 ];
 
+/// One of these, or a damaged character, with blanks and marks around it or without.
+fn cell(random: &mut Random) -> Vec<u8> {
+    if !random.once_in(6) {
+        return random.pick(&CELLS).to_vec();
+    }
+    let before = random.pick(&["", " ", "4", "tr", "é", "'", "\"a", " b'"]);
+    let behind = random.pick(&["", "", " ", "\r", "'", "\"", "4"]);
+    let bytes = characters::damaged(random);
+    [before.as_bytes(), &bytes, behind.as_bytes()].concat()
+}
+
 /// Lines, each right in some places and wrong in most; the count of their cells is
 /// right for few texts.
 const LINES: [&[u8]; 18] = [
@@ -527,8 +539,8 @@ pub fn damage(random: &mut Random, text: &[u8], other: &[u8]) -> Vec<u8> {
             } else {
                 most
             };
-            let cell = random.pick(&CELLS);
-            text.splice(from..from + gone, cell.iter().copied());
+            let cell = cell(random);
+            text.splice(from..from + gone, cell);
         }
         3 if !starts.is_empty() => {
             // A cell more, or less by its tab.
