@@ -101,13 +101,13 @@ static void make_text(void)
         "a", "a", "a", "", " ", "\r", "scans/in", "''", "\"caf\xc3\xa9\"", "b'caf\\ye9'", "  b'\\yff'\t",
         "\"\\ud83e\\udd26\"",
     };
-    static const char *const faults[] = { "\"a\" x", "b'", "\xff", "u'\\yff'", "\"\\q\"" };
+    static const char *const faults[] = { "\"a\" x", "b'", "\xff", "\"caf\xe9\"", "\xed\xa0\x80", "u'\\yff'", "\"\\q\"" };
     size_t most = below(TEXT_MOST), length;
     const char *next;
 
     text_len = 0;
     while (text_len < most) {
-        next = below(600) == 0 ? faults[below(5)] : lines[below(12)];
+        next = below(900) == 0 ? faults[below(7)] : lines[below(12)];
         length = strlen(next);
         memcpy(text + text_len, next, length);
         text_len += length;

@@ -5,6 +5,7 @@
 #include <string.h>
 
 #include "j8.h"
+#include "characters.h"
 
 #define NUMBER_FILL 0xA5A5A5A5u
 #define FILL 0x5A
@@ -281,7 +282,7 @@ static int refusals(void)
 {
     return refuses("", J8_CUT_OFF, 0)
         && refuses("{a:1", J8_CUT_OFF, 4)
-        && refuses("1 # \xe2\x82", J8_ILL_FORMED, 4)
+        && refuses("1 # \xe2\x82", J8_UTF8_INCOMPLETE, 4)
         && refuses("['a\tb']", J8_CONTROL, 3)
         && refuses("[\"\\yff\"]", J8_BAD_ESCAPE, 2)
         && refuses("{'\\u{dc00}':1}", J8_SURROGATE, 2)
@@ -294,6 +295,28 @@ static int refusals(void)
         && refuses("\f1", J8_MISPLACED, 0)
         && refuses("# \r1", J8_CUT_OFF, 4)
         && refuses("[01]", J8_NUMBER, 1);
+}
+
+/* Each fault of UTF-8 in strings and in comments, before, inside and after the value. Elsewhere such a byte can't stand, or is behind the value. */
+static int faults(void)
+{
+    static const char *const starts[] = { "\"", "[1, 'a", "{b'", "{a: u'\xc3\xa9", "#", "[# c", "{a: 1 #\t", "1 # c\n#" };
+    static const char *const ends[] = { "", "\n", "\"]", "'" };
+    size_t at, start, end;
+
+    for (at = 0; at < CHARACTERS; at++) {
+        for (start = 0; start < sizeof starts / sizeof starts[0]; start++) {
+            for (end = 0; end < sizeof ends / sizeof ends[0]; end++) {
+                if (!refuses(between(starts[start], at, ends[end]), characters[at].number, strlen(starts[start]))) {
+                    return 0;
+                }
+            }
+        }
+        if (!refuses(between("[", at, "]"), J8_MISPLACED, 1) || !refuses(between("1 ", at, ""), J8_TRAILING, 2)) {
+            return 0;
+        }
+    }
+    return 1;
 }
 
 /* A list of so many nodes in all, the last ones as told. */
@@ -384,7 +407,7 @@ static int nothing_lent(void)
 
 int main(void)
 {
-    if (!rooms() || !walked() || !shown() || !made_by_hand() || !refusals() || !limits()
+    if (!rooms() || !walked() || !shown() || !made_by_hand() || !refusals() || !faults() || !limits()
         || !nothing_lent()) {
         return 1;
     }

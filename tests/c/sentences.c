@@ -7,7 +7,9 @@
 #include "j8.h"
 
 #define FILL 0xA5
-#define LAST J8_EMPTY_CELL
+#define LAST J8_UTF8_TOO_LARGE
+/* No refusal has this number any more: 23 to 27 took its place. */
+#define GONE 5
 
 static unsigned long checks;
 static uint8_t told[LAST + 1][J8_SENTENCE_ROOM];
@@ -63,9 +65,18 @@ static int asked(uint32_t number, uint8_t *sentence, size_t *length)
         && check(filled(out, 0, sizeof out), "a refused call writes nothing");
 }
 
+/* What the five faults of UTF-8 say, from 23 on. */
+static const char *const faults[] = {
+    "no UTF-8 character begins with this byte; only b'' can hold it, written as \\yhh",
+    "this UTF-8 character isn't whole: it is cut off, or in another encoding; only b'' can hold it, written as \\yhh",
+    "overlong: UTF-8 writes this character with fewer bytes; only b'' can hold it, written as \\yhh",
+    "this is half of a surrogate pair, which UTF-8 never has; only b'' can hold it, written as \\yhh",
+    "this UTF-8 form is of a number above 10ffff, which no character has; only b'' can hold it, written as \\yhh"
+};
+
 static int sentences(void)
 {
-    static const uint32_t others[] = { 0, LAST + 1, 256, 65537, 4294967295u };
+    static const uint32_t others[] = { 0, GONE, LAST + 1, 256, 256 + GONE, 65537, 4294967295u };
     static const char unknown[] = "no refusal has this number", trailing[] = "there is more behind the end of the string or value";
     uint8_t sentence[J8_SENTENCE_ROOM];
     uint32_t m, n;
@@ -73,15 +84,24 @@ static int sentences(void)
     j8_result said;
 
     for (n = 1; n <= LAST; n++) {
+        if (n == GONE) {
+            continue;
+        }
         if (!asked(n, told[n], &lengths[n])) {
             return 0;
         }
         for (m = 1; m < n; m++) {
-            if (!check(lengths[m] != lengths[n] || memcmp(told[m], told[n], lengths[n]) != 0, "no two are alike")) {
+            if (m != GONE && !check(lengths[m] != lengths[n] || memcmp(told[m], told[n], lengths[n]) != 0, "no two are alike")) {
                 return 0;
             }
         }
         if (!check(lengths[n] != sizeof unknown - 1 || memcmp(told[n], unknown, lengths[n]) != 0, "none is that of no refusal")) {
+            return 0;
+        }
+    }
+    for (i = 0; i < sizeof faults / sizeof faults[0]; i++) {
+        n = (uint32_t)(J8_UTF8_BAD_ENCODING + i);
+        if (!check(lengths[n] == strlen(faults[i]) && memcmp(told[n], faults[i], lengths[n]) == 0, "what a fault of UTF-8 says")) {
             return 0;
         }
     }

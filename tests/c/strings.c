@@ -5,6 +5,7 @@
 #include <string.h>
 
 #include "j8.h"
+#include "characters.h"
 
 #define FILL 0xA5
 #define SPARE 8
@@ -110,8 +111,28 @@ static int examples(void)
         && refuses("b'\\yf'", J8_BAD_ESCAPE, 2)
         && gives("\"\\udbff\\udfff\"", "\xf4\x8f\xbf\xbf", 4)
         && refuses("scans", J8_NO_OPENING, 0)
-        && refuses("\"a\xe2\x82\"", J8_ILL_FORMED, 2)
+        && refuses("\"a\xe2\x82\"", J8_UTF8_INCOMPLETE, 2)
         && refuses("\"a\tb\"", J8_CONTROL, 2);
+}
+
+/* Each fault of UTF-8 in each style, before the end of the text and before bytes that end the character. */
+static int faults(void)
+{
+    static const char *const marks[] = { "\"", "'\\n", "u'a", "b'\xc3\xa9" };
+    static const char *const ends[] = { "", "\"", "'", "\\", "\xc0" };
+    size_t at, mark, end;
+
+    for (at = 0; at < CHARACTERS; at++) {
+        for (mark = 0; mark < sizeof marks / sizeof marks[0]; mark++) {
+            for (end = 0; end < sizeof ends / sizeof ends[0]; end++) {
+                if (!refuses(between(marks[mark], at, ends[end]), characters[at].number, strlen(marks[mark]))) {
+                    return 0;
+                }
+            }
+        }
+    }
+    return gives("'\xc2\x80\xdf\xbf\xe0\xa0\x80\xed\x9f\xbf\xee\x80\x80\xef\xbf\xbf'", "\xc2\x80\xdf\xbf\xe0\xa0\x80\xed\x9f\xbf\xee\x80\x80\xef\xbf\xbf", 16)
+        && gives("'\xf0\x90\x80\x80\xf4\x8f\xbf\xbf'", "\xf0\x90\x80\x80\xf4\x8f\xbf\xbf", 8);
 }
 
 static int forms(void)
@@ -232,7 +253,7 @@ static int version(void)
 
 int main(void)
 {
-    if (!version() || !examples() || !forms() || !nulls() || !cap() || !round_trips()) {
+    if (!version() || !examples() || !faults() || !forms() || !nulls() || !cap() || !round_trips()) {
         return 1;
     }
     printf("c: %lu checks passed\n", checks);

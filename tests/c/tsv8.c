@@ -5,6 +5,7 @@
 #include <string.h>
 
 #include "j8.h"
+#include "characters.h"
 
 #define NUMBER_FILL 0xA5A5A5A5u
 #define FILL 0x5A
@@ -229,7 +230,8 @@ static int refusals(void)
         && fails("!tsv8\ta\n!type\tInt\n\t-5", J8_WRONG_TYPE, 19)
         && fails("!tsv8\ta\n!type\tBool\n\t  \"true\"", J8_WRONG_TYPE, 20)
         && fails("!tsv8\ta\n!type\tBool\n\t\"true ", J8_CUT_OFF, 25)
-        && fails("!tsv8\ta\n!type\tInt\n\t4\xff", J8_ILL_FORMED, 20)
+        && fails("!tsv8\ta\n!type\tInt\n\t4\xff", J8_UTF8_BAD_ENCODING, 20)
+        && fails("!tsv8\ta\n!type\tInt\n\t4\xe2\x82", J8_UTF8_INCOMPLETE, 20)
         && fails("!tsv8\ta\n\tx\ry", J8_CONTROL, 10)
         && fails("!tsv8\ta\r!type", J8_CONTROL, 7)
         && fails("!tsv8\ta\n\t\"\\q\"", J8_BAD_ESCAPE, 10)
@@ -319,8 +321,8 @@ static int answered(const uint8_t *text, size_t length)
     size_t at;
 
     if (got.number != 0) {
-        return check((got.number >= J8_CUT_OFF && got.number <= J8_TRAILING)
-                         || (got.number >= J8_BAD_HEADER && got.number <= J8_EMPTY_CELL), "a number of the list")
+        return check(got.number == J8_CUT_OFF || (got.number >= J8_CONTROL && got.number <= J8_TRAILING)
+                         || (got.number >= J8_BAD_HEADER && got.number <= J8_UTF8_TOO_LARGE), "a number of the list")
             && check(got.place <= length, "a place in the text")
             && check(got.columns == 0 && got.cells == 0 && got.stored == 0, "no counts")
             && check(untouched(0, 0, 0), "a refusal leaves all four");
@@ -364,7 +366,9 @@ static int each_byte(void)
         } else if (byte < 0x20) {
             passed = refused_with(got, J8_CONTROL, at, "a control");
         } else if (byte >= 0x80) {
-            passed = refused_with(got, J8_ILL_FORMED, at, "no UTF-8");
+            uint32_t number = byte < 0xc0 || byte >= 0xf8 ? J8_UTF8_BAD_ENCODING : J8_UTF8_INCOMPLETE;
+
+            passed = refused_with(got, number, at, "no UTF-8");
         } else {
             passed = check(got.number == 0 && got.cells == 1 && untouched(1, 1, 0), "one byte")
                 && check(cells[0] == J8_CELL_STR && cells[1] == at && cells[2] == 1, "one byte");
@@ -434,13 +438,39 @@ static int monotone(void)
     return 1;
 }
 
+/* Each fault of UTF-8 in names and in cells of each sort, before what ends a cell. Types and lines that are skipped aren't read. */
+static int faults(void)
+{
+    static const char *const starts[] = {
+        "!tsv8\t", "!tsv8\ta\t 'b", "!tsv8\ta\n\t", "!tsv8\ta\n\tx\n\t\"", "!tsv8\ta\n!type\tInt\n\t4", "!tsv8\ta\n!type\tBool\n\t b'"
+    };
+    static const char *const ends[] = { "", " \r", "\n", "'", "4" };
+    size_t at, start, end;
+
+    for (at = 0; at < CHARACTERS; at++) {
+        for (start = 0; start < sizeof starts / sizeof starts[0]; start++) {
+            for (end = 0; end < sizeof ends / sizeof ends[0]; end++) {
+                if (!fails(between(starts[start], at, ends[end]), characters[at].number, strlen(starts[start]))) {
+                    return 0;
+                }
+            }
+        }
+        if (!fails(between("!tsv8\ta\tb\n\t", at, "\tx"), characters[at].number, 11)
+            || !fails(between("!tsv8\ta\n!type\t", at, ""), J8_BAD_HEADER, 14)
+            || !check(reading(between("!tsv8\ta\n!x\t", at, ""), strlen(between("!tsv8\ta\n!x\t", at, "")), ample).number == 0, "skipped")) {
+            return 0;
+        }
+    }
+    return 1;
+}
+
 static int hostile_texts(void)
 {
     int passed = monotone();
 
     cells_watched = J8_TEXT_CELLS_ROOM(LOG + 1) + SPARE;
     store_watched = LOG + 1 + SPARE;
-    return passed && damaged();
+    return passed && damaged() && faults();
 }
 
 int main(void)

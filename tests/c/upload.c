@@ -5,6 +5,7 @@
 #include <string.h>
 
 #include "j8.h"
+#include "characters.h"
 
 #define LINE_FILL 0xA5
 #define FILL 0x5A
@@ -210,8 +211,8 @@ static int refusals(void)
 
     return answered(fed, J8_TRAILING, 1, 2, "fault without room")
         && refuses(" \"a ", J8_CUT_OFF, 3)
-        && refuses("a\xe2\x82", J8_ILL_FORMED, 1)
-        && refuses("\"\xe2\x82\"", J8_ILL_FORMED, 1)
+        && refuses("a\xe2\x82", J8_UTF8_INCOMPLETE, 1)
+        && refuses("\"\xe2\x82\"", J8_UTF8_INCOMPLETE, 1)
         && refuses("a\rb", J8_CONTROL, 1)
         && refuses("\t\"a\tb\"", J8_CONTROL, 3)
         && refuses("\"\\yff\"", J8_BAD_ESCAPE, 1)
@@ -219,6 +220,46 @@ static int refusals(void)
         && refuses("u'\\u{110000}'", J8_TOO_LARGE, 2)
         && refuses(" u'\\yff'", J8_BYTE_ESCAPE, 3)
         && refuses("\"a\" # x", J8_TRAILING, 3);
+}
+
+/* Each fault of UTF-8 in bare and quoted lines. Where a piece ends makes no difference, inside the character too; blanks are no part of the line. */
+static int faults(void)
+{
+    static const char *const starts[] = { "", " \xc3\xa9", "\"", "\tb'\\yff" };
+    static const char *const ends[] = { "", " \r", "\t.", "'", "\"" };
+    size_t at, start, end;
+
+    for (at = 0; at < CHARACTERS; at++) {
+        for (start = 0; start < sizeof starts / sizeof starts[0]; start++) {
+            for (end = 0; end < sizeof ends / sizeof ends[0]; end++) {
+                if (!refuses(between(starts[start], at, ends[end]), characters[at].number, strlen(starts[start]))) {
+                    return 0;
+                }
+            }
+        }
+    }
+    return 1;
+}
+
+/* 5 stood for these faults and isn't given any more. A state that keeps it repeats it, as any number. */
+static int kept(void)
+{
+    static const uint32_t numbers[] = { 5, J8_UTF8_BAD_ENCODING, J8_UTF8_TOO_LARGE, J8_UTF8_TOO_LARGE + 1 };
+    size_t i;
+
+    for (i = 0; i < sizeof numbers / sizeof numbers[0]; i++) {
+        j8_upload told = refused(begin(40), numbers[i], 3, 4);
+        j8_fed fed = feed(told, "x\n", 2, 40);
+
+        if (!answered(fed, numbers[i], 3, 4, "kept") || !same(fed.upload, told, "kept")) {
+            return 0;
+        }
+        fed = finish(told, 40);
+        if (!answered(fed, numbers[i], 3, 4, "kept") || !same(fed.upload, told, "kept")) {
+            return 0;
+        }
+    }
+    return 1;
 }
 
 /* Unfit buffers and states change nothing. */
@@ -431,7 +472,7 @@ static int round_trip(void)
 
 int main(void)
 {
-    if (!whole_case() || !refusals() || !unfit() || !line_limit() || !upload_limit()
+    if (!whole_case() || !refusals() || !faults() || !kept() || !unfit() || !line_limit() || !upload_limit()
         || !lines_written() || !round_trip()) {
         return 1;
     }

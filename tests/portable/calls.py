@@ -76,14 +76,15 @@ def upload_vectors():
 
 
 def line_vectors():
-    """A line by a feed and a finish, and with an LF instead of the finish."""
+    """A line by a feed and a finish, and with an LF instead of the finish. One that is too long is refused by the feed already."""
     for line, outcome, number, place, payload in cases("line_read"):
         payload = raw(payload)
         record = len(payload).to_bytes(2, "little") + bytes([int(number), 0]) + payload if outcome == "record" else b""
         answer = "%s,1,%s;" % (number, place) if outcome == "refused" else "0,0,0;"
+        fed = answer if number == "2" and outcome == "refused" else "0,0,0;"
         for reader in ("E", "F0a"):
             for room in (len(record), len(record) + 50):
-                yield "upload 1024 %d F%s %s" % (room, line, reader), "0,0,0;%s ? %s ?" % (answer, over(record, room, 0xBB))
+                yield "upload 1024 %d F%s %s" % (room, line, reader), "%s%s ? %s ?" % (fed, answer, over(record, room, 0xBB))
 
 
 def read_vectors():
@@ -118,7 +119,7 @@ def sheet_vectors():
 
 def sentence_calls():
     """Other tests have their words: here builds are compared."""
-    for which in list(range(25)) + [255, 2**32 - 1]:
+    for which in list(range(30)) + [255, 2**32 - 1]:
         for room in (0, 20, 60, 128):
             yield "sentence %d %d" % (which, room), "? ?"
     yield "version", "?"
@@ -151,6 +152,8 @@ def held(expected, got):
 TOKENS = """" ' u' b' \\ \\u \\u{ } d8 3f \\y ff a xyz \x20 \n \t \r \xc3\xa9 \xe2\x82\xac \xf0\x9f\x98\x80 \xed\xa0\x80 \xff \x00 \x7f \\n \\ud83e \\udd84
  [ ] { } : , 1 -0.5e3 null true false # key "k": \\" 0 . e \\/ \\u{10ffff} \\u{110000} \\u{d800} \\yfe""".split(" ")
 TOKENS = [token.strip("\n").encode("latin-1") or b"\n" for token in TOKENS] + [b" ", b"a" * 52, b"\xc3\xa9" * 17, b"abcdefgh"]
+# Each fault of UTF-8. They come apart from the rest, so that most texts have none.
+FAULTS = [b"\x80", b"\xf8", b"\xc1", b"\xe2\x82", b"\xe0\x80", b"\xf7\xbf\xbf", b"\xc0\x80", b"\xe0\x9f\xbf", b"\xf0\x8d\xa0\x80", b"\xed\xbf\xbf", b"\xf4\x90\x80\x80", b"\xf7\xbf\xbf\xbf"]
 
 
 class Chance:
@@ -159,7 +162,7 @@ class Chance:
         self.makers = [self.string_read, self.string_write, self.lines_write, self.upload, self.state, self.read, self.write, self.show, self.sheet, self.sentence]
 
     def noise(self, most):
-        return b"".join(self.r.choice(TOKENS) for _ in range(self.r.randrange(most)))
+        return b"".join(self.r.choice(TOKENS if self.r.randrange(30) else FAULTS) for _ in range(self.r.randrange(most)))
 
     def quoted(self):
         mark = self.r.choice([b'"', b"'", b"u'", b"b'"])
@@ -206,7 +209,7 @@ class Chance:
         """From a state by hand: each field small, at its limit, past it, or about the middle and the end of all numbers."""
         def field(limit):
             return self.r.choice([0, 0, 1, 3, limit - 1, limit, limit + 1, self.top // 2, self.top // 2 + 1, self.top])
-        numbers = [field(1048576), field(3), field(1024), field(20), self.r.choice([0, 0, 0, 1, 7]), self.r.choice([0, 0, 0, 1, 5, 18, 99]), field(3), field(9)]
+        numbers = [field(1048576), field(3), field(1024), field(20), self.r.choice([0, 0, 0, 1, 7]), self.r.choice([0, 0, 0, 1, 5, 18, 23, 27, 99]), field(3), field(9)]
         return " ".join(["upload", "1024", str(self.r.choice([0, 20, 300])), "S" + ",".join(map(str, numbers))] + list(self.words(4)))
 
     def read(self):
@@ -248,7 +251,7 @@ class Chance:
         return "tsv8_read %s %d %d %d %d" % ((shown(text),) + rooms)
 
     def sentence(self):
-        return "sentence %d %d" % (self.r.randrange(25), self.r.randrange(130))
+        return "sentence %d %d" % (self.r.randrange(30), self.r.randrange(130))
 
 
 def main(words):
