@@ -43,8 +43,17 @@ echo "A name of two lines can't be told from two names, where each ends at its l
 j8 unquote --lines samples/two-lines.j8l
 echo "A byte order mark, as an editor may put it, makes a bare name of a quoted one:"
 j8 lines samples/bom.j8l
-echo "Latin-1 bytes in a bare line are refused where they stand; the good lines before them are kept:"
+echo "Bytes that aren't UTF-8 are refused where they stand, and the refusal says what is wrong with them; the good lines before them are kept."
+echo "Latin-1:"
 j8 lines samples/latin1.j8l
+echo "UTF-16, as an editor may save it:"
+j8 lines samples/utf16.j8l
+echo "An upload that was cut off inside a character:"
+j8 lines samples/cut-character.j8l
+echo "A slash in two bytes, which a check of paths may not see and a careless reader takes as a slash:"
+j8 lines samples/overlong-slash.j8l
+echo "CESU-8, which writes a character above ffff as two halves:"
+j8 json8 samples/cesu8.json8
 echo "Junk behind a closing quote, in a backup:"
 j8 lines samples/junk-after-quote.j8l
 echo "A backup that was cut off:"
