@@ -11,13 +11,14 @@ use lib.Seq.{drop-drop, drop-cons}
 use Rattle.prelude.specs.Pick.{pick}
 use Rattle.prelude.proofs.Cases.{split, never}
 use Rattle.utf8.specs.Class.{classOf}
-use Rattle.utf8.specs.declared.chars.Char.{Char}
 use Rattle.utf8.specs.declared.chars.Char.the-variants.{Good, Bad}
 use Rattle.utf8.specs.Utf8.{charLen, charFault, charBy, charAt}
+use Rattle.utf8.specs.inner.Checks.{lengthOrFault}
 use Rattle.utf8.proofs.ByteClasses.{by-byte}
 use Rattle.utf8.proofs.CharSteps.{one-byte}
 use Rattle.utf8.proofs.Characters.{char-le}
 use Rattle.utf8.proofs.Faults.{fault-number}
+use Rattle.utf8.proofs.Told.{length-good, fault-bad}
 use Rattle.notation.specs.declared.styles.Style.{Style}
 use Rattle.notation.specs.Literals.{literalRun}
 use Rattle.runs.specs.inner.Blocks.{Running}
@@ -183,15 +184,15 @@ module _ (s : List ℕ) (from at : ℕ) (i : Passing s from at) where
       pub control-stop : k ≡ 1 → (getD s at 0 ≡ 9 → ⊥) → Faulty 6 at ≡ bareFrom from 0 (drop from s)
       control-stop l g = controlled (is-control (getD s at 0) (sym ek ∙ l)) g
 
-      module _ (v : Char) (ev : v ≡ charAt (drop at s)) (l : 5 ≤ k) where
-        pub good-on : (n : ℕ) → v ≡ Good n → Passing s from (at + n)
-        good-on n e =
-            let (g, p) = good-is (drop at s) n (sym ev ∙ e) in
+      module _ (n : ℕ) (en : n ≡ lengthOrFault (drop at s)) (l : 5 ≤ k) where
+        pub good-on : n < 5 → Passing s from (at + n)
+        good-on e =
+            let (g, p) = good-is (drop at s) n (sym (length-good (drop at s) n en e)) in
             let m : 32 ≤ getD s at 0 = class-over l in
             moved n g p (λ q. absurd (omega arith))
 
-        pub further : (n : ℕ) → v ≡ Good n → 0 < n
-        further n e = let (g, p) = good-is (drop at s) n (sym ev ∙ e) in omega (arith, p)
+        pub further : n < 5 → 0 < n
+        further e = let (g, p) = good-is (drop at s) n (sym (length-good (drop at s) n en e)) in omega (arith, p)
 
-        pub bad-stop : (number : ℕ) → v ≡ Bad number → Faulty number at ≡ bareFrom from 0 (drop from s)
-        bad-stop number e = let (g, q) = bad-is (drop at s) number (sym ev ∙ e) in stuck number q g (class-over l)
+        pub bad-stop : 5 ≤ n → Faulty n at ≡ bareFrom from 0 (drop from s)
+        bad-stop e = let (g, q) = bad-is (drop at s) n (sym (fault-bad (drop at s) n en e)) in stuck n q g (class-over l)

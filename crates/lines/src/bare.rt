@@ -9,7 +9,6 @@ use prelude::refusals;
 use runs::blocks;
 use runs::literals;
 use utf8::chars;
-use utf8::chars::Char;
 use utf8::classes;
 
 // Nothing wrong, or a refusal's number and place.
@@ -38,15 +37,12 @@ fn check_from(t: &[u8; 256], s: &[u8], from: usize) -> Checked
             }
             return Checked::Faulty(refusals::CONTROL, at);
         }
-        let c = chars::char_at(t, s, at);
-        match c {
-            Char::Good(n) => {
-                at += n;
-            }
-            Char::Bad(number) => {
-                return Checked::Faulty(number, at);
-            }
+        let n = chars::long_or_fault(s, at, k);
+        if n < 5 {
+            at += n as usize;
+            continue;
         }
+        return Checked::Faulty(n, at);
     }
     Checked::Fine
 }
@@ -56,7 +52,7 @@ fn check_from(t: &[u8; 256], s: &[u8], from: usize) -> Checked
 pub(crate) fn check_bare(s: &[u8]) -> Checked
     ensures { λ r. ⌜ r ≡ bare (now (s .entry)) ⌝ }
 {
-    let at = blocks::strides(s, 0, Style::Json);
+    let at = blocks::strides_to_end(s, 0, Style::Json);
     if at == s.len() {
         return Checked::Fine;
     }

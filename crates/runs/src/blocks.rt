@@ -49,6 +49,21 @@ pub fn any_odd(q: u8, s: &[u8], at: usize, n: usize) -> bool
     found
 }
 
+// Whether one of n bytes is odd, from one place on or from another. One loop for both: two of constant length the compiler would unroll, and
+// test a byte twice in a wider word.
+fn any_odd_beside(q: u8, s: &[u8], a: usize, b: usize, n: usize) -> bool
+    requires { ⌜ (a + n ≤ length (now s)) × (b + n ≤ length (now s)) ⌝ }
+    ensures { λ r. ⌜ (r ≡ false → AllAlone q (now (s .entry)) a n × AllAlone q (now (s .entry)) b n) ⌝ }
+{
+    let mut found = false;
+    let mut k: usize = 0;
+    while k < n {
+        found = found | (odd(q, s[a + k]) | odd(q, s[b + k]));
+        k += 1;
+    }
+    found
+}
+
 fn narrow(k: usize) -> u8
     requires { ⌜ k < 32 ⌝ }
     ensures { λ r. ⌜ r ≡ k ⌝ }
@@ -193,7 +208,7 @@ fn last_alone(s: &[u8], from: usize, style: Style) -> usize
     }
     let q = styles::quote_of(style);
     let p = n - 33;
-    if any_odd(q, s, slices::least(from, p), 32) | any_odd(q, s, p, 32) {
+    if any_odd_beside(q, s, slices::least(from, p), p, 32) {
         return from;
     }
     n - 1
@@ -223,7 +238,7 @@ fn last_pairs(s: &[u8], from: usize, style: Style) -> usize
     behind(s, n - 1)
 }
 
-// The last byte of a text.
+// The last byte of a text, if it alone is left.
 fn last_byte(s: &[u8], from: usize, style: Style) -> usize
     requires { ⌜ from ≤ length (now s) ⌝ }
     ensures { λ r. ⌜ Running style (now (s .entry)) from r ⌝ }
@@ -248,8 +263,9 @@ fn long(s: &[u8], from: usize, style: Style) -> usize
     last_pairs(s, c, style)
 }
 
-// The same of any number.
-fn most(s: &[u8], from: usize, style: Style) -> usize
+// A place behind literal characters only, as far as blocks go: a character of three or four bytes ends them. Where they reach all but the
+// closing quote, the class table needn't be made.
+pub fn strides(s: &[u8], from: usize, style: Style) -> usize
     requires { ⌜ from ≤ length (now s) ⌝ }
     ensures { λ r. ⌜ Running style (now (s .entry)) from r ⌝ }
 {
@@ -259,12 +275,11 @@ fn most(s: &[u8], from: usize, style: Style) -> usize
     long(s, from, style)
 }
 
-// A place behind literal characters only, as far as blocks go: a character of three or four bytes ends them. Where they reach the end,
-// or all but the closing quote, the class table needn't be made.
-pub fn strides(s: &[u8], from: usize, style: Style) -> usize
+// The same of a text that no quote ends, its last byte too.
+pub fn strides_to_end(s: &[u8], from: usize, style: Style) -> usize
     requires { ⌜ from ≤ length (now s) ⌝ }
     ensures { λ r. ⌜ Running style (now (s .entry)) from r ⌝ }
 {
-    let a = most(s, from, style);
-    last_byte(s, a, style)
+    let at = strides(s, from, style);
+    last_byte(s, at, style)
 }

@@ -298,7 +298,7 @@ pub fn write(s: &[u8], out: &mut [u8]) -> Written
     ensures stored { λ r. ⌜ now (out .exit) ≡ wroteInto (writeString (now (s .entry))) (now (out .entry)) ⌝ }
 {
     let n = s.len();
-    let at = blocks::strides(&s[..n], 0, Style::Json);
+    let at = blocks::strides_to_end(&s[..n], 0, Style::Json);
     if at == n {
         return write_literal(s, out);
     }

@@ -58,13 +58,3 @@ at-end s at h = bad (drop at s) 24 (char-end s at h) (fault-end s at h)
 module _ (s : List ℕ) (at k : ℕ) (h : at < length s) (ek : k ≡ classOf (getD s at 0)) where
   pub is-one : k < 5 → Good 1 ≡ charAt (drop at s)
   is-one l = good (drop at s) 1 (one-byte s at k h ek l) (λ z. omega arith)
-
-  pub is-lone : (f : ℕ) → f ≡ charFault (drop at s) → 5 ≤ k → k < 6 → Bad f ≡ charAt (drop at s)
-  is-lone f q l m = bad (drop at s) f (lone-tail s at k h ek l m) q
-
-  module _ (n : ℕ) (en : n ≡ longLen k (getD (drop at s) 1 0) (getD (drop at s) 2 0) (getD (drop at s) 3 0)) (l : 6 ≤ k) where
-    pub is-cut : (f : ℕ) → f ≡ charFault (drop at s) → n ≡ 0 → Bad f ≡ charAt (drop at s)
-    is-cut f q z = bad (drop at s) f (long-char s at k h ek n en l ∙ z) q
-
-    pub is-long : (n ≡ 0 → ⊥) → Good n ≡ charAt (drop at s)
-    is-long z = good (drop at s) n (long-char s at k h ek n en l) z

@@ -8,4 +8,5 @@ pub mod Values
 pub mod Faults
 pub mod FaultSteps
 pub mod Named
+pub mod Told
 pub mod Claims

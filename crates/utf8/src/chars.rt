@@ -3,9 +3,9 @@ ghost use mathlib.Core.Path.{_≡_};
 ghost use mathlib.Core.Bool.{true, false};
 ghost use Prim.Native.Nat.{_+_, _-_, _<_, _≤_};
 ghost use lib.ListN.{length, getD, drop};
-ghost use Rattle.utf8.specs.Class.{IsTable};
+ghost use Rattle.utf8.specs.Class.{classOf, IsTable};
 ghost use Rattle.utf8.specs.Utf8.{between, lowOf, highOf, twoBytes, threeBytes, fourBytes, longLen, noStart, wanted, startBits, leastOf, valueFault, faultFrom, charFault, charAt, validUtf8};
-ghost use Rattle.utf8.specs.inner.Checks.{AllLow, LowFrom, LowBlocks, ValidUntil};
+ghost use Rattle.utf8.specs.inner.Checks.{lengthOrFault, AllLow, LowFrom, LowBlocks, ValidUntil};
 use crate::classes;
 use prelude::refusals;
 use prelude::slices;
@@ -225,6 +225,22 @@ fn fault_at(s: &[u8], at: usize) -> u32
     fault_from(s, at + 1, a)
 }
 
+// The length of the character at a place that begins with a byte of class k, no ASCII; or its fault, which is above any length. One call answers
+// both, so that `char_at` stays small enough to be put where it is called.
+pub fn long_or_fault(s: &[u8], at: usize, k: u8) -> u32
+    requires { ⌜ (at < length (now s)) × (k ≡ classOf (getD (now s) at 0)) × (5 ≤ k) ⌝ }
+    ensures { λ r. ⌜ r ≡ lengthOrFault (drop at (now (s .entry))) ⌝ }
+{
+    if k < 6 {
+        return fault_at(s, at);
+    }
+    let n = long_len(s, at, k);
+    if n == 0 {
+        return fault_at(s, at);
+    }
+    n as u32
+}
+
 // The character at a place.
 pub fn char_at(t: &[u8; 256], s: &[u8], at: usize) -> Char
     requires { ⌜ IsTable (now t) ⌝ }
@@ -237,14 +253,11 @@ pub fn char_at(t: &[u8; 256], s: &[u8], at: usize) -> Char
     if k < 5 {
         return Char::Good(1);
     }
-    if k < 6 {
-        return Char::Bad(fault_at(s, at));
+    let n = long_or_fault(s, at, k);
+    if n < 5 {
+        return Char::Good(n as usize);
     }
-    let n = long_len(s, at, k);
-    if n == 0 {
-        return Char::Bad(fault_at(s, at));
-    }
-    Char::Good(n)
+    Char::Bad(n)
 }
 
 // Whether one of n bytes isn't ASCII, or is DEL; without an early end, so that they are compared at once. A comparison with 128 would

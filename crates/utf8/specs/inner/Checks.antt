@@ -1,10 +1,16 @@
--- What the scans of the validity check promise each other: these speak of the code alone, and no rule cites them.
+-- What the check and the scans of validity promise each other: these speak of the code alone, and no rule cites them.
 -- Assumes nothing.
 use Prim.Native.Nat.{ℕ, _+_, _-_, _<_, _≤_}
 use mathlib.Core.List.{List}
 use mathlib.Core.Path.{_≡_}
+use lib.Dec.{eqb}
 use lib.ListN.{length, getD, drop}
-use Rattle.utf8.specs.Utf8.{charLen, validFrom}
+use Rattle.prelude.specs.Pick.{pick}
+use Rattle.utf8.specs.Utf8.{charLen, charFault, validFrom}
+
+-- the length of the character at the head, or where none stands its fault's number, which is above any length
+unfoldable pub lengthOrFault : List ℕ → ℕ
+lengthOrFault s = pick (eqb (charLen s) 0) (charFault s) (charLen s)
 
 -- bytes below DEL: the ASCII that a comparison with 127 tells
 abbrev pub AllLow : List ℕ → ℕ → ℕ → Type 0

@@ -6,8 +6,8 @@ use Rattle.lines.proofs.bare.check_bare.Tie as tie
 use native.Mathlib.Omega.{arith}
 use Rattle.lines.proofs.BareTexts.{run-fine, run-inside, behind-run}
 
-strides-requires : tie.Need-strides-requires
-strides-requires c κs =
+strides-to-end-requires : tie.Need-strides-to-end-requires
+strides-to-end-requires c κs =
     omega arith
 
 returns : tie.Need-returns
@@ -19,11 +19,11 @@ table-requires c κs = search needs
 
 literal-run-requires : tie.Need-literal-run-requires
 literal-run-requires c κs =
-    (c .before .table .ensures, c .before .before .before .strides .ensures .inside)
+    (c .before .table .ensures, c .before .before .before .strides-to-end .ensures .inside)
 
 check-from-requires : tie.Need-check-from-requires
 check-from-requires c κs =
-    (c .before .before .before .table .ensures, run-inside _ _ _ (c .before .before .before .before .before .strides .ensures) _ (c .before .literal-run .ensures))
+    (c .before .before .before .table .ensures, run-inside _ _ _ (c .before .before .before .before .before .strides-to-end .ensures) _ (c .before .literal-run .ensures))
 
 returns-2 : tie.Need-returns-2
 returns-2 c =
@@ -33,7 +33,7 @@ pub check-bare-spec : {M : Type 1} → statement M
 check-bare-spec =
     tie.close
     (tie.spec
-    strides-requires
+    strides-to-end-requires
     returns
     table-requires
     literal-run-requires

@@ -57,29 +57,24 @@ returns : tie.Need-returns Inv-loop μ-loop
 returns c =
     search control-stop
 
-char-at-requires : tie.Need-char-at-requires Inv-loop μ-loop
-char-at-requires c κs =
-    c .before .before .before .before .before .before .pre .0
+long-or-fault-requires : tie.Need-long-or-fault-requires Inv-loop μ-loop
+long-or-fault-requires c κs =
+    (omega arith, c .before .class-in .ensures, omega arith)
 
-enum-known-c : tie.Need-enum-known-c Inv-loop μ-loop
-enum-known-c c =
-    search needs
+cast-at : tie.Need-cast-at Inv-loop μ-loop
+cast-at c = search needs
 
 add-at-3 : tie.Need-add-at-3 Inv-loop μ-loop
 add-at-3 c =
-    let g = good-on _ _ _ (c .before .before .before .before .before .before .before .before .loop .inv) (omega arith) _ (c .before .before .before .before .before .class-in .ensures) _ (c .before .before .before .char-at .ensures) (omega arith) _ (c .before .c .given .1) in record { fits = omega (arith, g .inside) }
+    let g = good-on _ _ _ (c .before .before .before .before .before .before .loop .inv) (omega arith) _ (c .before .before .before .class-in .ensures) _ (c .before .long-or-fault .ensures) (omega arith) (omega arith) in record { fits = omega (arith, g .inside) }
 
 loop-less-3 : tie.Need-loop-less-3 Inv-loop μ-loop
 loop-less-3 c =
-    let g = good-on _ _ _ (c .before .before .before .before .before .before .before .before .loop .inv) (omega arith) _ (c .before .before .before .before .before .class-in .ensures) _ (c .before .before .before .char-at .ensures) (omega arith) _ (c .before .c .given .1) in omega (arith, g .inside, further _ _ _ (c .before .before .before .before .before .before .before .before .loop .inv) (omega arith) _ (c .before .before .before .before .before .class-in .ensures) _ (c .before .before .before .char-at .ensures) (omega arith) _ (c .before .c .given .1))
+    let g = good-on _ _ _ (c .before .before .before .before .before .before .loop .inv) (omega arith) _ (c .before .before .before .class-in .ensures) _ (c .before .long-or-fault .ensures) (omega arith) (omega arith) in omega (arith, g .inside, further _ _ _ (c .before .before .before .before .before .before .loop .inv) (omega arith) _ (c .before .before .before .class-in .ensures) _ (c .before .long-or-fault .ensures) (omega arith) (omega arith))
 
 loop-again-3 : tie.Need-loop-again-3 Inv-loop μ-loop
 loop-again-3 c =
     search good-on
-
-enum-known-c-2 : tie.Need-enum-known-c-2 Inv-loop μ-loop
-enum-known-c-2 c =
-    search needs
 
 returns-2 : tie.Need-returns-2 Inv-loop μ-loop
 returns-2 c =
@@ -105,11 +100,10 @@ check-from-spec =
     loop-less-2
     loop-again-2
     returns
-    char-at-requires
-    enum-known-c
+    long-or-fault-requires
+    cast-at
     add-at-3
     loop-less-3
     loop-again-3
-    enum-known-c-2
     returns-2
     returns-3)

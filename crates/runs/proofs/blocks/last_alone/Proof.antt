@@ -4,7 +4,6 @@ use borrow.Author.Needs.{needs}
 use Rattle.runs.proofs.blocks.last_alone.Statement.{statement}
 use Rattle.runs.proofs.blocks.last_alone.Tie as tie
 use native.Mathlib.Omega.{arith}
-use Rattle.prelude.proofs.Cases.{or-left, or-right}
 use Rattle.runs.proofs.BlockLaws.{over-two, least-near}
 
 returns : tie.Need-returns
@@ -28,11 +27,8 @@ quote-of-requires c κs = search needs
 least-requires : tie.Need-least-requires
 least-requires c κs = search needs
 
-any-odd-requires : tie.Need-any-odd-requires
-any-odd-requires c κs = search needs
-
-any-odd-requires-2 : tie.Need-any-odd-requires-2
-any-odd-requires-2 c κs = search needs
+any-odd-beside-requires : tie.Need-any-odd-beside-requires
+any-odd-beside-requires c κs = search needs
 
 returns-4 : tie.Need-returns-4
 returns-4 c = search needs
@@ -42,7 +38,8 @@ sub-result c = search needs
 
 returns-5 : tie.Need-returns-5
 returns-5 c =
-    over-two _ _ _ _ (c .before .before .before .before .quote-of .ensures) _ _ 32 _ (omega arith) (least-near _ _ _ 32 (c .before .before .before .least .ensures .2) (c .before .before .before .least .ensures .3) (omega arith)) (c .before .before .before .least .ensures .0) (omega arith) (omega arith) (c .before .before .any-odd .ensures .0 (or-left (c .before .before .any-odd .result) (c .before .any-odd2 .result) (c .if4 .left))) (c .before .any-odd2 .ensures .0 (or-right (c .before .before .any-odd .result) (c .before .any-odd2 .result) (c .if4 .left)))
+    let both = c .before .any-odd-beside .ensures (c .if4 .left) in
+    over-two _ _ _ _ (c .before .before .before .quote-of .ensures) _ _ 32 _ (omega arith) (least-near _ _ _ 32 (c .before .before .least .ensures .2) (c .before .before .least .ensures .3) (omega arith)) (c .before .before .least .ensures .0) (omega arith) (omega arith) (both .0) (both .1)
 
 pub last-alone-spec : {M : Type 1} → statement M
 last-alone-spec =
@@ -55,8 +52,7 @@ last-alone-spec =
     returns-3
     quote-of-requires
     least-requires
-    any-odd-requires
-    any-odd-requires-2
+    any-odd-beside-requires
     returns-4
     sub-result
     returns-5)

@@ -11,27 +11,27 @@ use Rattle.notation.specs.declared.styles.Style.the-variants.{Json}
 use Rattle.notation.proofs.LiteralLaws.{all-literal}
 use Rattle.strings_write.proofs.Writing.{valid-form, all-of-it, one-run}
 
-slice-aggregate-strides : tie.Need-slice-aggregate-strides
-slice-aggregate-strides c =
+slice-aggregate-strides-to-end : tie.Need-slice-aggregate-strides-to-end
+slice-aggregate-strides-to-end c =
     ap length (sym (take-length (now (c .before .before .before .args .s))))
 
-strides-requires : tie.Need-strides-requires
-strides-requires c κs = search needs
+strides-to-end-requires : tie.Need-strides-to-end-requires
+strides-to-end-requires c κs = search needs
 
 write-literal-requires : tie.Need-write-literal-requires
 write-literal-requires c κs =
-    one-run (now (c .before .before .before .before .before .before .args .s)) _ (c .before .before .strides .ensures) (c .before .if1 .taken)
+    one-run (now (c .before .before .before .before .before .before .args .s)) _ (c .before .before .strides-to-end .ensures) (c .before .if1 .taken)
 
 same-length : tie.Need-same-length
 same-length c = search needs
 
 returns : tie.Need-returns
 returns c =
-    valid-form (now (c .before .before .before .before .before .before .before .before .before .args .s)) _ (now (c .before .before .before .before .before .before .before .before .before .args .out)) _ (all-literal Json (now (c .before .before .before .before .before .before .before .before .before .args .s)) (one-run (now (c .before .before .before .before .before .before .before .before .before .args .s)) _ (c .before .before .before .before .before .strides .ensures) (c .before .before .before .before .if1 .taken))) (c .before .before .write-literal .ensures)
+    valid-form (now (c .before .before .before .before .before .before .before .before .before .args .s)) _ (now (c .before .before .before .before .before .before .before .before .before .args .out)) _ (all-literal Json (now (c .before .before .before .before .before .before .before .before .before .args .s)) (one-run (now (c .before .before .before .before .before .before .before .before .before .args .s)) _ (c .before .before .before .before .before .strides-to-end .ensures) (c .before .before .before .before .if1 .taken))) (c .before .before .write-literal .ensures)
 
 write-from-requires : tie.Need-write-from-requires
 write-from-requires c κs =
-    all-of-it (now (c .before .before .before .before .before .before .args .s)) _ (c .before .before .strides .ensures)
+    all-of-it (now (c .before .before .before .before .before .before .args .s)) _ (c .before .before .strides-to-end .ensures)
 
 same-length-2 : tie.Need-same-length-2
 same-length-2 c = search needs
@@ -44,8 +44,8 @@ pub write-spec : {M : Type 1} → statement M
 write-spec =
     tie.close
     (tie.spec
-    slice-aggregate-strides
-    strides-requires
+    slice-aggregate-strides-to-end
+    strides-to-end-requires
     write-literal-requires
     same-length
     returns

@@ -1,9 +1,11 @@
--- The answers way by way (CharSteps).
+-- The class of the byte, and then one number that is a length or a fault (CharSteps, Told).
 -- Assumes nothing.
 use borrow.Author.Needs.{needs}
 use Rattle.utf8.proofs.chars.char_at.Statement.{statement}
 use Rattle.utf8.proofs.chars.char_at.Tie as tie
-use Rattle.utf8.proofs.CharSteps.{at-end, is-one, is-lone, is-cut, is-long}
+use native.Mathlib.Omega.{arith}
+use Rattle.utf8.proofs.CharSteps.{at-end, is-one}
+use Rattle.utf8.proofs.Told.{length-good, fault-bad}
 
 returns : tie.Need-returns
 returns c =
@@ -19,26 +21,19 @@ returns-2 : tie.Need-returns-2
 returns-2 c =
     search is-one
 
-fault-at-requires : tie.Need-fault-at-requires
-fault-at-requires c κs = search needs
+long-or-fault-requires : tie.Need-long-or-fault-requires
+long-or-fault-requires c κs = (omega arith, c .before .class-in .ensures, omega arith)
+
+cast-t10 : tie.Need-cast-t10
+cast-t10 c = search needs
 
 returns-3 : tie.Need-returns-3
 returns-3 c =
-    search is-lone
-
-long-len-requires : tie.Need-long-len-requires
-long-len-requires c κs = search needs
-
-fault-at-requires-2 : tie.Need-fault-at-requires-2
-fault-at-requires-2 c κs = search needs
+    search length-good
 
 returns-4 : tie.Need-returns-4
 returns-4 c =
-    search is-cut
-
-returns-5 : tie.Need-returns-5
-returns-5 c =
-    search is-long
+    search fault-bad
 
 pub char-at-spec : {M : Type 1} → statement M
 char-at-spec =
@@ -48,9 +43,7 @@ char-at-spec =
     shared-slice-read-class-in
     class-in-requires
     returns-2
-    fault-at-requires
+    long-or-fault-requires
+    cast-t10
     returns-3
-    long-len-requires
-    fault-at-requires-2
-    returns-4
-    returns-5)
+    returns-4)
