@@ -243,18 +243,22 @@ fn j8_bench_counted(call: &mut Call) {
 }
 
 /// Runs the contestants of the counted rows, one after another, and prints a line
-/// for each; with words only those whose job, kind, size and name are among them.
+/// for each; with words only those whose job, kind, size and name are among them. A
+/// kind of two words is one word here.
 fn count(words: &[String]) {
+    let mut unknown: Vec<&String> = words.iter().collect();
     let named = |word: &str| words.iter().any(|w| w == word);
     let job_wanted = |job| !JOBS.into_iter().any(named) || named(job);
     for plan in counted_plans() {
         let size = plan.size.to_string();
+        unknown.retain(|word| ![plan.job, plan.kind, &size].contains(&word.as_str()));
         let any_size = counted_plans().iter().any(|p| named(&p.size.to_string()));
         let any_kind = kinds(plan.job).into_iter().any(named);
         if !job_wanted(plan.job) || (any_kind && !named(plan.kind)) || (any_size && !named(&size)) {
             continue;
         }
         let mut case = case(plan);
+        unknown.retain(|word| case.contestants.iter().all(|(name, _)| name != word));
         let any_name = case.contestants.iter().any(|(name, _)| named(name));
         for (name, call) in &mut case.contestants {
             if any_name && !named(name) {
@@ -267,6 +271,11 @@ fn count(words: &[String]) {
             line("count", plan, case.bytes, name, COUNTED_CALLS as f64);
         }
     }
+    // A word that names nothing would count more rows than were asked for.
+    assert!(
+        unknown.is_empty(),
+        "no counted job, kind, size or contestant: {unknown:?}"
+    );
 }
 
 fn main() {
