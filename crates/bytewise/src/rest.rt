@@ -114,7 +114,7 @@ fn put_texts(t: &[u8; 256], s: &[u8], from: usize, start: usize, out: &mut [u8])
 }
 
 // A place in the data, and the place behind the text of what is before it.
-#[derive(Drop)]
+#[derive(Clone, Copy)]
 struct Reached {
     at: usize,
     o: usize,

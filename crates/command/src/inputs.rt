@@ -5,7 +5,7 @@ use check::same;
 use command_words::arguments;
 use libc::{PATH_MAX, STDIN_FILENO};
 
-#[derive(Drop)]
+#[derive(Clone, Copy)]
 pub(crate) enum Opened {
     At(i32),
     Misused(usize),
@@ -48,7 +48,7 @@ fn read_from(fd: i32, buf: &mut [u8], from: usize) -> isize
     libc::read(fd, &mut buf[from..])
 }
 
-#[derive(Drop)]
+#[derive(Clone, Copy)]
 pub(crate) enum Filled {
     With(usize),
     Failed(i32),

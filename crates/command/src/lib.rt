@@ -1,4 +1,6 @@
 // The command `j8`: prints what a backup holds, or says why it is refused, and answers a status.
+#![tactic(auto)]
+
 ghost use Rattle.std.specs.Prelude.{◌≤◌};
 
 mod help;
@@ -105,7 +107,7 @@ fn end_of(o: Options) -> u8 {
 }
 
 // What is to be done: nothing more, or to read an input whole or in pieces.
-#[derive(Drop)]
+#[derive(Clone, Copy)]
 enum Plan {
     Ended(Outcome),
     Whole(i32),

@@ -16,7 +16,7 @@ use upload::uploads::{Answer, Upload};
 const PIECES_MAX: usize = UPLOAD_MAX + 1;
 
 // What is done with each line: it is listed, its bytes are given with a byte behind them, or it is a name, ended by a byte, that is quoted.
-#[derive(Drop)]
+#[derive(Clone, Copy)]
 pub enum Job {
     List,
     Give(u8),
@@ -25,7 +25,7 @@ pub enum Job {
 
 // A job under way: its upload and page; the first line that begins with a byte order mark, and the first that can't be given (0 for none);
 // whether the input goes on, and whether it can't be read, with what the system says.
-#[derive(Drop)]
+#[derive(Clone, Copy)]
 pub struct Listing {
     pub state: Upload,
     pub page: Page,

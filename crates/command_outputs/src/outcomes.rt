@@ -4,7 +4,7 @@ ghost use Rattle.command_outputs.specs.Outcomes.{status_of, refused_at};
 
 use messages::Spot;
 
-#[derive(Drop)]
+#[derive(Clone, Copy)]
 pub enum Outcome {
     Done,
     // The text is refused: number, where the place is counted from, place.
@@ -22,7 +22,7 @@ pub enum Outcome {
 
 // A run that ended: the bytes of a text that was read whole, the first line that begins with a byte order mark (0 for none), and whether the
 // input was empty.
-#[derive(Drop)]
+#[derive(Clone, Copy)]
 pub struct Run {
     pub outcome: Outcome,
     pub size: usize,

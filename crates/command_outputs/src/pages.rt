@@ -9,7 +9,7 @@ use crate::outputs;
 
 // The bytes that wait to be printed, whether a terminal shows them, and whether something before them couldn't be printed, with what the
 // system says.
-#[derive(Drop)]
+#[derive(Clone, Copy)]
 pub struct Page {
     pub at: usize,
     pub terminal: bool,
@@ -29,7 +29,7 @@ pub fn fresh(terminal: bool) -> Page
 }
 
 // What a text becomes on the page: a string under its number, or its bytes with one behind them.
-#[derive(Drop)]
+#[derive(Clone, Copy)]
 pub enum Form {
     Entry,
     Raw(u8),

@@ -1,3 +1,5 @@
 // What a run of the command says of its end.
+#![tactic(auto)]
+
 mod misplaced;
 pub mod reports;

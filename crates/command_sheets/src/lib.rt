@@ -1,4 +1,6 @@
 // TSV8 logs: each cell under its row and the name of its column.
+#![tactic(auto)]
+
 ghost use Rattle.std.specs.Prelude.{◌≡◌, ◌+◌, ◌*◌, ◌/◌, ◌%◌, ◌≤◌, ◌<◌, length, get_or, take, drop};
 ghost use Rattle.rooms.specs.inner.Puts.{room_max};
 ghost use Rattle.tsv8.specs.Answers.{cells_after, store_after};

@@ -1,4 +1,6 @@
 // JSON8 backups: the written form, and the strings.
+#![tactic(auto)]
+
 ghost use Rattle.std.specs.Prelude.{true, ◌≡◌, ◌/◌, ◌≤◌, ◌<◌, length};
 ghost use Rattle.prelude.specs.Limits.{text_max};
 ghost use Rattle.json8.specs.Read.{read_of, table_after, store_after};

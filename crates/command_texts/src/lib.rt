@@ -1,4 +1,6 @@
 // Texts put together in a buffer: what doesn't fit is left out.
+#![tactic(auto)]
+
 ghost use Rattle.std.specs.Prelude.{[], ◌≡◌, ◌≤◌, length, take, drop};
 ghost use Rattle.io.specs.Counts.{IsPrefixLen};
 ghost use Rattle.decimals.specs.Decimals.{decimal};

@@ -7,7 +7,7 @@ use check::same;
 // The most bytes that are read at once.
 pub const PIECE: usize = 4096;
 
-#[derive(Drop)]
+#[derive(Clone, Copy)]
 pub enum Command {
     Help,
     Version,
@@ -51,7 +51,7 @@ pub const LINE_AND_LINES: usize = 7;
 
 // The words behind the command: its options, the size of pieces, the argument that names the file (0 for none); what is wrong (0 for nothing)
 // and with which argument; whether options have ended, and whether a size is still to come.
-#[derive(Drop)]
+#[derive(Clone, Copy)]
 pub struct Options {
     pub flags: u32,
     pub size: usize,

@@ -1,2 +1,4 @@
 // The words behind the command's name.
+#![tactic(auto)]
+
 pub mod arguments;

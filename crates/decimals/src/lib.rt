@@ -1,4 +1,6 @@
 // Numbers in decimal digits, put at a place as far as room and buffer reach.
+#![tactic(auto)]
+
 ghost use Rattle.std.specs.Prelude.{◌++◌, ◌≤◌};
 ghost use Rattle.rooms.specs.inner.Puts.{room_max, Put};
 ghost use Rattle.decimals.specs.Decimals.{decimal};

@@ -1,4 +1,6 @@
 // Eight bytes at once, as one number of 64 bits, and tests of each of them.
+#![tactic(auto)]
+
 ghost use Rattle.std.specs.Prelude.{Bool, ◌≡◌, ℕ, ◌+◌, ◌<◌, ◌≤◌, eqb, length, get_or, take, drop};
 ghost use Rattle.std.proofs.lemmas.List.Edits.{sets};
 ghost use Rattle.eights.specs.inner.Words.{Bytes, word, bit, is_odd, is_other, First};

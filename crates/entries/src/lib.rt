@@ -1,4 +1,6 @@
 // What the command prints of a backup or log: a string under the number of its line or node, a cell under its row and column, each on a line.
+#![tactic(auto)]
+
 ghost use Rattle.std.specs.Prelude.{true, ◌≡◌, ◌+◌, ◌*◌, ◌≤◌, length};
 ghost use Rattle.utf8.specs.Class.{IsTable};
 ghost use Rattle.strings_write.specs.Write.{written_in, wrote_into};

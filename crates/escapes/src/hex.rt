@@ -5,7 +5,7 @@ ghost use Rattle.escapes.specs.Hex.{hex_val, hex_run, hex_number};
 use prelude::slices;
 
 // How many digits stand somewhere, and their number.
-#[derive(Drop)]
+#[derive(Clone, Copy)]
 pub struct Digits {
     pub count: usize,
     pub value: u32,

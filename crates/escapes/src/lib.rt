@@ -1,4 +1,6 @@
 // What each escape of a J8 string denotes, in each style. Each function is one definition of specs/Escapes.antt, at a place of the text.
+#![tactic(auto)]
+
 pub mod hex;
 
 ghost use Rattle.std.specs.Prelude.{◌≡◌, [], ◌∷◌, ◌<◌, ◌≤◌, length, drop};

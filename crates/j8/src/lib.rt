@@ -1,4 +1,6 @@
 // The C interface: include/j8.h has each function's words for a caller.
+#![tactic(auto)]
+
 ghost use Rattle.std.specs.Prelude.{◌≡◌};
 ghost use Rattle.j8.specs.Runs.{version, string_read, string_write, lines_write, sentence_write};
 

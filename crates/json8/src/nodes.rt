@@ -1,7 +1,7 @@
 // The node table.
 
 // A list or a dict, by its members.
-#[derive(Drop)]
+#[derive(Clone, Copy)]
 pub enum Sort {
     Items,
     Pairs,

@@ -9,7 +9,7 @@ use json8::nodes::Sort;
 use tokens::numbers;
 
 // A group, which is a list or a dict; or a value that holds no other.
-#[derive(Drop)]
+#[derive(Clone, Copy)]
 pub enum Shape {
     Group(Sort),
     Leaf,

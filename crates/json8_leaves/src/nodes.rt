@@ -7,14 +7,14 @@ ghost use Rattle.json8_leaves.specs.inner.Told.{noted};
 use prelude::limits::NODE_MAX;
 
 // The place behind and the nodes so far; or a refusal's number and place.
-#[derive(Drop)]
+#[derive(Clone, Copy)]
 pub enum Out {
     Got(usize, usize),
     Refused(u32, usize),
 }
 
 // The place behind what makes no nodes and the byte there, 0 past the end; or a refusal's number and place.
-#[derive(Drop)]
+#[derive(Clone, Copy)]
 pub enum Step {
     At(usize, u8),
     Stop(u32, usize),

@@ -1,3 +1,5 @@
 // JSON8: a text read to a node table.
+#![tactic(auto)]
+
 pub mod read;
 mod spread;

@@ -1,2 +1,4 @@
 // JSON8: a string of a node table shown.
+#![tactic(auto)]
+
 pub mod show;

@@ -3,7 +3,7 @@ ghost use Rattle.std.specs.Prelude.{◌≡◌, ◌+◌, leb, length};
 ghost use Rattle.json8_show.specs.Show.{shown_by, shown_at, shown_bytes, unshown};
 
 // Where a string's bytes stand: a place and a length in the text or in the store, or nowhere.
-#[derive(Drop)]
+#[derive(Clone, Copy)]
 pub enum Shown {
     InText(usize, usize),
     InStore(usize, usize),

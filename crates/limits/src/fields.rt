@@ -14,7 +14,7 @@ pub const TABLE_MAX: usize = 4112;
 const STEPS_MAX: usize = 1000000;
 
 // The value of digits, and the place behind them.
-#[derive(Drop)]
+#[derive(Clone, Copy)]
 struct Decimal {
     value: usize,
     at: usize,
@@ -153,7 +153,7 @@ fn put_pair(high: u8, low: u8, n: usize, out: &mut [u8]) -> usize {
 }
 
 // Where reading goes on behind a part that was read so often, and how often it was read then.
-#[derive(Drop)]
+#[derive(Clone, Copy)]
 struct Turn {
     at: usize,
     times: usize,

@@ -1,5 +1,7 @@
 // The edges that documents 01 and 02 want run in a program: each row of standard input is a call with its fields, and is printed with what the
 // call answers. What the program writes is held to the file `stdout`, which the reference makes.
+#![tactic(auto)]
+
 mod fields;
 mod numbers;
 mod sheets;

@@ -10,7 +10,7 @@ const CELL: usize = 3;
 // Some more than the cells of any text need.
 const CELLS_MAX: usize = 48552;
 
-#[derive(Drop)]
+#[derive(Clone, Copy)]
 struct Rooms {
     names: usize,
     types: usize,

@@ -1,4 +1,6 @@
 // Where a line ends: the next LF of a text, looked for by blocks.
+#![tactic(auto)]
+
 ghost use Rattle.std.specs.Prelude.{false, ◌≡◌, ◌+◌, ◌≤◌, length, drop};
 ghost use Rattle.line_ends.specs.inner.Ends.{line_run, NoLf};
 

@@ -9,7 +9,7 @@ use runs::{blocks, literals};
 use utf8::{chars, classes};
 
 // Nothing wrong, or a refusal's number and place.
-#[derive(Drop)]
+#[derive(Clone, Copy)]
 pub enum Checked {
     Fine,
     Faulty(u32, usize),

@@ -20,7 +20,7 @@ use strings::answers::Decoded;
 use utf8::{chars, classes};
 
 // What a line is: nothing, a string with its kind and its length, or a refusal's number and place.
-#[derive(Drop)]
+#[derive(Clone, Copy)]
 pub enum Line {
     Ignored,
     Holds(u32, usize),

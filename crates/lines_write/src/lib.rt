@@ -1,2 +1,4 @@
 // J8 Lines, written from records.
+#![tactic(auto)]
+
 pub mod write;

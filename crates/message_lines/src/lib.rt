@@ -1,4 +1,6 @@
 // A message as a plain line: its head, and the sentence behind it.
+#![tactic(auto)]
+
 ghost use Rattle.std.specs.Prelude.{◌≤◌};
 ghost use Rattle.rooms.specs.inner.Puts.{room_max, Put};
 ghost use Rattle.messages.specs.declared.Head.TheVariants.{Refused};

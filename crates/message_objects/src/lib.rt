@@ -1,4 +1,6 @@
 // A message as a JSON object: the fields of its head, null where nothing is known, and its sentence.
+#![tactic(auto)]
+
 ghost use Rattle.std.specs.Prelude.{◌≤◌};
 ghost use Rattle.utf8.specs.Class.{IsTable};
 ghost use Rattle.rooms.specs.inner.Puts.{room_max, Put};

@@ -1,4 +1,6 @@
 // A message written as one line, plain or as a JSON object.
+#![tactic(auto)]
+
 ghost use Rattle.std.specs.Prelude.{◌≡◌, ◌≤◌, length};
 ghost use Rattle.utf8.specs.Class.{IsTable};
 ghost use Rattle.strings_write.specs.Write.{written_in, wrote_into};

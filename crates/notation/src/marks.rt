@@ -6,7 +6,7 @@ use crate::styles::Style;
 use prelude::slices;
 
 // An opening mark: its style and its length.
-#[derive(Drop)]
+#[derive(Clone, Copy)]
 pub enum Mark {
     Opens(Style, usize),
     Unopened,

@@ -5,7 +5,7 @@ ghost use Rattle.notation.specs.Styles.{quote, style_of};
 use utf8::encoding::Few;
 
 // `""`; `u''`, which `''` means; `b''`.
-#[derive(Drop)]
+#[derive(Clone, Copy)]
 pub enum Style {
     Json,
     Unicode,
@@ -13,14 +13,14 @@ pub enum Style {
 }
 
 // What the writer writes: `""` for valid UTF-8, `b''` for anything else.
-#[derive(Drop)]
+#[derive(Clone, Copy)]
 pub enum Form {
     AsJson,
     AsBytes,
 }
 
 // The closing quote; a unit of so many bytes, with the bytes that it denotes; the number of a refusal at the unit's place.
-#[derive(Drop)]
+#[derive(Clone, Copy)]
 pub enum Unit {
     Close,
     Took(usize, Few),

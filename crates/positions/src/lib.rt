@@ -1,4 +1,6 @@
 // Where a place of a text stands, as an editor counts.
+#![tactic(auto)]
+
 ghost use Rattle.std.specs.Prelude.{◌≡◌, ◌+◌, ◌≤◌, ◌<◌};
 ghost use Rattle.positions.specs.Positions.{behind_byte, position_of};
 
@@ -6,7 +8,7 @@ use prelude::slices;
 use utf8::chars;
 
 // A line and a column in characters, both from 1.
-#[derive(Drop)]
+#[derive(Clone, Copy)]
 pub struct Position {
     pub line: usize,
     pub column: usize,

@@ -1,4 +1,5 @@
 // The command as a program of Rattle, for the gate: it has no status, so what is installed is command/main.c.
+#![tactic(auto)]
 
 // Rooms of what the command is lent, as command/main.c has them.
 const TEXT: usize = 32771;

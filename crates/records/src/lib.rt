@@ -1,4 +1,6 @@
 // A line's record, behind those of earlier lines.
+#![tactic(auto)]
+
 ghost use Rattle.std.specs.Prelude.{◌≡◌, ◌+◌, ◌-◌, ◌≤◌, ltb, length};
 ghost use Rattle.std.proofs.lemmas.List.Edits.{sets};
 ghost use Rattle.prelude.specs.Pick.{pick};
@@ -12,7 +14,7 @@ use prelude::{refusals, slices};
 pub const HEAD: usize = 4;
 
 // What a line adds to the output: a refusal's number and place, or the count of bytes added; zeros where they don't apply.
-#[derive(Drop)]
+#[derive(Clone, Copy)]
 pub struct Added {
     pub number: u32,
     pub place: usize,

@@ -9,7 +9,7 @@ ghost use Rattle.replay.specs.inner.Plans.{OneCall};
 use upload::uploads::{Answer, Fed, Upload};
 
 // What one call of a plan leaves: its result, and where the next piece begins.
-#[derive(Drop)]
+#[derive(Clone, Copy)]
 struct Played {
     fed: Fed,
     at: usize,

@@ -1,4 +1,6 @@
 // The sentence of each refusal, for someone who doesn't know the numbers.
+#![tactic(auto)]
+
 ghost use Rattle.std.specs.Prelude.{◌≡◌, ◌≤◌, length, drop};
 ghost use Rattle.strings_write.specs.Write.{written_in, wrote_into};
 ghost use Rattle.rooms.specs.inner.Puts.{room_max, Put};

@@ -1,1 +1,2 @@
 // What is claimed of strings as they are read and written: definitions and claims alone.
+#![tactic(auto)]

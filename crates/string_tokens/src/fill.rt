@@ -14,7 +14,7 @@ use strings::read;
 use utf8::encoding;
 
 // A place behind a unit, and the bytes stored so far.
-#[derive(Drop)]
+#[derive(Clone, Copy)]
 struct Moved {
     at: usize,
     count: usize,

@@ -11,7 +11,7 @@ use notation::styles;
 use notation::styles::Style;
 
 // The bytes of a unit, and how many of them denote none; 0 bytes where another unit stands.
-#[derive(Drop)]
+#[derive(Clone, Copy)]
 pub(crate) struct Size {
     pub len: usize,
     pub spare: usize,

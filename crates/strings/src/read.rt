@@ -21,7 +21,7 @@ use utf8::classes;
 use utf8::encoding::Few;
 
 // Behind a turn: the next place and the bytes stored so far; or the string's end and its length; or a refusal's number and place.
-#[derive(Drop)]
+#[derive(Clone, Copy)]
 enum Turned {
     On(usize, usize),
     Finish(usize, usize),

@@ -12,7 +12,7 @@ use utf8::classes;
 const STRETCH: usize = 32;
 
 // A place behind units, and the bytes stored so far.
-#[derive(Drop)]
+#[derive(Clone, Copy)]
 pub(crate) struct Moved {
     pub at: usize,
     pub count: usize,

@@ -1,2 +1,4 @@
 // J8 strings, written.
+#![tactic(auto)]
+
 pub mod write;

@@ -152,7 +152,7 @@ fn ample(n: usize, room: usize, buffer: usize) -> bool
 }
 
 // Where the front of the data ends, and whether the rest is valid UTF-8.
-#[derive(Drop)]
+#[derive(Clone, Copy)]
 struct Judged {
     at: usize,
     valid: bool,

@@ -7,7 +7,7 @@ use strings::answers::Decoded;
 
 // `j8_result` of the header.
 #[repr(C)]
-#[derive(Drop)]
+#[derive(Clone, Copy)]
 pub struct J8Result {
     pub number: u32,
     pub place: usize,

@@ -6,7 +6,7 @@ use tsv8::answers::Sheet;
 
 // `j8_sheet` of the header.
 #[repr(C)]
-#[derive(Drop)]
+#[derive(Clone, Copy)]
 pub struct J8Sheet {
     pub number: u32,
     pub place: usize,

@@ -7,7 +7,7 @@ use json8_show::show::Shown;
 
 // `j8_nodes` of the header.
 #[repr(C)]
-#[derive(Drop)]
+#[derive(Clone, Copy)]
 pub struct J8Nodes {
     pub number: u32,
     pub place: usize,
@@ -17,7 +17,7 @@ pub struct J8Nodes {
 
 // `j8_shown` of the header.
 #[repr(C)]
-#[derive(Drop)]
+#[derive(Clone, Copy)]
 pub struct J8Shown {
     pub number: u32,
     pub stored: u32,

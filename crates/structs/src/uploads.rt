@@ -6,7 +6,7 @@ use upload::uploads::{Fed, Upload};
 
 // `j8_upload` of the header.
 #[repr(C)]
-#[derive(Drop)]
+#[derive(Clone, Copy)]
 pub struct J8Upload {
     pub taken: usize,
     pub lfs: usize,
@@ -20,7 +20,7 @@ pub struct J8Upload {
 
 // `j8_answer` of the header.
 #[repr(C)]
-#[derive(Drop)]
+#[derive(Clone, Copy)]
 pub struct J8Answer {
     pub number: u32,
     pub line: usize,
@@ -29,7 +29,7 @@ pub struct J8Answer {
 
 // `j8_fed` of the header.
 #[repr(C)]
-#[derive(Drop)]
+#[derive(Clone, Copy)]
 pub struct J8Fed {
     pub upload: J8Upload,
     pub answer: J8Answer,

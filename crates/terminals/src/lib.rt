@@ -1,4 +1,6 @@
 // A text as a terminal is shown it: what would drive the terminal is escaped in the text's strings, so that they read back the same.
+#![tactic(auto)]
+
 ghost use Rattle.std.specs.Prelude.{◌≡◌, ◌≤◌, ◌<◌, length, drop};
 ghost use Rattle.strings_write.specs.Write.{written_in, wrote_into};
 ghost use Rattle.units.specs.Written.{hex_digit};
@@ -10,7 +12,7 @@ use prelude::{refusals, slices};
 use rooms::parts;
 
 // A character that would drive a terminal: its bytes' number, and its code point as two bytes; no byte where there is none.
-#[derive(Drop)]
+#[derive(Clone, Copy)]
 pub struct Control {
     pub size: usize,
     pub high: u8,
@@ -19,7 +21,7 @@ pub struct Control {
 
 // Where a byte stands: outside a string (0) or in one with this closing quote; behind a backslash there; among bytes of a character that is
 // escaped already.
-#[derive(Drop)]
+#[derive(Clone, Copy)]
 pub struct Mode {
     pub quote: u8,
     pub behind: bool,

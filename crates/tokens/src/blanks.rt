@@ -7,7 +7,7 @@ use utf8::chars::Char;
 use utf8::{chars, classes};
 
 // So many bytes of whitespace and comments; or a refusal's number, behind so many.
-#[derive(Drop)]
+#[derive(Clone, Copy)]
 pub enum Blank {
     Clear(usize),
     Ill(u32, usize),

@@ -11,7 +11,7 @@ use crate::words;
 use prelude::slices;
 
 // The kind of a number token that matches the grammar whole, and its length; or one that doesn't match.
-#[derive(Drop)]
+#[derive(Clone, Copy)]
 pub enum Number {
     Legal(u32, usize),
     Malformed,

@@ -7,7 +7,7 @@ use crate::words;
 use notation::marks;
 
 // What begins at a place: the text's end, a token by its kind, or nothing.
-#[derive(Drop)]
+#[derive(Clone, Copy)]
 pub enum Start {
     Ended,
     String,

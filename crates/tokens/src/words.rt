@@ -7,7 +7,7 @@ use prelude::slices;
 use utf8::chars;
 
 // The kind of the value that a word names; or a word that names none.
-#[derive(Drop)]
+#[derive(Clone, Copy)]
 pub enum Word {
     Value(u32),
     Other,

@@ -19,7 +19,7 @@ use tsv8_cells::ends;
 
 // A text without a fault: the first tab of its first line, the number of columns, where the lines behind its types begin, its cells, and
 // the store's bytes.
-#[derive(Drop)]
+#[derive(Clone, Copy)]
 pub(crate) struct Outline {
     pub names: usize,
     pub columns: usize,
@@ -28,7 +28,7 @@ pub(crate) struct Outline {
     pub stored: usize,
 }
 
-#[derive(Drop)]
+#[derive(Clone, Copy)]
 pub(crate) enum Judged {
     Fine(Outline),
     Refused(u32, usize),

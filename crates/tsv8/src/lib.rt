@@ -1,4 +1,6 @@
 // TSV8: names, types and cells read from a whole text.
+#![tactic(auto)]
+
 pub mod answers;
 mod heads;
 pub mod read;

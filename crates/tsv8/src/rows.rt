@@ -15,14 +15,14 @@ use tsv8_cells::cells::Cell;
 use tsv8_cells::{cells, ends};
 
 // A line's end, and the store's bytes so far; or a refusal's number and place.
-#[derive(Drop)]
+#[derive(Clone, Copy)]
 pub(crate) enum Row {
     Ended(usize, usize),
     Refused(u32, usize),
 }
 
 // A line that gives no cells, with its end; or a row.
-#[derive(Drop)]
+#[derive(Clone, Copy)]
 pub(crate) enum Line {
     Skipped(usize),
     Read(usize, usize),
@@ -30,7 +30,7 @@ pub(crate) enum Line {
 }
 
 // All lines: their cells, and the store's bytes; or a refusal's number and place.
-#[derive(Drop)]
+#[derive(Clone, Copy)]
 pub(crate) enum Counted {
     All(usize, usize),
     Refused(u32, usize),

@@ -21,7 +21,7 @@ use tsv8_cells::cells::Cell;
 use tsv8_cells::{cells, ends};
 
 // A line's end, and the store's bytes so far.
-#[derive(Drop)]
+#[derive(Clone, Copy)]
 pub(crate) struct Moved {
     pub end: usize,
     pub count: usize,

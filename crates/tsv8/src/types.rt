@@ -15,7 +15,7 @@ use tokens::words;
 use tsv8_cells::ends;
 
 // Behind a line of types; or the place of a cell that names none.
-#[derive(Drop)]
+#[derive(Clone, Copy)]
 pub(crate) enum Typing {
     Behind(usize),
     Unnamed(usize),

@@ -25,7 +25,7 @@ use tokens::{numbers, words};
 
 // A stripped text: bare; a string without a backslash, with the length of its mark; one with a backslash, with the number of bytes that it
 // denotes; or a refusal's number and place.
-#[derive(Drop)]
+#[derive(Clone, Copy)]
 pub(crate) enum Text {
     Bare,
     Plain(usize),
@@ -34,14 +34,14 @@ pub(crate) enum Text {
 }
 
 // A cell's kind, place and length; or a refusal's number and place.
-#[derive(Drop)]
+#[derive(Clone, Copy)]
 pub enum Cell {
     Got(u32, usize, usize),
     Refused(u32, usize),
 }
 
 // A cell, and where it ends.
-#[derive(Drop)]
+#[derive(Clone, Copy)]
 pub struct Ended {
     pub end: usize,
     pub cell: Cell,

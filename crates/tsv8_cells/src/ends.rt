@@ -9,7 +9,7 @@ use prelude::slices;
 use string_tokens::quoted;
 
 // A cell's end, and whether only plain bytes stand before it.
-#[derive(Drop)]
+#[derive(Clone, Copy)]
 pub(crate) struct Span {
     pub end: usize,
     pub plain: bool,

@@ -9,7 +9,7 @@ use notation::styles::Style;
 use prelude::slices;
 
 // An escape of len bytes that denotes one byte; len is 0 where no such escape stands.
-#[derive(Drop)]
+#[derive(Clone, Copy)]
 pub struct Single {
     pub len: usize,
     pub byte: u8,

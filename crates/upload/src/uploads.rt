@@ -7,7 +7,7 @@ use prelude::limits::{LINE_MAX, UPLOAD_MAX};
 use prelude::refusals;
 
 // The state of an upload. A refusal of 0 says that nothing is refused.
-#[derive(Drop)]
+#[derive(Clone, Copy)]
 pub struct Upload {
     pub taken: usize,
     pub lfs: usize,
@@ -20,7 +20,7 @@ pub struct Upload {
 }
 
 // What a call answers: all 0 where nothing is refused.
-#[derive(Drop)]
+#[derive(Clone, Copy)]
 pub struct Answer {
     pub number: u32,
     pub line: usize,
@@ -28,7 +28,7 @@ pub struct Answer {
 }
 
 // What a call hands back: the new state, and the answer.
-#[derive(Drop)]
+#[derive(Clone, Copy)]
 pub struct Fed {
     pub state: Upload,
     pub answer: Answer,

@@ -8,7 +8,7 @@ use crate::classes;
 use prelude::{refusals, slices};
 
 // A well-formed character of so many bytes, or the number of the refusal.
-#[derive(Drop)]
+#[derive(Clone, Copy)]
 pub enum Char {
     Good(usize),
     Bad(u32),

@@ -3,7 +3,7 @@ ghost use Rattle.std.specs.Prelude.{◌≡◌, ◌<◌, ◌≤◌};
 ghost use Rattle.utf8.specs.Utf8.{encode, few_of};
 
 // Up to four bytes: the first `count`.
-#[derive(Drop)]
+#[derive(Clone, Copy)]
 pub struct Few {
     pub count: usize,
     pub a: u8,
