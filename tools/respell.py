@@ -16,7 +16,7 @@ import sys
 TOKEN = re.compile(r"(?<![\w'-])[^\W\d][\w'-]*")
 PART = re.compile(r"Rattle(?:\.[\w+'-]+)*|(?<![\w'.-])c(?:\.before)*\.[\w'-]+|(?<![\w'-])[^\W\d][\w'-]*")
 HEAD = re.compile(r"^(?:(?:abbrev|unfoldable)\s+)*(?:pub\s+)?(?:(?:data|record|ruleset)\s+)?(?P<name>[^\s:(){},=.]+)\s*(?::|\(|\{|=|where|$)")
-INNER = re.compile(r"^ {2,4}(?:pub )?(?P<name>[^\s:(){},=.]+)\s+:\s")
+INNER = re.compile(r"^ {2,}(?:pub )?(?P<name>[^\s:(){},=.]+)\s+:(?:\s|$)")
 
 # Definitions that port.py respelled in the crates; edits and pages still have these names.
 PORTED = """
@@ -58,7 +58,7 @@ def declared(root):
             if line.startswith(("use ", "pub use", "--", "pub mod", "mod ")):
                 continue
             m = HEAD.match(line)
-            if m and re.search(r"\s:\s|\bruleset\b|\bwhere\b", line):
+            if m and re.search(r"\s:(\s|$)|\bruleset\b|\bwhere\b", line):
                 names[m.group("name")].add(p)
                 continue
             m = INNER.match(line)

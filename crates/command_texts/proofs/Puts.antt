@@ -138,22 +138,22 @@ module _ (s line : List ℕ) (w : Written) (a : w ≡ written_in (length line) (
     string_size = ap size_of (sym e ∙ a ∙ pick_true _ _ _ string_fits)
 
     module _ (new : List ℕ) (b : new ≡ wrote_into string line) where
-      string-first : new ≡ string ++ drop (length string) line
+      string_first : new ≡ string ++ drop (length string) line
       unfolding wrote_into
-      string-first = b ∙ pick_true _ _ _ string_fits
+      string_first = b ∙ pick_true _ _ _ string_fits
 
-      string-taken : take n new ≡ string
-      string-taken = ap (λ (k : ℕ). take k new) string_size ∙ ap (take (length string)) string-first ∙ take-append_seam string _
+      string_taken : take n new ≡ string
+      string_taken = ap (λ (k : ℕ). take k new) string_size ∙ ap (take (length string)) string_first ∙ take-append_seam string _
 
-      pub string-counts : IsPrefixLen n new
-      string-counts =
-          let l : n ≡ length (take n new) = string_size ∙ ap length (sym string-taken) in
-          let m : length new ≡ length (string ++ drop (length string) line) = ap length string-first in
+      pub string_counts : IsPrefixLen n new
+      string_counts =
+          let l : n ≡ length (take n new) = string_size ∙ ap length (sym string_taken) in
+          let m : length new ≡ length (string ++ drop (length string) line) = ap length string_first in
           (omega (arith, m, string_size, length-append string (drop (length string) line)), l)
 
       pub string_put : {at r : ℕ} {out out' : List ℕ} → PutWhole (safe_text (take n new)) at r out out' → PutWhole (quoted_in (length line) s) at r out out'
       unfolding quoted_in
-      string_put p = whole_as (pick_true _ _ _ string_fits ∙ ap safe_text (sym string-taken)) p
+      string_put p = whole_as (pick_true _ _ _ string_fits ∙ ap safe_text (sym string_taken)) p
 
   pub string_left : (k at : ℕ) (out : List ℕ) → w ≡ Refused k → PutWhole (quoted_in (length line) s) at at out out
   unfolding quoted_in written_in

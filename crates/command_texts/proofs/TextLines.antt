@@ -45,11 +45,11 @@ module _ (s : List ℕ) (n left i : ℕ) (l : Looking s n left i) where
           let e : left ≡ suc (left - 1) = omega (arith, f) in
           l.same ∙ ap (from_line [] (drop i s)) e ∙ ap (λ (t : List ℕ). from_line [] t (suc (left - 1))) here
 
-      pub looking-line : get_or s i 0 ≡ LF → Looking s n (left - 1) (i + 1)
-      looking-line e = record { inside = omega arith; same = step ∙ pick_true _ _ _ (eq-eqb _ LF e) }
+      pub looking_line : get_or s i 0 ≡ LF → Looking s n (left - 1) (i + 1)
+      looking_line e = record { inside = omega arith; same = step ∙ pick_true _ _ _ (eq-eqb _ LF e) }
 
-      pub looking-byte : (get_or s i 0 ≡ LF → ⊥) → Looking s n left (i + 1)
-      looking-byte g =
+      pub looking_byte : (get_or s i 0 ≡ LF → ⊥) → Looking s n left (i + 1)
+      looking_byte g =
           let e : suc (left - 1) ≡ left = omega (arith, f) in
           record { inside = omega arith; same = step ∙ pick_false _ _ _ (ne_eqb _ LF g) ∙ ap (from_line [] (drop (i + 1) s)) e }
 

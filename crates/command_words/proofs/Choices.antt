@@ -156,14 +156,14 @@ module _ (word : List ℕ) (size i : ℕ) (l : Counted word size i) where
     counted_low a = sym (l.same ∙ ap (size_from size) here ∙ pick_true _ _ _ (lt-ltb (get_or word i 0) 48 a))
 
     module _ (a : 48 ≤ get_or word i 0) where
-      pub counted-high : 57 < get_or word i 0 → 0 ≡ size_of word
+      pub counted_high : 57 < get_or word i 0 → 0 ≡ size_of word
       unfolding size_from
-      counted-high b = sym (l.same ∙ ap (size_from size) here ∙ pick_false _ _ _ (le-ltb (get_or word i 0) 48 a) ∙ pick_true _ _ _ (lt-ltb 57 (get_or word i 0) b))
+      counted_high b = sym (l.same ∙ ap (size_from size) here ∙ pick_false _ _ _ (le-ltb (get_or word i 0) 48 a) ∙ pick_true _ _ _ (lt-ltb 57 (get_or word i 0) b))
 
       module _ (b : get_or word i 0 ≤ 57) where
-        pub counted-over : piece_max < 10 * size + (get_or word i 0 - 48) → 0 ≡ size_of word
+        pub counted_over : piece_max < 10 * size + (get_or word i 0 - 48) → 0 ≡ size_of word
         unfolding size_from
-        counted-over c =
+        counted_over c =
             sym (l.same ∙ ap (size_from size) here ∙ pick_false _ _ _ (le-ltb (get_or word i 0) 48 a) ∙ pick_false _ _ _ (le-ltb 57 (get_or word i 0) b)
             ∙ pick_true _ _ _ (lt-ltb piece_max (10 * size + (get_or word i 0 - 48)) c))
 
@@ -222,15 +222,15 @@ module _ (o : Options) (i : ℕ) where
     sized_unknown e f = f ∙ sym (pick_true _ _ _ (eq-eqb (bit_and known pieces) 0 e))
 
     module _ (e : bit_and known pieces ≡ 0 → ⊥) where
-      pub sized-short : {r : Options} → length word < size_at → r ≡ with_fault o bad_size i → r ≡ with_sized o word known i
+      pub sized_short : {r : Options} → length word < size_at → r ≡ with_fault o bad_size i → r ≡ with_sized o word known i
       unfolding with_sized size_from
-      sized-short h f =
+      sized_short h f =
           size_none (size_of (drop size_at word)) (ap size_of (drop_of_length-le word (let z : length word ≤ size_at = omega (arith, h) in z))) f
           ∙ sym (pick_false _ _ _ (ne_eqb (bit_and known pieces) 0 e))
 
-      pub sized-there : {r : Options} (z : ℕ) → z ≡ size_of (take (length word - size_at) (drop size_at word)) → r ≡ with_size o z i → r ≡ with_sized o word known i
+      pub sized_there : {r : Options} (z : ℕ) → z ≡ size_of (take (length word - size_at) (drop size_at word)) → r ≡ with_size o z i → r ≡ with_sized o word known i
       unfolding with_sized
-      sized-there z s f =
+      sized_there z s f =
           f ∙ ap (λ (k : ℕ). with_size o k i) (s ∙ ap size_of (take_all (length word - size_at) (drop size_at word) (omega (arith, length-drop size_at word))))
           ∙ sym (pick_false _ _ _ (ne_eqb (bit_and known pieces) 0 e))
 
@@ -248,9 +248,9 @@ module _ (o : Options) (i : ℕ) where
         unfolding with_word
         word_size g h = h ∙ sym (pick_true _ _ _ e ∙ pick_false _ _ _ f ∙ pick_true _ _ _ g)
 
-        pub word-option : {r : Options} (bit : ℕ) → has_size word ≡ false → bit ≡ option_of word → r ≡ with_option o bit known i → r ≡ with_word o word known i
+        pub word_option : {r : Options} (bit : ℕ) → has_size word ≡ false → bit ≡ option_of word → r ≡ with_option o bit known i → r ≡ with_word o word known i
         unfolding with_word
-        word-option bit g b h =
+        word_option bit g b h =
             h ∙ ap (λ (k : ℕ). with_option o k known i) b ∙ sym (pick_true _ _ _ e ∙ pick_false _ _ _ f ∙ pick_false _ _ _ g)
 
     pub argument_size : {r : Options} (z : ℕ) → o.sized ≡ true → z ≡ size_of word → r ≡ with_size (unsized o) z i → r ≡ with_argument o word known i
@@ -271,18 +271,18 @@ module _ (o : Options) (i : ℕ) where
     long_size e f = f ∙ sym (pick_true _ _ _ e)
 
     module _ (e : o.sized ≡ false) where
-      pub long-ended : {r : Options} → o.ended ≡ true → r ≡ with_file o i → r ≡ with_long o first i
+      pub long_ended : {r : Options} → o.ended ≡ true → r ≡ with_file o i → r ≡ with_long o first i
       unfolding with_long
-      long-ended g f = f ∙ sym (pick_false _ _ _ e ∙ pick_true _ _ _ g)
+      long_ended g f = f ∙ sym (pick_false _ _ _ e ∙ pick_true _ _ _ g)
 
       module _ (g : o.ended ≡ false) where
-        pub long-option : {r : Options} → first ≡ 45 → r ≡ with_fault o no_option i → r ≡ with_long o first i
+        pub long_option : {r : Options} → first ≡ 45 → r ≡ with_fault o no_option i → r ≡ with_long o first i
         unfolding with_long
-        long-option h f = f ∙ sym (pick_false _ _ _ e ∙ pick_false _ _ _ g ∙ pick_true _ _ _ (eq-eqb first 45 h))
+        long_option h f = f ∙ sym (pick_false _ _ _ e ∙ pick_false _ _ _ g ∙ pick_true _ _ _ (eq-eqb first 45 h))
 
-        pub long-file : {r : Options} → (first ≡ 45 → ⊥) → r ≡ with_file o i → r ≡ with_long o first i
+        pub long_file : {r : Options} → (first ≡ 45 → ⊥) → r ≡ with_file o i → r ≡ with_long o first i
         unfolding with_long
-        long-file h f = f ∙ sym (pick_false _ _ _ e ∙ pick_false _ _ _ g ∙ pick_false _ _ _ (ne_eqb first 45 h))
+        long_file h f = f ∙ sym (pick_false _ _ _ e ∙ pick_false _ _ _ g ∙ pick_false _ _ _ (ne_eqb first 45 h))
 
 module _ (o : Options) where
   pub checked_size : {r : Options} → o.sized ≡ true → r ≡ with_fault o bad_size 0 → r ≡ all_checked o
@@ -295,14 +295,14 @@ module _ (o : Options) where
     checked_other f = sym (pick_false _ _ _ e ∙ pick_true _ _ _ (eq-eqb (bit_and o.flags line) 0 f))
 
     module _ (f : bit_and o.flags line ≡ 0 → ⊥) where
-      pub checked-line : bit_and o.flags (lines + nul) ≡ 0 → o ≡ all_checked o
+      pub checked_line : bit_and o.flags (lines + nul) ≡ 0 → o ≡ all_checked o
       unfolding all_checked
-      checked-line g =
+      checked_line g =
           sym (pick_false _ _ _ e ∙ pick_false _ _ _ (ne_eqb (bit_and o.flags line) 0 f) ∙ pick_true _ _ _ (eq-eqb (bit_and o.flags (lines + nul)) 0 g))
 
-      pub checked-both : {r : Options} → (bit_and o.flags (lines + nul) ≡ 0 → ⊥) → r ≡ with_fault o line_and_lines 0 → r ≡ all_checked o
+      pub checked_both : {r : Options} → (bit_and o.flags (lines + nul) ≡ 0 → ⊥) → r ≡ with_fault o line_and_lines 0 → r ≡ all_checked o
       unfolding all_checked
-      checked-both g h =
+      checked_both g h =
           h ∙ sym (pick_false _ _ _ e ∙ pick_false _ _ _ (ne_eqb (bit_and o.flags line) 0 f) ∙ pick_false _ _ _ (ne_eqb (bit_and o.flags (lines + nul)) 0 g))
 
 module _ (word : List ℕ) where

@@ -134,11 +134,11 @@ module _ (s : List ℕ) (at : ℕ) where
     brace_over h = let z : leb (hex_run 7 (drop (at + 1) s)) 6 ≡ false = rw (← en) (lt-leb _ _ h) in brace_none (search nots)
 
     module _ (b : ℕ) (eb : b ≡ get_or (drop (at + 1) s) n 0) where
-      pub brace-last : (b ≡ code "}" → ⊥) → fault bad_escape ≡ braced (drop at s)
-      brace-last h = let z : eqb (get_or (drop (at + 1) s) (hex_run 7 (drop (at + 1) s)) 0) (code "}") ≡ false = rw (← en) (ne_eqb _ _ (λ q. h (eb ∙ q))) in brace_none (search nots)
+      pub brace_last : (b ≡ code "}" → ⊥) → fault bad_escape ≡ braced (drop at s)
+      brace_last h = let z : eqb (get_or (drop (at + 1) s) (hex_run 7 (drop (at + 1) s)) 0) (code "}") ≡ false = rw (← en) (ne_eqb _ _ (λ q. h (eb ∙ q))) in brace_none (search nots)
 
-      pub brace-yes : (u : StringUnit) (a v : ℕ) → a ≡ get_or (drop at s) 0 0 → a ≡ code "{" → 1 ≤ n → n ≤ 6 → b ≡ code "}" → v ≡ hex_number 7 (drop (at + 1) s) → u ≡ scalar (4 + n) v → u ≡ braced (drop at s)
-      brace-yes u a v ea ha l h hb ev e =
+      pub brace_yes : (u : StringUnit) (a v : ℕ) → a ≡ get_or (drop at s) 0 0 → a ≡ code "{" → 1 ≤ n → n ≤ 6 → b ≡ code "}" → v ≡ hex_number 7 (drop (at + 1) s) → u ≡ scalar (4 + n) v → u ≡ braced (drop at s)
+      brace_yes u a v ea ha l h hb ev e =
           e ∙ sym (braced_law (drop at s) ∙ rw (drop-drop 1 at s)
           (rw (← ev, ← en, ← ea, ← eb)
           (pick_true _ (scalar (4 + n) v) _ (and_yes _ _ (and_yes _ _ (eq-eqb _ _ ha) (and_yes _ _ (le-leb _ _ l) (le-leb _ _ h))) (eq-eqb _ _ hb)))))
@@ -153,14 +153,14 @@ module _ (s : List ℕ) (at : ℕ) where
       from_first : u ≡ pick (eqb a (code "u")) (code_point st (drop (at + 1) s)) (pick (eqb a (code "y")) (raw_byte st (drop (at + 1) s)) (letter_escape (lookup a (letters_of st)))) → u ≡ escape st (drop at s)
       from_first e = sym (escape_law st (drop at s) ∙ rw (drop-drop 1 at s, ← ea) (sym e))
 
-      pub escape-u : a ≡ code "u" → u ≡ code_point st (drop (at + 1) s) → u ≡ escape st (drop at s)
-      escape-u h e = from_first (e ∙ sym (pick_true _ _ _ (eq-eqb _ _ h)))
+      pub escape_u : a ≡ code "u" → u ≡ code_point st (drop (at + 1) s) → u ≡ escape st (drop at s)
+      escape_u h e = from_first (e ∙ sym (pick_true _ _ _ (eq-eqb _ _ h)))
 
-      pub escape-y : a ≡ code "y" → u ≡ raw_byte st (drop (at + 1) s) → u ≡ escape st (drop at s)
-      escape-y h e =
+      pub escape_y : a ≡ code "y" → u ≡ raw_byte st (drop (at + 1) s) → u ≡ escape st (drop at s)
+      escape_y h e =
           from_first
           (e ∙ sym (pick_false _ _ _ (ne_eqb a (code "u") (λ q. let f : ⊥ = omega arith in f)) ∙ pick_true _ _ _ (eq-eqb _ _ h)))
 
-      pub escape-letter : (b : ℕ) → (a ≡ code "u" → ⊥) → (a ≡ code "y" → ⊥) → b ≡ lookup a (letters_of st) → u ≡ letter_escape b → u ≡ escape st (drop at s)
-      escape-letter b h k eb e =
+      pub escape_letter : (b : ℕ) → (a ≡ code "u" → ⊥) → (a ≡ code "y" → ⊥) → b ≡ lookup a (letters_of st) → u ≡ letter_escape b → u ≡ escape st (drop at s)
+      escape_letter b h k eb e =
           from_first (e ∙ rw eb (sym (pick_false _ _ _ (ne_eqb _ _ h) ∙ pick_false _ _ _ (ne_eqb _ _ k))))

@@ -106,20 +106,20 @@ module _ (most : ℕ) (r : List ℕ) where
 
     -- the count and the number, where no digit is left
     module _ (z : left n ≡ []) where
-      done-run : n ≡ hex_run most r
-      done-run = omega (arith, ap length z, k.run)
+      done_run : n ≡ hex_run most r
+      done_run = omega (arith, ap length z, k.run)
 
-      done-number : v ≡ hex_number most r
-      done-number = sym (from_none v) ∙ ap (hex_from v) (sym z) ∙ k.number
+      done_number : v ≡ hex_number most r
+      done_number = sym (from_none v) ∙ ap (hex_from v) (sym z) ∙ k.number
 
   -- what is promised of the count and the number
   abbrev Counted : ℕ → ℕ → Type 0
   Counted n v = (n ≡ hex_run most r) × (v ≡ hex_number most r) × (v < 16 ^ most)
 
   pub stopped : (n v : ℕ) → Kept n v → n < most → (d : ℕ) → d ≡ hex_val (get_or r n 0) → 16 ≤ d → Counted n v
-  stopped n v k h d e l = let z = ended n v k h d e l in (done-run n v k z, done-number n v k z, below n v k)
+  stopped n v k h d e l = let z = ended n v k h d e l in (done_run n v k z, done_number n v k z, below n v k)
 
   pub full : (n v : ℕ) → Kept n v → most ≤ n → Counted n v
   full n v k h =
       let m : most - n ≡ 0 = omega arith in
-      let z : left n ≡ [] = rw m (hex_none (drop n r)) in (done-run n v k z, done-number n v k z, below n v k)
+      let z : left n ≡ [] = rw m (hex_none (drop n r)) in (done_run n v k z, done_number n v k z, below n v k)

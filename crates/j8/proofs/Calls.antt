@@ -21,10 +21,10 @@ left : (f : Fed) (r : J8Fed) (line out : List ℕ) (x : Called) → called f lin
 left f r line out x e d = (d ∙ ap fed_of e, (ap (λ (y : Called). y.lent.line) e, ap (λ (y : Called). y.lent.out) e))
 
 module _ (u : J8Upload) (s : Upload) (line out line' out' : List ℕ) (f : Fed) (r : J8Fed) (e : s ≡ state_of u) (d : r ≡ fed_from f) where
-  pub as-fed :
+  pub as_fed :
       (piece : List ℕ) → called f line' out' ≡ feed (lent s line out) piece
       → Left (feed (given u line out) piece) r line' out'
-  as-fed piece p = left f r line' out' _ (p ∙ ap (λ (t : Upload). feed (lent t line out) piece) e) d
+  as_fed piece p = left f r line' out' _ (p ∙ ap (λ (t : Upload). feed (lent t line out) piece) e) d
 
   pub as_finished : called f line' out' ≡ finish (lent s line out) → Left (finish (given u line out)) r line' out'
   as_finished p = left f r line' out' _ (p ∙ ap (λ (t : Upload). finish (lent t line out)) e) d

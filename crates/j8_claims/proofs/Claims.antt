@@ -12,7 +12,7 @@ use Rattle.j8_claims.proofs.Lists.{run_back, answers_back, handed_back}
 use Rattle.j8_claims.proofs.Faults.{all_passed_up, in_order}
 use Rattle.j8_claims.proofs.Numbers.{string_numbered, table_numbered}
 use Rattle.j8_claims.proofs.Unicode.{unicode_read}
-use Rattle.j8_claims.proofs.Returned.{string-returned, lines-returned, table-returned}
+use Rattle.j8_claims.proofs.Returned.{string_returned, lines_returned, table_returned}
 use Rattle.j8_claims.proofs.Sheets.{sheet_done, sheet_read, done_or_refused, room_last, room_enough, rows_whole, ranges_in, kinds_fit, texts_shown}
 use Rattle.j8_claims.proofs.SentencesTold.{sentence_done, sentence_tells}
 
@@ -31,16 +31,16 @@ c_records_after_finish cs line out h f =
     rw (run_back (began line out) cs, handed_back (run (began line out) cs)) (records_after_finish cs line out h f)
 
 pub c_strings_return : CStringsReturn
-c_strings_return = string-returned
+c_strings_return = string_returned
 
 pub c_unicode_is_utf8 : CUnicodeIsUtf8
 c_unicode_is_utf8 = unicode_read
 
 pub c_lines_return : CLinesReturn
-c_lines_return records text cs line out l b e h = lines-returned records text e h cs line out l b
+c_lines_return records text cs line out l b e h = lines_returned records text e h cs line out l b
 
 pub c_tables_return : CTablesReturn
-c_tables_return = table-returned
+c_tables_return = table_returned
 
 pub c_strings_numbered : CStringsNumbered
 c_strings_numbered = string_numbered

@@ -91,11 +91,11 @@ module _ (out table store names types cells : List ℕ) where
   told [] h a b c d f = tt
   told (e ∷ es) h a b c d f = (
     record {
-      as_string = string_told (in_string e) out e.number 1 string-short (cc);
+      as_string = string_told (in_string e) out e.number 1 string_short (cc);
       as_line = cc;
-      as_value = table_told (in_string e) table store e.number 1 string-short (cc);
-      as_comment = table_told (in_comment e) table store e.number 2 comment-short (cc);
-      as_name = sheet_told (in_name e) names types cells store e.number 6 name-short (cc);
+      as_value = table_told (in_string e) table store e.number 1 string_short (cc);
+      as_comment = table_told (in_comment e) table store e.number 2 comment_short (cc);
+      as_name = sheet_told (in_name e) names types cells store e.number 6 name_short (cc);
     },
     told es (and_right (leb (length e.bytes) 5) _ h) (cc) (cc) (cc) (cc) (cc),
   )
@@ -103,14 +103,14 @@ module _ (out table store names types cells : List ℕ) where
       short : length e.bytes ≤ 5
       short = leb-true (length e.bytes) 5 (and_left (leb (length e.bytes) 5) _ h)
 
-      string-short : length (in_string e) ≤ text_max
-      string-short = omega (arith, short, length-append e.bytes (34 ∷ []))
+      string_short : length (in_string e) ≤ text_max
+      string_short = omega (arith, short, length-append e.bytes (34 ∷ []))
 
-      comment-short : length (in_comment e) ≤ text_max
-      comment-short = omega (arith, short)
+      comment_short : length (in_comment e) ≤ text_max
+      comment_short = omega (arith, short)
 
-      name-short : length (in_name e) ≤ text_max
-      name-short = omega (arith, short)
+      name_short : length (in_name e) ≤ text_max
+      name_short = omega (arith, short)
 
   pub all_passed_up : Every (PassedUp out table store names types cells) faults
   unfolding all_short

@@ -42,10 +42,10 @@ pub write_done : (text : List ℕ) (room : ℕ) → length text ≤ room → wri
 unfolding written_in pick
 write_done text room h = rw (le-leb (length text) room h)
 
-pub string-returned :
+pub string_returned :
     (bytes out into : List ℕ) → IsBytes bytes → length (write_string bytes) ≤ length out → length (write_string bytes) ≤ text_max → length bytes ≤ length into
     → StringReturned bytes (string_write bytes out) (string_read (take (string_write bytes out).result.length (string_write bytes out).out) into) into
-string-returned bytes out into b h k l =
+string_returned bytes out into b h k l =
     let w = write_done (write_string bytes) (length out) h in
     let f = front (write_string bytes) out h in
     let r = written_reads_back (length into) bytes b k l in
@@ -61,12 +61,12 @@ module _ (records text : List ℕ) (e : right_records 0 records ≡ true) (h : l
   lines_front =
       rw (e, le-leb (length (write_quoted records)) (length text) h) (take-append_seam (write_quoted records) (drop (length (write_quoted records)) text))
 
-  pub lines-returned :
+  pub lines_returned :
       (cs : List Call) (line out : List ℕ) → line_max ≤ length line → IsBytes records
       → joined cs ≡ take (lines_write records text).result.length (lines_write records text).out → finished cs ≡ true
       → Within line_max (cut (write_quoted records)).closed → length (write_quoted records) ≤ upload_max → length records ≤ length out
       → LinesReturned records (lines_write records text) (run_c (began_c line out) cs) out
-  lines-returned cs line out l b j f w u r =
+  lines_returned cs line out l b j f w u r =
       let p : joined cs ≡ write_quoted records = j ∙ ap (λ (r : J8Result). take r.length (lines_into records text)) lines_done ∙ lines_front in
       let q : given (run_c (began_c line out) cs).fed.upload (run_c (began_c line out) cs).line (run_c (began_c line out) cs).out
       ≡ (run (began line out) cs).lent =
@@ -77,13 +77,13 @@ table_done : (t : Tree) (room : ℕ) → length (render t) ≤ room → written_
 unfolding pick
 table_done t room h = rw (le-leb (length (render t)) room h)
 
-pub table-returned :
+pub table_returned :
     (table text store : List ℕ) (t : Tree) (out into stored : List ℕ) → IsBytes text → IsBytes store
     → tree_of (nodes_in table) text store ≡ just t → length (render t) ≤ text_max → length (render t) ≤ length out
     → size_of t ≤ length into / 4 → store_of t ≤ length stored
     → TableReturned t (json8_write table text store out)
     (json8_read (take (json8_write table text store out).result.length (json8_write table text store out).out) into stored)
-table-returned table text store t out into stored a b e h k i j =
+table_returned table text store t out into stored a b e h k i j =
     let w = table_done t (length out) k in
     let f = front (render t) out k in
     let v = written_table_reads_back table text store t a b e h into stored i j in

@@ -151,12 +151,12 @@ module _ (text : List ℕ) (at k : ℕ) (st : Style) (o : opening (drop at text)
         rw (a, take-add k (run + 1) (drop at text), drop-drop k at text, take-add run 1 (drop (at + k) text), there, l)
         (slash_append (take k (drop at text)) (take run (drop (at + k) text) ++ (quote st ∷ [])) m
         (slash_append (take run (drop (at + k) text)) (quote st ∷ []) (run_slash st (drop (at + k) text))
-        (slash_more (quote st) [] (not-slash st) slash_none)))
+        (slash_more (quote st) [] (not_slash st) slash_none)))
       where
-        not-slash : (y : Style) → quote y ≡ 0x5c → ⊥
-        not-slash Json z = omega arith
-        not-slash Unicode z = omega arith
-        not-slash Bytes z = omega arith
+        not_slash : (y : Style) → quote y ≡ 0x5c → ⊥
+        not_slash Json z = omega arith
+        not_slash Unicode z = omega arith
+        not_slash Bytes z = omega arith
 
   pub slash_behind : (get_or (drop e text) 0 0 ≡ quote st → ⊥) → Slashed (drop at text)
   slash_behind ne bs f h = go (drop e text) refl (more_accepted _ _ bs f (sym token_run ∙ h))

@@ -112,11 +112,11 @@ unfolding string string_node
 string_told p n m s o = by_opening_lem (opening s) refl o
   where
     by_token : (r : StringRead) → StringFault r → Told (string_read p m s r)
-    by_token (accepted bs e) f = pick-node (slashed (take e s))
+    by_token (accepted bs e) f = pick_node (slashed (take e s))
       where
-        pick-node : (b : Bool) → Told (string_node b p m (mark_len (opening s)) e bs)
-        pick-node true = tt
-        pick-node false = tt
+        pick_node : (b : Bool) → Told (string_node b p m (mark_len (opening s)) e bs)
+        pick_node true = tt
+        pick_node false = tt
     by_token (unread number at) f = inl f
 
     by_opening_lem : (q : Opening) → opening s ≡ q → is_opening q ≡ true → Told (string p n m s)

@@ -140,9 +140,9 @@ module _ (table text store : List ℕ) (left i : ℕ) where
     kind = get_or table (4 * i) 0
 
     module _ (v : Shape) (e : v ≡ shape_of kind) where
-      pub value-group : (b : Sort) → v ≡ Group b → value ≡ grouped left text store b (node_at i table) (drop (i + 1) (nodes_in table))
+      pub value_group : (b : Sort) → v ≡ Group b → value ≡ grouped left text store b (node_at i table) (drop (i + 1) (nodes_in table))
       unfolding tree_from shape_of
-      value-group b f =
+      value_group b f =
           split (eqb kind 7)
           (λ a. let z : Group Items ≡ Group b = sym (e ∙ pick_true _ _ _ a) ∙ f in let y : Items ≡ b = cc in rw (← y) (value_is ∙ pick_true _ _ _ a))
           (λ a. split (eqb kind 8)
@@ -150,9 +150,9 @@ module _ (table text store : List ℕ) (left i : ℕ) where
           rw (← y) (value_is ∙ pick_false _ _ _ a ∙ pick_true _ _ _ c))
           (λ c. never (let z : Leaf ≡ Group b = sym (e ∙ pick_false _ _ _ a ∙ pick_false _ _ _ c) ∙ f in cc)))
 
-      pub value-leaf : v ≡ Leaf → value ≡ leaf_of text store (node_at i table)
+      pub value_leaf : v ≡ Leaf → value ≡ leaf_of text store (node_at i table)
       unfolding tree_from shape_of
-      value-leaf f =
+      value_leaf f =
           split (eqb kind 7)
           (λ a. never (let z : Group Items ≡ Leaf = sym (e ∙ pick_true _ _ _ a) ∙ f in cc))
           (λ a. split (eqb kind 8)

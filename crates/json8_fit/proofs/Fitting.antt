@@ -139,13 +139,13 @@ module _ (b : Sort) (table text store : List ℕ) (left : ℕ) (want : Bool) (me
     judged_unfit e = step ∙ rw e
 
     module _ (e : r ≡ true) (s : ℕ) (es : s ≡ member_size b (drop at (nodes_in table))) where
-      pub judged-size : s ≤ w
-      judged-size = omega (arith, es, leb-true (member_size b (drop at (nodes_in table))) w (and_left _ _ (sym t ∙ e)))
+      pub judged_size : s ≤ w
+      judged_size = omega (arith, es, leb-true (member_size b (drop at (nodes_in table))) w (and_left _ _ (sym t ∙ e)))
 
       pub judged_on : Judged b table text store left want (members - 1) (w - s) (at + s)
       judged_on = record {
         same = step ∙ rw (e, sym es, drop-drop s at (nodes_in table));
-        bound = omega (arith, i.bound, judged-size);
+        bound = omega (arith, i.bound, judged_size);
       }
 
   pub judged_last : members ≤ 0 → {r : Bool} → r ≡ eqb w 0 → r ≡ want

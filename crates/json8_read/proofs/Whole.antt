@@ -104,17 +104,17 @@ module _ (text t s : List ℕ) where
       pub within : i ≤ length l'
       within = omega (arith, few, k, ap length w.table, length-sets l 0 (notes w.vs))
 
-      noted-are : nodes_in (take i l') ≡ w.vs
-      noted-are =
+      noted_are : nodes_in (take i l') ≡ w.vs
+      noted_are =
           ap nodes_in (front_of (notes w.vs) l l' i w.table (omega (arith, w.nodes, notes_length w.vs)) (omega (arith, notes_length w.vs, w.nodes, few, k)))
           ∙ notes_back text w.vs w.sound
 
-      sizes-be : sizes (nodes_in (take i l')) ≡ length bs
-      sizes-be = ap sizes noted-are ∙ sizes_are text w.vs w.sound
+      sizes_be : sizes (nodes_in (take i l')) ≡ length bs
+      sizes_be = ap sizes noted_are ∙ sizes_are text w.vs w.sound
 
-      pub tight-table : length t / 4 < i → Answered (Denied 12 0) t s
+      pub tight_table : length t / 4 < i → Answered (Denied 12 0) t s
       unfolding read_of pick
-      tight-table g =
+      tight_table g =
           let f : length t / 4 < length ns = omega (arith, count, g) in
           answered (refused 12 0) (rw (le-ltb text_max (length text) h, w.same, lt-ltb (length t / 4) (length ns) f)) refl refl refl
 
@@ -122,34 +122,34 @@ module _ (text t s : List ℕ) where
         fits : length ns ≤ length t / 4
         fits = omega (arith, count, g)
 
-        pub tight-store : length s < sizes (nodes_in (take i l')) → Answered (Denied 12 0) t s
+        pub tight_store : length s < sizes (nodes_in (take i l')) → Answered (Denied 12 0) t s
         unfolding read_of pick
-        tight-store y =
-            let f : length s < length bs = omega (arith, sizes-be, y) in
+        tight_store y =
+            let f : length s < length bs = omega (arith, sizes_be, y) in
             answered (refused 12 0)
             (rw (le-ltb text_max (length text) h, w.same, le-ltb (length t / 4) (length ns) fits, lt-ltb (length s) (length bs) f)) refl refl refl
 
         module _ (y : sizes (nodes_in (take i l')) ≤ length text → sizes (nodes_in (take i l')) ≤ length s) where
           bytes_fit : length bs ≤ length s
-          bytes_fit = let z = y (omega (arith, sizes-be, fair.3, fair.1)) in omega (arith, sizes-be, z)
+          bytes_fit = let z = y (omega (arith, sizes_be, fair.3, fair.1)) in omega (arith, sizes_be, z)
 
           pub all_fit : AllFit text (nodes_in (take i l')) t s
           all_fit =
-              rw noted-are (record {
+              rw noted_are (record {
                 sound = w.sound;
                 nodes = omega (arith, w.nodes, g);
                 bytes = bytes_fit;
                 short = omega (arith, fair.3, fair.1, h);
               })
 
-          pub spread-done : (j : ℕ) (t' s' : List ℕ) → (j ≡ length (bytes_of text (nodes_in (take i l'))))
+          pub spread_done : (j : ℕ) (t' s' : List ℕ) → (j ≡ length (bytes_of text (nodes_in (take i l'))))
               × ((t' ≡ sets t 0 (flat (nodes_of 0 (nodes_in (take i l'))))) × (s' ≡ sets s 0 (bytes_of text (nodes_in (take i l'))))) → Answered (Done i j) t' s'
           unfolding read_of pick
-          spread-done j t' s' (a, (b, c)) =
-              let d : j ≡ length bs = a ∙ ap (λ (v : List Node). length (bytes_of text v)) noted-are in
+          spread_done j t' s' (a, (b, c)) =
+              let d : j ≡ length bs = a ∙ ap (λ (v : List Node). length (bytes_of text v)) noted_are in
               let f : length (flat ns) ≤ length t = omega (arith, flat_length ns, fits) in
               answered (got w.len 0 ns bs)
               (rw (le-ltb text_max (length text) h, w.same, le-ltb (length t / 4) (length ns) fits, le-ltb (length s) (length bs) bytes_fit))
               (ap (λ (y : ℕ). Done y j) count ∙ ap (Done (length ns)) d)
-              (b ∙ ap (λ (v : List Node). sets t 0 (flat (nodes_of 0 v))) noted-are ∙ sets_over (flat ns) t f)
-              (c ∙ ap (λ (v : List Node). sets s 0 (bytes_of text v)) noted-are ∙ sets_over bs s bytes_fit)
+              (b ∙ ap (λ (v : List Node). sets t 0 (flat (nodes_of 0 v))) noted_are ∙ sets_over (flat ns) t f)
+              (c ∙ ap (λ (v : List Node). sets s 0 (bytes_of text v)) noted_are ∙ sets_over bs s bytes_fit)

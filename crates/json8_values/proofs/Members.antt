@@ -405,12 +405,12 @@ module _ (v : Reader) (text : List ℕ) (o i j : ℕ) where
         ∙ seq_stop labelled v o i j (drop o text) number z (seq_refused key (seq spaces (seq colon spaces)) text o i j e h 0 t t1 k number z (around_blind _ _ _ _ ∙ f))
 
     module _ {c : ℕ} (w : Went (seq spaces (seq colon spaces) e 0 0 (drop e text)) e c 0) where
-      label-took : Took text (labelled o i j (drop o text)) o i j c h 0 t t1
-      label-took = seq_took key (seq spaces (seq colon spaces)) text o i j e h 0 t t1 k c h 0 t1 (went_took (seq spaces (seq colon spaces)) around_blind w)
+      label_took : Took text (labelled o i j (drop o text)) o i j c h 0 t t1
+      label_took = seq_took key (seq spaces (seq colon spaces)) text o i j e h 0 t t1 k c h 0 t1 (went_took (seq spaces (seq colon spaces)) around_blind w)
 
-      pub pair-refused : (number z : ℕ) → ((m : ℕ) → v c h m (drop c text) ≡ refused number z) → member_of Pairs v o i j (drop o text) ≡ refused number z
-      pair-refused number z f = sym pair_same ∙ seq_refused labelled v text o i j c h 0 t t1 label-took number z (f _)
+      pub pair_refused : (number z : ℕ) → ((m : ℕ) → v c h m (drop c text) ≡ refused number z) → member_of Pairs v o i j (drop o text) ≡ refused number z
+      pair_refused number z f = sym pair_same ∙ seq_refused labelled v text o i j c h 0 t t1 label_took number z (f _)
 
-      pub pair-took : {q n : ℕ} {t2 : List ℕ} → ((m : ℕ) → Took text (v c h m (drop c text)) c h m q n 0 t1 t2) → Took text (member_of Pairs v o i j (drop o text)) o i j q n 0 t t2
-      pair-took {q} {n} {t2} x =
-          subst (λ (r : Read). Took text r o i j q n 0 t t2) pair_same (seq_took labelled v text o i j c h 0 t t1 label-took q n 0 t2 (x _))
+      pub pair_took : {q n : ℕ} {t2 : List ℕ} → ((m : ℕ) → Took text (v c h m (drop c text)) c h m q n 0 t1 t2) → Took text (member_of Pairs v o i j (drop o text)) o i j q n 0 t t2
+      pair_took {q} {n} {t2} x =
+          subst (λ (r : Read). Took text r o i j q n 0 t t2) pair_same (seq_took labelled v text o i j c h 0 t t1 label_took q n 0 t2 (x _))

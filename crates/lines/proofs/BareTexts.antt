@@ -170,29 +170,29 @@ module _ (s : List ℕ) (from at : ℕ) (i : Passing s from at) where
 
     -- the loop's turns, way by way
     module _ (k : ℕ) (ek : k ≡ class_of (get_or s at 0)) where
-      class-over : 5 ≤ k → 32 ≤ get_or s at 0
-      class-over l = no_control (get_or s at 0) (λ z. omega arith)
+      class_over : 5 ≤ k → 32 ≤ get_or s at 0
+      class_over l = no_control (get_or s at 0) (λ z. omega arith)
 
       pub plain_on : k < 5 → (k ≡ 1 → ⊥) → Passing s from (at + 1)
       plain_on l g =
           let m : 32 ≤ get_or s at 0 = no_control (get_or s at 0) (λ z. g (ek ∙ z)) in
           moved 1 (one_byte s at k h ek l) (λ z. omega arith) (λ z. absurd (omega arith))
 
-      pub tab-on : k < 5 → get_or s at 0 ≡ 9 → Passing s from (at + 1)
-      tab-on l g = moved 1 (one_byte s at k h ek l) (λ z. omega arith) (λ z. g)
+      pub tab_on : k < 5 → get_or s at 0 ≡ 9 → Passing s from (at + 1)
+      tab_on l g = moved 1 (one_byte s at k h ek l) (λ z. omega arith) (λ z. g)
 
-      pub control-stop : k ≡ 1 → (get_or s at 0 ≡ 9 → ⊥) → Faulty 6 at ≡ bare_from from 0 (drop from s)
-      control-stop l g = controlled (is_control (get_or s at 0) (sym ek ∙ l)) g
+      pub control_stop : k ≡ 1 → (get_or s at 0 ≡ 9 → ⊥) → Faulty 6 at ≡ bare_from from 0 (drop from s)
+      control_stop l g = controlled (is_control (get_or s at 0) (sym ek ∙ l)) g
 
       module _ (n : ℕ) (en : n ≡ length_or_fault (drop at s)) (l : 5 ≤ k) where
-        pub good-on : n < 5 → Passing s from (at + n)
-        good-on e =
+        pub good_on : n < 5 → Passing s from (at + n)
+        good_on e =
             let (g, p) = good_is (drop at s) n (sym (length_good (drop at s) n en e)) in
-            let m : 32 ≤ get_or s at 0 = class-over l in
+            let m : 32 ≤ get_or s at 0 = class_over l in
             moved n g p (λ q. absurd (omega arith))
 
         pub further : n < 5 → 0 < n
         further e = let (g, p) = good_is (drop at s) n (sym (length_good (drop at s) n en e)) in omega (arith, p)
 
-        pub bad-stop : 5 ≤ n → Faulty n at ≡ bare_from from 0 (drop from s)
-        bad-stop e = let (g, q) = bad_is (drop at s) n (sym (fault_bad (drop at s) n en e)) in stuck n q g (class-over l)
+        pub bad_stop : 5 ≤ n → Faulty n at ≡ bare_from from 0 (drop from s)
+        bad_stop e = let (g, q) = bad_is (drop at s) n (sym (fault_bad (drop at s) n en e)) in stuck n q g (class_over l)

@@ -32,14 +32,14 @@ module _ (s : List ℕ) (a : ℕ) (ea : a ≡ get_or s 0 0) where
           (λ p. split (eqb a (code "b")) (λ q. simp (← ea, ← eb, ne_eqb a double_quote n1, ne_eqb a single_quote n2, ne_eqb b single_quote h, p, q)) (λ q. simp (← ea, ← eb, ne_eqb a double_quote n1, ne_eqb a single_quote n2, ne_eqb b single_quote h, p, q)))
 
       module _ (q : b ≡ single_quote) where
-        pub unicode-mark : a ≡ code "u" → opens Unicode 2 ≡ opening s
+        pub unicode_mark : a ≡ code "u" → opens Unicode 2 ≡ opening s
         unfolding opening pick
-        unicode-mark h = simp (← ea, ← eb, ne_eqb a double_quote n1, ne_eqb a single_quote n2, eq-eqb a (code "u") h, eq-eqb b single_quote q)
+        unicode_mark h = simp (← ea, ← eb, ne_eqb a double_quote n1, ne_eqb a single_quote n2, eq-eqb a (code "u") h, eq-eqb b single_quote q)
 
-        pub bytes-mark : (a ≡ code "u" → ⊥) → a ≡ code "b" → opens Bytes 2 ≡ opening s
+        pub bytes_mark : (a ≡ code "u" → ⊥) → a ≡ code "b" → opens Bytes 2 ≡ opening s
         unfolding opening pick
-        bytes-mark n3 h = simp (← ea, ← eb, ne_eqb a double_quote n1, ne_eqb a single_quote n2, ne_eqb a (code "u") n3, eq-eqb a (code "b") h, eq-eqb b single_quote q)
+        bytes_mark n3 h = simp (← ea, ← eb, ne_eqb a double_quote n1, ne_eqb a single_quote n2, ne_eqb a (code "u") n3, eq-eqb a (code "b") h, eq-eqb b single_quote q)
 
-        pub other-mark : (a ≡ code "u" → ⊥) → (a ≡ code "b" → ⊥) → unopened ≡ opening s
+        pub other_mark : (a ≡ code "u" → ⊥) → (a ≡ code "b" → ⊥) → unopened ≡ opening s
         unfolding opening pick
-        other-mark n3 n4 = simp (← ea, ← eb, ne_eqb a double_quote n1, ne_eqb a single_quote n2, ne_eqb a (code "u") n3, ne_eqb a (code "b") n4)
+        other_mark n3 n4 = simp (← ea, ← eb, ne_eqb a double_quote n1, ne_eqb a single_quote n2, ne_eqb a (code "u") n3, ne_eqb a (code "b") n4)

@@ -172,13 +172,13 @@ module _ (out : List ℕ) (used from : ℕ) (le : used ≤ length out) (ef : fro
           empty [] x z = refl
           empty (b ∷ bs) x z = absurd (let y : ⊥ = omega arith in y)
 
-      pub holds-inside : n ≤ length out
-      holds-inside =
+      pub holds_inside : n ≤ length out
+      holds_inside =
           let (bs, (ev, (en, (g, w)))) = holds_is (read_line l) r new k n t e in omega (arith, part_length)
 
-      pub record-added : (out2 : List ℕ) → 4 ≤ length out - used → out2 ≡ sets (back new) used (head n k)
+      pub record_added : (out2 : List ℕ) → 4 ≤ length out - used → out2 ≡ sets (back new) used (head n k)
           → record { number = 0; place = 0; count = 4 + n; out = out2 } ≡ append_line l out used
-      record-added out2 h w2 =
+      record_added out2 h w2 =
           let (bs, (ev, (en, (g, w)))) = holds_is (read_line l) r new k n t e in
           let f : from ≡ used + 4 = long_from h in
           let c : 4 + n ≡ length (record_of k bs) = omega arith in

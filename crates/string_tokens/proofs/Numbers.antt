@@ -15,7 +15,7 @@ use Rattle.notation.specs.declared.styles.Style.TheVariants.{Json, Unicode, Byte
 use Rattle.notation.specs.Styles.{quote, took}
 use Rattle.escapes.specs.Hex.{hex_run, hex_number}
 use Rattle.escapes.specs.Escapes.{lookup, letters, low_half, code_unit}
-use Rattle.escapes.proofs.EscapeLaws.{unit_below, four_yes, escape-u}
+use Rattle.escapes.proofs.EscapeLaws.{unit_below, four_yes, escape_u}
 use Rattle.units.specs.Units.{unit_at}
 use Rattle.units.proofs.SingleLaws.{letter_at, slash_unit}
 use Rattle.string_tokens.specs.inner.Quotes.{len_of, Takes}
@@ -33,7 +33,7 @@ json_code s at h a b n v en ev f =
     let e₂ : at + 2 + 4 ≡ at + 6 = omega arith in
     let z : at + 1 + 0 ≡ at + 1 = omega arith in
     slash_unit Json s at (omega arith) a
-    ∙ sym (escape-u s (at + 1) (get_or s (at + 1) 0) (sym (get_or-drop (at + 1) s 0 0 ∙ ap (λ (k : ℕ). get_or s k 0) z)) Json _ b
+    ∙ sym (escape_u s (at + 1) (get_or s (at + 1) 0) (sym (get_or-drop (at + 1) s 0 0 ∙ ap (λ (k : ℕ). get_or s k 0) z)) Json _ b
     (rw e₁ (four_yes s (at + 2) n en _ v (low_half (drop (at + 6) s)) f ev (rw e₂ refl) refl)))
 
 pub code_is : (st : Style) (s : List ℕ) (at : ℕ) (q : ℕ) → q ≡ quote st → q ≡ 0x22 → 6 ≤ length s - at → at ≤ length s → get_or s at 0 ≡ 0x5c → get_or s (at + 1) 0 ≡ 0x75

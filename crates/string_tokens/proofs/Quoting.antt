@@ -87,12 +87,12 @@ module _ (s : List ℕ) (st : Style) (k : ℕ) (o : opening s ≡ opens st k) wh
       told : r ≡ token_of (read_token s)
       told = er ∙ ap token_of (sym token_units)
 
-      pub slashed-judged : (end count : ℕ) → (get_or (drop e s) 0 0 ≡ quote st → ⊥) → r ≡ Ended end count → Judged s (Slashed end count)
-      slashed-judged end count n f =
+      pub slashed_judged : (end count : ℕ) → (get_or (drop e s) 0 0 ≡ quote st → ⊥) → r ≡ Ended end count → Judged s (Slashed end count)
+      slashed_judged end count n f =
           record { so = record { style = st; from = k; mark = o; goes_on = λ z. n (ap (λ (i : ℕ). get_or (drop i s) 0 0) ee ∙ z); told = sym f ∙ told } }
 
-      pub faulty-judged : (number place : ℕ) → r ≡ Failed number place → Judged s (Faulty number place)
-      faulty-judged number place f = record { so = sym f ∙ told }
+      pub faulty_judged : (number place : ℕ) → r ≡ Failed number place → Judged s (Faulty number place)
+      faulty_judged number place f = record { so = sym f ∙ told }
 
 module _ (s : List ℕ) (m : Mark) (em : opening_of m ≡ opening s) where
   pub mark_is : (st : Style) (k : ℕ) → m ≡ Opens st k → opening s ≡ opens st k

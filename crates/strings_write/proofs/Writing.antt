@@ -168,8 +168,8 @@ module _ {form : Form} {s : List ℕ} {room : ℕ} {out₀ : List ℕ} {at o : �
           let a : at + (e - at) ≡ e = omega (arith, rw es at ee) in
           rw (a, run_length) at (moved run (e - at) run_here run_inside (omega (arith, run_length)) w)
 
-      pub run-stuck : (t : List ℕ) → out₀ ≡ sets t 0 (mark form) → length t ≤ room → room - 1 - o < e - at → Passed (quoted form s) room 0 t out'
-      run-stuck t g l f = stuck run (e - at) run_here t g l (omega (arith, run_length)) w
+      pub run_stuck : (t : List ℕ) → out₀ ≡ sets t 0 (mark form) → length t ≤ room → room - 1 - o < e - at → Passed (quoted form s) room 0 t out'
+      run_stuck t g l f = stuck run (e - at) run_here t g l (omega (arith, run_length)) w
 
   ended : length s ≤ at → quoted form s ≡ i.done ++ (quote (style_of form) ∷ [])
   unfolding write_units

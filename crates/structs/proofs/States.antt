@@ -15,7 +15,7 @@ state_of_lem u over e = ap (state_with u) e
 pub upload_of_lem : (s : Upload) (over : ℕ) → over ≡ ended_number s.ended → upload_with s over ≡ upload_of s
 upload_of_lem s over e = ap (upload_with s) e
 
-pub fed-from :
+pub fed_from_lem :
     (f : Fed) (v : J8Upload) → v ≡ upload_of f.state
     → ◌≡◌ {A = J8Fed} (record { upload = v; answer = answer_of f.answer }) (fed_from f)
-fed-from f v e = ap (λ (w : J8Upload). record { upload = w; answer = answer_of f.answer }) e
+fed_from_lem f v e = ap (λ (w : J8Upload). record { upload = w; answer = answer_of f.answer }) e

@@ -45,25 +45,25 @@ module _ (s : List ℕ) (at : ℕ) (h : at < length s) where
     start_word l = let q = rw cons at o in rw (cons, q, l)
 
     module _ (l : is_letter (get_or s at 0) ≡ false) where
-      pub start-digit : is_digit (get_or s at 0) ≡ true → Number ≡ start_of (drop at s)
+      pub start_digit : is_digit (get_or s at 0) ≡ true → Number ≡ start_of (drop at s)
       unfolding start_of pick
-      start-digit d = let q = rw cons at o in rw (cons, q, l, d)
+      start_digit d = let q = rw cons at o in rw (cons, q, l, d)
 
       module _ (d : is_digit (get_or s at 0) ≡ false) where
-        pub start-minus : get_or s at 0 ≡ 0x2d → Number ≡ start_of (drop at s)
+        pub start_minus : get_or s at 0 ≡ 0x2d → Number ≡ start_of (drop at s)
         unfolding start_of pick
-        start-minus e = let q = rw cons at o in rw (cons, q, l, d, eq-eqb (get_or s at 0) 0x2d e)
+        start_minus e = let q = rw cons at o in rw (cons, q, l, d, eq-eqb (get_or s at 0) 0x2d e)
 
         module _ (m : get_or s at 0 ≡ 0x2d → ⊥) where
-          pub start-list : get_or s at 0 ≡ 0x5b → ListStart ≡ start_of (drop at s)
+          pub start_list : get_or s at 0 ≡ 0x5b → ListStart ≡ start_of (drop at s)
           unfolding start_of pick
-          start-list e = let q = rw cons at o in rw (cons, q, l, d, ne_eqb (get_or s at 0) 0x2d m, eq-eqb (get_or s at 0) 0x5b e)
+          start_list e = let q = rw cons at o in rw (cons, q, l, d, ne_eqb (get_or s at 0) 0x2d m, eq-eqb (get_or s at 0) 0x5b e)
 
           module _ (b : get_or s at 0 ≡ 0x5b → ⊥) where
-            pub start-dict : get_or s at 0 ≡ 0x7b → Dict ≡ start_of (drop at s)
+            pub start_dict : get_or s at 0 ≡ 0x7b → Dict ≡ start_of (drop at s)
             unfolding start_of pick
-            start-dict e = let q = rw cons at o in rw (cons, q, l, d, ne_eqb (get_or s at 0) 0x2d m, ne_eqb (get_or s at 0) 0x5b b, eq-eqb (get_or s at 0) 0x7b e)
+            start_dict e = let q = rw cons at o in rw (cons, q, l, d, ne_eqb (get_or s at 0) 0x2d m, ne_eqb (get_or s at 0) 0x5b b, eq-eqb (get_or s at 0) 0x7b e)
 
-            pub start-nothing : (get_or s at 0 ≡ 0x7b → ⊥) → Nothing ≡ start_of (drop at s)
+            pub start_nothing : (get_or s at 0 ≡ 0x7b → ⊥) → Nothing ≡ start_of (drop at s)
             unfolding start_of pick
-            start-nothing e = let q = rw cons at o in rw (cons, q, l, d, ne_eqb (get_or s at 0) 0x2d m, ne_eqb (get_or s at 0) 0x5b b, ne_eqb (get_or s at 0) 0x7b e)
+            start_nothing e = let q = rw cons at o in rw (cons, q, l, d, ne_eqb (get_or s at 0) 0x2d m, ne_eqb (get_or s at 0) 0x5b b, ne_eqb (get_or s at 0) 0x7b e)

@@ -85,28 +85,28 @@ module _ (s : List ℕ) (from at : ℕ) (o : Bool) (i : Skipping s from at o) wh
         }
 
     module _ (inside : o ≡ true) where
-      pub comment-end : get_or s at 0 ≡ 10 → Skipping s from (at + 1) false
+      pub comment_end : get_or s at 0 ≡ 10 → Skipping s from (at + 1) false
       unfolding passing pick
-      comment-end e = moved false 1 (omega arith) (omega arith) (rw (inside, e))
+      comment_end e = moved false 1 (omega arith) (omega arith) (rw (inside, e))
 
-      pub comment-char : (get_or s at 0 ≡ 10 → ⊥) → (n : ℕ) → char_at (drop at s) ≡ Good n → Skipping s from (at + n) o
+      pub comment_char : (get_or s at 0 ≡ 10 → ⊥) → (n : ℕ) → char_at (drop at s) ≡ Good n → Skipping s from (at + n) o
       unfolding passing pick
-      comment-char ne n e =
+      comment_char ne n e =
           let g : (0 < n) × (n ≤ length (drop at s)) = good_len (drop at s) n e in
           moved o n g.0 (omega (arith, g.1, length-drop at s)) (rw (inside, e, ne_eqb (get_or s at 0) 10 ne))
 
-      pub comment-plain : (get_or s at 0 ≡ 10 → ⊥) → (k : ℕ) → k ≡ class_of (get_or s at 0) → k ≡ 0 → Skipping s from (at + 1) o
-      comment-plain ne k ek z = comment-char ne 1 (sym (is_one s at k h ek (omega arith)))
+      pub comment_plain : (get_or s at 0 ≡ 10 → ⊥) → (k : ℕ) → k ≡ class_of (get_or s at 0) → k ≡ 0 → Skipping s from (at + 1) o
+      comment_plain ne k ek z = comment_char ne 1 (sym (is_one s at k h ek (omega arith)))
 
-      pub comment-ill : (get_or s at 0 ≡ 10 → ⊥) → (number : ℕ) → char_at (drop at s) ≡ Bad number → Ill number (at - from) ≡ blanks (drop from s)
+      pub comment_ill : (get_or s at 0 ≡ 10 → ⊥) → (number : ℕ) → char_at (drop at s) ≡ Bad number → Ill number (at - from) ≡ blanks (drop from s)
       unfolding passing pick
-      comment-ill ne number e =
+      comment_ill ne number e =
           sym (i.same ∙ step_fault o (at - from) number (drop at s) some (rw (first, inside, e, ne_eqb (get_or s at 0) 10 ne)))
 
     module _ (outside : o ≡ false) where
-      pub space-on : is_space (get_or s at 0) ≡ true → Skipping s from (at + 1) o
+      pub space_on : is_space (get_or s at 0) ≡ true → Skipping s from (at + 1) o
       unfolding passing pick
-      space-on e = moved o 1 (omega arith) (omega arith) (rw (outside, e))
+      space_on e = moved o 1 (omega arith) (omega arith) (rw (outside, e))
 
       module _ (no_space : is_space (get_or s at 0) ≡ false) where
         pub mark_on : get_or s at 0 ≡ 35 → Skipping s from (at + 1) true

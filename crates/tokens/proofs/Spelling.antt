@@ -56,6 +56,6 @@ module _ (w : List ℕ) (a : Bool) (ea : a ≡ same_bytes w null_word) where
       unfolding word_value pick
       is_true t = rw (sym ea, fa, sym eb, fb, sym ed, t)
 
-      pub is-other : d ≡ false → Other ≡ word_value w
+      pub is_other_lem : d ≡ false → Other ≡ word_value w
       unfolding word_value pick
-      is-other t = rw (sym ea, fa, sym eb, fb, sym ed, t)
+      is_other_lem t = rw (sym ea, fa, sym eb, fb, sym ed, t)

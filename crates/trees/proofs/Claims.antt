@@ -5,7 +5,7 @@ use Rattle.trees.specs.Tables.{nodes_in}
 use Rattle.trees.specs.Claims.{TablesNest, WrittenTableReadsBack, WrittenTreeReadsBack, FitTablesAreSound, ReadTableIsFit, RestoredIsTheSame, RenderIsInjective, WrittenTableLength, UnicodeStringsAreUtf8}
 use Rattle.trees.proofs.Fitting.{tree_sound}
 use Rattle.trees.proofs.Rooms.{tree_room}
-use Rattle.trees.proofs.UnicodeStrings.{unicode-string}
+use Rattle.trees.proofs.UnicodeStrings.{unicode_string}
 use Rattle.trees.proofs.WholeTexts.{known_tree, written_known, written_read, front_read, render_one, read_nests, read_fit, text_sound}
 
 pub tables_nest : TablesNest
@@ -34,4 +34,4 @@ pub written_table_length : WrittenTableLength
 written_table_length r text store t e = tree_room text store r t e
 
 pub unicode_strings_are_utf8 : UnicodeStringsAreUtf8
-unicode_strings_are_utf8 = unicode-string
+unicode_strings_are_utf8 = unicode_string

@@ -210,40 +210,40 @@ module _ (text : List ℕ) where
       Round m zero ns bs = Empty m 0 ns bs
       Round m (suc t) ns bs = Member b m t ns bs
 
-      marked-member : (m t u : ℕ) (ns ms : List Node) (bs cs : List ℕ) → Member b m t ns bs → Marked (m + length bs) u ms cs → Round m u (ns ++ ms) (bs ++ cs)
-      marked-member m t zero ns ms bs cs f g = absurd (omega (arith, g.0))
-      marked-member m t (suc u) ns ms bs cs f g = rw (g.1.0, g.1.1, append-nil ns, append-nil bs) f
+      marked_member : (m t u : ℕ) (ns ms : List Node) (bs cs : List ℕ) → Member b m t ns bs → Marked (m + length bs) u ms cs → Round m u (ns ++ ms) (bs ++ cs)
+      marked_member m t zero ns ms bs cs f g = absurd (omega (arith, g.0))
+      marked_member m t (suc u) ns ms bs cs f g = rw (g.1.0, g.1.1, append-nil ns, append-nil bs) f
 
-      round-holds : HoldsBy Round (round close member)
+      round_holds : HoldsBy Round (round close member)
       unfolding close_or
-      round-holds = before Round spaces (close_or close member) spaces_holds (λ p n m. go p n m (drop p text) refl)
+      round_holds = before Round spaces (close_or close member) spaces_holds (λ p n m. go p n m (drop p text) refl)
         where
           go : (p n m : ℕ) (s : List ℕ) → drop p text ≡ s → Holds Round m (close_or close member p n m s)
           go p n m [] e = tt
           go p n m (x ∷ r) e =
               pick_case (Holds Round m) (eqb x close) (got 1 0 [] []) _ (λ z. (λ y. omega arith, λ b. bytes_none, (refl, refl)))
               (λ z. rw e at
-              (seq_holds (Member b) Marked Round marked-member member (seq spaces (comma close)) h (before Marked spaces (comma close) spaces_holds (comma_holds close)) p n m))
+              (seq_holds (Member b) Marked Round marked_member member (seq spaces (comma close)) h (before Marked spaces (comma close) spaces_holds (comma_holds close)) p n m))
 
       -- members one after another
       abbrev Rows : Of
       Rows m c ns bs = (ms : Members b) × RowMeant text b d m c ns bs ms
 
-      again-holds : (m l t : ℕ) (ns : List Node) (bs : List ℕ) (r : Read) → Holds (Member b) m (got l (suc t) ns bs) → Holds Rows (m + length bs) r
+      again_holds : (m l t : ℕ) (ns : List Node) (bs : List ℕ) (r : Read) → Holds (Member b) m (got l (suc t) ns bs) → Holds Rows (m + length bs) r
           → Holds Rows m (again l ns bs r)
-      again-holds m l t ns bs (got k c os cs) (z, y, (i, u, x)) (f, g, (ms, w)) = (
+      again_holds m l t ns bs (got k c os cs) (z, y, (i, u, x)) (f, g, (ms, w)) = (
         λ q. let j : 0 < l = z (omega arith) in omega arith,
         λ q. bytes_append bs cs (y q) (g q),
         (one i u ms, row_next text b d m c ns bs i u os cs ms x w),
       )
-      again-holds m l t ns bs (refused code at) f g = tt
+      again_holds m l t ns bs (refused code at) f g = tt
 
       abbrev Loop : List ℕ → Type 0
       Loop s = (p n m : ℕ) → drop p text ≡ s → Holds Rows m (members close member p n m 0 s)
 
       loop_one : (x : ℕ) (r : List ℕ) → ((k : ℕ) → Loop (drop k r)) → Loop (x ∷ r)
       unfolding members
-      loop_one x r ih p n m e = go (round close member p n m (x ∷ r)) (rw e at (round-holds p n m))
+      loop_one x r ih p n m e = go (round close member p n m (x ∷ r)) (rw e at (round_holds p n m))
         where
           go : (q : Read) → Holds Round m q → Holds Rows m (follow p n m q (λ q i j k. members close member q i j k r))
           go (refused code at) f = tt
@@ -256,18 +256,18 @@ module _ (text : List ℕ) where
           go (got zero (suc (suc t)) ns bs) (z, y, a) = absurd (let j : 0 < 0 = z (omega arith) in omega arith)
           go (got (suc l) (suc (suc t)) ns bs) f =
               rw (members_skip close member (p + suc l) (n + length ns) (m + length bs) l r)
-              (again-holds m (suc l) (suc t) ns bs (members close member (p + suc l) (n + length ns) (m + length bs) 0 (drop l r)) f
+              (again_holds m (suc l) (suc t) ns bs (members close member (p + suc l) (n + length ns) (m + length bs) 0 (drop l r)) f
               (ih l (p + suc l) (n + length ns) (m + length bs) (sym (drop-drop (suc l) p text) ∙ ap (drop (suc l)) e)))
 
-      members-hold : (p n m : ℕ) → Holds Rows m (members close member p n m 0 (drop p text))
+      members_hold : (p n m : ℕ) → Holds Rows m (members close member p n m 0 (drop p text))
       unfolding members
-      members-hold p n m = by_suffix Loop (λ p n m e. tt) loop_one (drop p text) p n m refl
+      members_hold p n m = by_suffix Loop (λ p n m e. tt) loop_one (drop p text) p n m refl
 
     bracketed_holds : (b : Sort) (v : Reader) → HoldsBy (Trees d) v → HoldsBy (Trees (suc d)) (group_of b v)
     unfolding group_of
     bracketed_holds b v h p n m =
         rw (drop-drop 1 p text)
-        (go (members (close_of b) (member_of b v) (p + 1) (n + 1) m 0 (drop (p + 1) text)) (members-hold b (close_of b) (member_of b v) (member_holds b v h) (p + 1) (n + 1) m))
+        (go (members (close_of b) (member_of b v) (p + 1) (n + 1) m 0 (drop (p + 1) text)) (members_hold b (close_of b) (member_of b v) (member_holds b v h) (p + 1) (n + 1) m))
       where
         go : (r : Read) → Holds (λ m c ns bs. (ms : Members b) × RowMeant text b d m c ns bs ms) m r → Holds (Trees (suc d)) m (branched (group_kind b) p r)
         go (got l c ns bs) (z, y, (ms, x)) = (λ q. omega arith, y, (branch b ms, branch_meant text b d m p c ns bs ms x))

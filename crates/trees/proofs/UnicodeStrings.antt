@@ -42,9 +42,9 @@ module _ (text before behind bs w : List ℕ) (p n l tag : ℕ) (v : Node) where
       rw c at valid
   by_token (unread number at) t valid h m = never (let z = rw t at h in cc)
 
-pub unicode-string :
+pub unicode_string :
     (text before behind bs w : List ℕ) (p n k l tag : ℕ) (v : Node) → opening (drop p text) ≡ opens Unicode k
     → string p n (length before) (drop p text) ≡ got l tag (v ∷ []) bs → string_of text (before ++ (bs ++ behind)) v ≡ just w
     → valid_utf8 w ≡ true
-unicode-string text before behind bs w p n k l tag v o h m =
+unicode_string text before behind bs w p n k l tag v o h m =
     by_token text before behind bs w p n l tag v (read_token (drop p text)) refl (token_valid (drop p text) k o) h m

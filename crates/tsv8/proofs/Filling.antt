@@ -151,11 +151,11 @@ module _ (s : List ℕ) (q e ty i m : ℕ) (h : q ≤ length s) (ee : e ≡ q + 
           split (eqb kind 6) (λ z. (omega (arith, y.stored (eqb-true kind 6 z)), omega (arith, k)))
           (λ z. (omega (arith, y.inside (eqb-false kind 6 z), here_in.1), omega (arith, k)))
 
-      stored-table : (t t' : List ℕ) → t' ≡ sets t (3 * i) (kind ∷ place ∷ size ∷ []) → t' ≡ sets t (3 * i) (flat (cells_in want))
-      stored-table t t' x = x ∙ ap (sets t (3 * i)) (sym (ap (λ (y : Cells). flat (cells_in y)) same ∙ one-flat))
+      stored_table : (t t' : List ℕ) → t' ≡ sets t (3 * i) (kind ∷ place ∷ size ∷ []) → t' ≡ sets t (3 * i) (flat (cells_in want))
+      stored_table t t' x = x ∙ ap (sets t (3 * i)) (sym (ap (λ (y : Cells). flat (cells_in y)) same ∙ one_flat))
         where
-          one-flat : flat (cell kind place size ∷ []) ≡ kind ∷ place ∷ size ∷ []
-          one-flat = flat_one (cell kind place size)
+          one_flat : flat (cell kind place size ∷ []) ≡ kind ∷ place ∷ size ∷ []
+          one_flat = flat_one (cell kind place size)
 
       -- a string with an escape
       module _ (six : kind ≡ 6) where
@@ -174,26 +174,26 @@ module _ (s : List ℕ) (q e ty i m : ℕ) (h : q ≤ length s) (ee : e ≡ q + 
         six_asks st x =
             length-take-le (m + size - m) (drop m st) (omega (arith, length-drop m st, six_room (length st) x)) ∙ (let z : m + size - m ≡ size = omega arith in z) ∙ sym size_is ∙ ap length bytes_are
 
-        pub six-put : (t t' st new : List ℕ) → t' ≡ sets t (3 * i) (kind ∷ place ∷ size ∷ []) → new ≡ denoted (read_token w) → m + length (bytes_in want) ≤ length st
+        pub six_put : (t t' st new : List ℕ) → t' ≡ sets t (3 * i) (kind ∷ place ∷ size ∷ []) → new ≡ denoted (read_token w) → m + length (bytes_in want) ≤ length st
             → (e ≡ q + cell_run (drop q s)) × ((m + size ≡ m + length (bytes_in want)) × ((t' ≡ sets t (3 * i) (flat (cells_in want))) × (put_mid m (m + size - m) st new ≡ sets st m (bytes_in want))))
-        six-put t t' st new x n l =
+        six_put t t' st new x n l =
             let b : new ≡ bytes_in want = n ∙ sym bytes_are ∙ sym (ap bytes_in same) in (
               ee,
               (
                 omega (arith, size_is, ap (λ (y : Cells). length (bytes_in y)) same),
                 (
-                  stored-table t t' x,
+                  stored_table t t' x,
                   part_filled st new m (m + size) (omega (arith, ap length b, size_is, ap (λ (y : Cells). length (bytes_in y)) same)) (six_room (length st) l) ∙ ap (sets st m) b,
                 ),
               ),
             )
 
-      pub other-put : (kind ≡ 6 → ⊥) → (t t' st : List ℕ) → t' ≡ sets t (3 * i) (kind ∷ place ∷ size ∷ [])
+      pub other_put : (kind ≡ 6 → ⊥) → (t t' st : List ℕ) → t' ≡ sets t (3 * i) (kind ∷ place ∷ size ∷ [])
           → (e ≡ q + cell_run (drop q s)) × ((m ≡ m + length (bytes_in want)) × ((t' ≡ sets t (3 * i) (flat (cells_in want))) × (st ≡ sets st m (bytes_in want))))
       unfolding pick
-      other-put ne t t' st x =
+      other_put ne t t' st x =
           let b : bytes_in want ≡ [] = ap bytes_in same ∙ told.denotes ∙ rw (ne_eqb kind 6 ne) in
-          (ee, (omega (arith, ap length b), (stored-table t t' x, ap (sets st m) (sym b))))
+          (ee, (omega (arith, ap length b), (stored_table t t' x, ap (sets st m) (sym b))))
 
     pub none_put : (number at : ℕ) → r ≡ Refused number at → (t st : List ℕ)
         → (e ≡ q + cell_run (drop q s)) × ((m ≡ m + length (bytes_in want)) × ((t ≡ sets t (3 * i) (flat (cells_in want))) × (st ≡ sets st m (bytes_in want))))
@@ -287,8 +287,8 @@ module _ (s types : List ℕ) (from n i m : ℕ) (table₀ store₀ : List ℕ) 
         at_end_lem = omega (arith, over, w.ends)
 
     module _ (h : k < n) where
-      pub tab-next : (q < length s) × (get_or s q 0 ≡ TAB)
-      tab-next =
+      pub tab_next : (q < length s) × (get_or s q 0 ≡ TAB)
+      tab_next =
           split (eqb (get_or (drop q s) 0 0) TAB) (λ t. tab_there s q (get_or (drop q s) 0 0) refl (eqb-true (get_or (drop q s) 0 0) TAB t))
           (λ t. let z : length (cells_at s q) ≡ 0 = ap length (cells_none s q w.starts (eqb-false (get_or (drop q s) 0 0) TAB t)).0 in absurd (omega (arith, w.due, z)))
 
@@ -300,7 +300,7 @@ module _ (s types : List ℕ) (from n i m : ℕ) (table₀ store₀ : List ℕ) 
 
       cells_are : cells_at s q ≡ part (q + 1) (take (cell_run (drop (q + 1) s)) (drop (q + 1) s)) ∷ cells_at s e
       cells_are =
-          cells_tab s q tab-next.0 tab-next.1
+          cells_tab s q tab_next.0 tab_next.1
           ∙ (λ y. part (sym (add-one q) y) (take (cell_run (drop (sym (add-one q) y) s)) (drop (sym (add-one q) y) s)) ∷ cells_at s (sym (add-one q) y + cell_run (drop (sym (add-one q) y) s)))
 
       step : Chained j one (λ y. cells_of (types_from types n (k + 1)) y (cells_at s e)) w.others w.left
@@ -313,11 +313,11 @@ module _ (s types : List ℕ) (from n i m : ℕ) (table₀ store₀ : List ℕ) 
       one_bytes = ap (λ (x : Cells). length (bytes_in x)) step.same
 
       -- room for it
-      pub cell-fits : (q + 1 ≤ length s) × ((j ≤ text_max + 1) × ((3 * (i + k) + 3 ≤ length table) × (j + length (bytes_in one) ≤ length store)))
-      cell-fits =
+      pub cell_fits : (q + 1 ≤ length s) × ((j ≤ text_max + 1) × ((3 * (i + k) + 3 ≤ length table) × (j + length (bytes_in one) ≤ length store)))
+      cell_fits =
           let b = ap length w.every ∙ length-append w.bytes w.left in
           let c = ap length step.every ∙ length-append step.bytes step.rest in
-          (omega (arith, tab-next.0), (omega (arith, f.short, w.stored, b), (omega (arith, f.room, row_count, table_long), omega (arith, one_bytes, f.long, w.stored, b, c, store_long))))
+          (omega (arith, tab_next.0), (omega (arith, f.short, w.stored, b), (omega (arith, f.room, row_count, table_long), omega (arith, one_bytes, f.long, w.stored, b, c, store_long))))
 
       pub writing_more : (end count : ℕ) (t' s' : List ℕ) → (end ≡ e) × ((count ≡ j + length (bytes_in one)) × ((t' ≡ sets table (3 * (i + k)) (flat (cells_in one))) × (s' ≡ sets store j (bytes_in one))))
           → Writing s types from n i m f.cells f.bytes table₀ store₀ end (k + 1) count t' s'
@@ -326,7 +326,7 @@ module _ (s types : List ℕ) (from n i m : ℕ) (table₀ store₀ : List ℕ) 
           let n1 = cell_one (type_of (get_or types k 0)) j (part (q + 1) (take (cell_run (drop (q + 1) s)) (drop (q + 1) s))) x.cells x.bytes x.same in
           let lc : cells_in one ≡ x.cells = ap cells_in x.same in
           let lb : bytes_in one ≡ x.bytes = ap bytes_in x.same in
-          let ce = cell_ended s (q + 1) end cell-fits.0 ue in
+          let ce = cell_ended s (q + 1) end cell_fits.0 ue in
           record {
             cells = w.cells ++ x.cells;
             bytes = w.bytes ++ x.bytes;
@@ -340,7 +340,7 @@ module _ (s types : List ℕ) (from n i m : ℕ) (table₀ store₀ : List ℕ) 
             due = (let l : length (cells_at s q) ≡ suc (length (cells_at s e)) = ap length cells_are in omega (arith, w.due, l, ap (λ (y : ℕ). length (cells_at s y)) ue));
             inside = ce.0;
             starts = ce.1;
-            ends = line-end ue ∙ w.ends;
+            ends = line_end_lem ue ∙ w.ends;
             few = omega arith;
             numbers = ut ∙ (λ y. sets (w.numbers y) (3 * (i + k)) (flat (lc y))) ∙ sets_append (flat w.cells) (flat x.cells) table₀ (3 * i) (3 * (i + k)) (omega (arith, flat_length w.cells, w.count))
                 ∙ ap (sets table₀ (3 * i)) (sym (flat_append w.cells x.cells));
@@ -350,10 +350,10 @@ module _ (s types : List ℕ) (from n i m : ℕ) (table₀ store₀ : List ℕ) 
           counted : count ≡ j + length step.bytes
           counted = uc ∙ ap (λ (y : ℕ). j + y) one_bytes
 
-          line-end : end ≡ e → line_end s end ≡ line_end s q
-          line-end u =
+          line_end_lem : end ≡ e → line_end s end ≡ line_end s q
+          line_end_lem u =
               let on : end ≡ suc q + cell_run (drop (suc q) s) = rw (sym (add-one q)) u in
-              let r : line_run (drop q s) ≡ end - q + line_run (drop (end - q) (drop q s)) = line_on (drop q s) (end - q) (tab_passes s q end tab-next.0 tab-next.1 on) in
+              let r : line_run (drop q s) ≡ end - q + line_run (drop (end - q) (drop q s)) = line_on (drop q s) (end - q) (tab_passes s q end tab_next.0 tab_next.1 on) in
               let z : q + (end - q) ≡ end = omega (arith, on) in
               omega (arith, r, on, ap line_run (drop-drop (end - q) q s ∙ ap (λ (y : ℕ). drop y s) z))
 
@@ -489,11 +489,11 @@ module _ (s types : List ℕ) (from n m : ℕ) (table₀ store₀ : List ℕ) (a
         )
 
     module _ (h : at < length s) where
-      pub line-within : line_end s at ≤ length s
-      line-within = omega (arith, run_within (drop at s), length-drop at s)
+      pub line_within : line_end s at ≤ length s
+      line_within = omega (arith, run_within (drop at s), length-drop at s)
 
-      pub spread-skip : (e : ℕ) → (get_or s at 0 ≡ TAB → ⊥) → e ≡ at + line_run (drop at s) → Spreading s ts m f.cells f.bytes table₀ store₀ (e + 1) i j table store
-      spread-skip e t ee =
+      pub spread_skip : (e : ℕ) → (get_or s at 0 ≡ TAB → ⊥) → e ≡ at + line_run (drop at s) → Spreading s ts m f.cells f.bytes table₀ store₀ (e + 1) i j table store
+      spread_skip e t ee =
           let (b, g) = skip_got s at h w.behind ts j t w.others w.left w.rest in
           let z : suc (line_end s at) ≡ e + 1 = omega (arith, ee) in
           record {
@@ -507,7 +507,7 @@ module _ (s types : List ℕ) (from n m : ℕ) (table₀ store₀ : List ℕ) (a
             every = w.every;
             count = w.count;
             stored = w.stored;
-            inside = omega (arith, z, line-within);
+            inside = omega (arith, z, line_within);
             numbers = w.numbers;
             put = w.put;
           }
@@ -523,11 +523,11 @@ module _ (s types : List ℕ) (from n m : ℕ) (table₀ store₀ : List ℕ) (a
         row_is : (length (cells_at s at) ≡ length ts) × (row_of ≡ got line.cells line.bytes)
         row_is = row_got ts j at (cells_at s at) line.cells line.bytes line.same
 
-        row-length : length line.cells ≡ n
-        row-length = cells_count ts j (cells_at s at) line.cells line.bytes row_is.1 row_is.0 ∙ types_long types n a
+        row_length : length line.cells ≡ n
+        row_length = cells_count ts j (cells_at s at) line.cells line.bytes row_is.1 row_is.0 ∙ types_long types n a
 
-        pub row-due : length (cells_at s at) ≡ n
-        row-due = row_is.0 ∙ types_long types n a
+        pub row_due : length (cells_at s at) ≡ n
+        row_due = row_is.0 ∙ types_long types n a
 
         row_room : 3 * (i + length line.cells) ≤ length table
         row_room =
@@ -549,7 +549,7 @@ module _ (s types : List ℕ) (from n m : ℕ) (table₀ store₀ : List ℕ) (a
             }
 
         pub rows_few : 3 * (i + n) ≤ length table₀
-        rows_few = omega (arith, row_room, row-length, spread_table)
+        rows_few = omega (arith, row_room, row_length, spread_table)
 
         pub spread_more : (end count : ℕ) (t' s' : List ℕ) → (end ≡ line_end s at) × ((count ≡ j + length (bytes_in row_of)) × ((t' ≡ sets table (3 * i) (flat (cells_in row_of))) × (s' ≡ sets store j (bytes_in row_of))))
             → Spreading s ts m f.cells f.bytes table₀ store₀ (end + 1) (i + n) count t' s'
@@ -568,9 +568,9 @@ module _ (s types : List ℕ) (from n m : ℕ) (table₀ store₀ : List ℕ) (a
               rest = (λ y. read_lines true ts (u y) (lines_from s (z y))) ∙ x.behind;
               all = w.all ∙ ap (λ (y : List Cell). w.cells ++ y) x.all ∙ sym (append_assoc w.cells x.cells x.others);
               every = w.every ∙ ap (λ (y : List ℕ). w.bytes ++ y) x.every ∙ sym (append_assoc w.bytes x.bytes x.rest);
-              count = omega (arith, w.count, row-length, length-append w.cells x.cells);
+              count = omega (arith, w.count, row_length, length-append w.cells x.cells);
               stored = omega (arith, u, w.stored, length-append w.bytes x.bytes);
-              inside = omega (arith, z, line-within);
+              inside = omega (arith, z, line_within);
               numbers = ut ∙ (λ y. sets (w.numbers y) (3 * i) (flat (lc y))) ∙ sets_append (flat w.cells) (flat x.cells) table₀ 0 (3 * i) (omega (arith, flat_length w.cells, w.count))
                   ∙ ap (sets table₀ 0) (sym (flat_append w.cells x.cells));
               put = us ∙ (λ y. sets (w.put y) j (lb y)) ∙ sets_append w.bytes x.bytes store₀ m j (sym w.stored);

@@ -102,9 +102,9 @@ module _ (s : List ℕ) (from at n m : ℕ) (w : Left s from at) (new : List ℕ
     rest_in = let u = typed (blank_cells n) [] (blank_length n) in (u.onward, (u.inside, u.long))
 
     module _ (p : Counted) (x : LinesTold (length s) (read_lines false (types_of (take n new)) m (lines_from s rest)) m p) where
-      pub lines-stop : (q number place : ℕ) → p ≡ CountRefused number place → (ns : List Cell) (bs : List ℕ) → length ns ≡ n → length bs ≡ m
+      pub lines_stop : (q number place : ℕ) → p ≡ CountRefused number place → (ns : List Cell) (bs : List ℕ) → length ns ≡ n → length bs ≡ m
           → BehindTold s (behind_names ns bs (lines_from s from)) ns bs q n m new (Refused number place)
-      lines-stop q number place f ns bs c d =
+      lines_stop q number place f ns bs c d =
           let u = typed ns bs c in
           let y : read_lines false (types_of (take n new)) m (lines_from s rest) ≡ refused number place = subst (LinesBy (length s) _ m) f x.so in
           record {
@@ -113,9 +113,9 @@ module _ (s : List ℕ) (from at n m : ℕ) (w : Left s from at) (new : List ℕ
                 ∙ ap (joined ns (types_of (take n new)) bs) y;
           }
 
-      pub lines-all : (q cells stored : ℕ) → p ≡ All cells stored → m ≤ from → (ns : List Cell) (bs : List ℕ) → length ns ≡ n → length bs ≡ m
+      pub lines_all : (q cells stored : ℕ) → p ≡ All cells stored → m ≤ from → (ns : List Cell) (bs : List ℕ) → length ns ≡ n → length bs ≡ m
           → BehindTold s (behind_names ns bs (lines_from s from)) ns bs q n m new (Fine (record { names = q; columns = n; rest = rest; cells = cells; stored = stored }))
-      lines-all q cells stored f h ns bs c d =
+      lines_all q cells stored f h ns bs c d =
           let u = typed ns bs c in
           let y : LinesGot (length s) (read_lines false (types_of (take n new)) m (lines_from s rest)) m cells stored = subst (LinesBy (length s) _ m) f x.so in
           record {
@@ -198,44 +198,44 @@ module _ (s : List ℕ) (at : ℕ) (w : Left s 0 at) where
       few : (length (cells_at s q) ≡ k) × (k ≤ column_max)
       few = (tested.1 nz).1
 
-      pub columns-in : (0 < k) × (k ≤ column_max)
-      columns-in = (some k nz, few.1)
+      pub columns_in : (0 < k) × (k ≤ column_max)
+      columns_in = (some k nz, few.1)
         where
           some : (i : ℕ) → (i ≡ 0 → ⊥) → 0 < i
           some zero n = absurd (n refl)
           some (suc i) n = omega arith
 
-      head-is : read_all s ≡ by_names (cells_of (all_strs k) 0 (cells_at s q)) rest
-      head-is =
+      head_is : read_all s ≡ by_names (cells_of (all_strs k) 0 (cells_at s q)) rest
+      head_is =
           all_from s ∙ ap read_sheet lines_are ∙ first_right ln rest (test ∙ (tested.1 nz).0)
           ∙ ap (λ (c : List Part). by_names (cells_of (all_strs (length c)) 0 c) rest) cells_is
           ∙ ap (λ (i : ℕ). by_names (cells_of (all_strs i) 0 (cells_at s q)) rest) few.0
 
       module _ (types : List ℕ) (a : AllStrs types) (r : Row) (x : RowTold (row_read (types_of (take k types)) 0 at (cells_at s q)) (line_end s q) q k 0 r) where
-        names-are : row_read (types_of (take k types)) 0 at (cells_at s q) ≡ cells_of (all_strs k) 0 (cells_at s q)
+        names_are : row_read (types_of (take k types)) 0 at (cells_at s q) ≡ cells_of (all_strs k) 0 (cells_at s q)
         unfolding row_read pick
-        names-are =
+        names_are =
             let l : length (cells_at s q) ≡ length (types_of (take k types)) = few.0 ∙ sym (types_long types k (a k few.1).0) in
             rw (eq-eqb (length (cells_at s q)) (length (types_of (take k types))) l) (ap (λ (ts : List ColumnType). cells_of ts 0 (cells_at s q)) (a k few.1).1)
 
-        pub names-stop : (number place : ℕ) → r ≡ RowRefused number place → (new : List ℕ) → HeadTold s (read_all s) new (Refused number place)
-        names-stop number place e new =
+        pub names_stop : (number place : ℕ) → r ≡ RowRefused number place → (new : List ℕ) → HeadTold s (read_all s) new (Refused number place)
+        names_stop number place e new =
             let y : row_read (types_of (take k types)) 0 at (cells_at s q) ≡ refused number place = subst (RowBy _ (line_end s q) q k 0) e x.so in
-            record { so = head-is ∙ ap (λ (c : Cells). by_names c rest) (sym names-are ∙ y) }
+            record { so = head_is ∙ ap (λ (c : Cells). by_names c rest) (sym names_are ∙ y) }
 
         module _ (e m : ℕ) (z : r ≡ Ended e m) where
-          pub names-got : RowGot (row_read (types_of (take k types)) 0 at (cells_at s q)) (line_end s q) q k 0 e m
-          names-got = subst (RowBy _ (line_end s q) q k 0) z x.so
+          pub names_got : RowGot (row_read (types_of (take k types)) 0 at (cells_at s q)) (line_end s q) q k 0 e m
+          names_got = subst (RowBy _ (line_end s q) q k 0) z x.so
 
           abbrev ns : List Cell
-          ns = names-got.cells
+          ns = names_got.cells
 
           abbrev bs : List ℕ
-          bs = names-got.bytes
+          bs = names_got.bytes
 
-          pub names_in : (e ≤ length s) × ((m ≤ e) × ((length names-got.cells ≡ k) × (length names-got.bytes ≡ m)))
+          pub names_in : (e ≤ length s) × ((m ≤ e) × ((length names_got.cells ≡ k) × (length names_got.bytes ≡ m)))
           names_in =
-              let y = names-got in
+              let y = names_got in
               (omega (arith, y.ends, start_in.0, run_within (drop q s), length-drop q s), (y.small, (y.count, omega (arith, y.stored))))
 
           same_end : line_end s at ≡ line_end s q
@@ -243,14 +243,14 @@ module _ (s : List ℕ) (at : ℕ) (w : Left s 0 at) where
               let y : line_run (drop at s) ≡ cell_run (drop at s) + line_run (drop (cell_run (drop at s)) (drop at s)) = line_on (drop at s) (cell_run (drop at s)) (cell_line (drop at s)) in
               omega (arith, y, eq, ap line_run (drop-drop (cell_run (drop at s)) at s ∙ ap (λ (i : ℕ). drop i s) (sym eq)))
 
-          behind_is : read_all s ≡ behind_names names-got.cells names-got.bytes (lines_from s (e + 1))
+          behind_is : read_all s ≡ behind_names names_got.cells names_got.bytes (lines_from s (e + 1))
           behind_is =
-              let y : suc (line_end s at) ≡ e + 1 = omega (arith, same_end, names-got.ends) in
-              head-is ∙ ap (λ (c : Cells). by_names c rest) (sym names-are ∙ names-got.same) ∙ ap (λ (i : ℕ). behind_names names-got.cells names-got.bytes (lines_from s i)) y
+              let y : suc (line_end s at) ≡ e + 1 = omega (arith, same_end, names_got.ends) in
+              head_is ∙ ap (λ (c : Cells). by_names c rest) (sym names_are ∙ names_got.same) ∙ ap (λ (i : ℕ). behind_names names_got.cells names_got.bytes (lines_from s i)) y
 
-          pub head-told : (new : List ℕ) (j : Judged)
+          pub head_told : (new : List ℕ) (j : Judged)
               → ((ns : List Cell) (bs : List ℕ) → length ns ≡ k → length bs ≡ m → BehindTold s (behind_names ns bs (lines_from s (e + 1))) ns bs q k m new j) → HeadTold s (read_all s) new j
-          head-told new j f = go j (subst (λ (v : SheetRead). BehindTold s v ns bs q k m new j) (sym behind_is) (f ns bs names_in.1.1.0 names_in.1.1.1))
+          head_told new j f = go j (subst (λ (v : SheetRead). BehindTold s v ns bs q k m new j) (sym behind_is) (f ns bs names_in.1.1.0 names_in.1.1.1))
             where
               go : (j : Judged) → BehindTold s (read_all s) ns bs q k m new j → HeadTold s (read_all s) new j
               go (Fine o) u =
@@ -265,11 +265,11 @@ module _ (s : List ℕ) (at : ℕ) (w : Left s 0 at) where
                       names = ns;
                       before = bs;
                       behind = c;
-                      first = (λ i. cells_of (all_strs (g i)) 0 (cells_at s (n i))) ∙ sym names-are ∙ names-got.same;
+                      first = (λ i. cells_of (all_strs (g i)) 0 (cells_at s (n i))) ∙ sym names_are ∙ names_got.same;
                       count = names_in.1.1.0 ∙ sym g;
                       due = ap (λ (i : ℕ). length (cells_at s i)) n ∙ few.0 ∙ sym g;
                       few = omega (arith, few.1, g);
-                      some = omega (arith, columns-in.0, g);
+                      some = omega (arith, columns_in.0, g);
                       inside = omega (arith, start_in.0, n);
                       starts = subst (Starts s) (sym n) start_in.1;
                     };

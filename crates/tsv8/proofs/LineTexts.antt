@@ -154,20 +154,20 @@ module _ (s : List ℕ) (at : ℕ) (h : at < length s) where
       there : drop e s ≡ drop (gap_run (drop at s)) (drop at s)
       there = ap (λ (k : ℕ). drop k s) ee ∙ sym (drop-drop (gap_run (drop at s)) at s)
 
-      pub gap-skipped : o ≡ true → LineTold s behind ts m at n (Skipped e)
-      gap-skipped q =
+      pub gap_skipped : o ≡ true → LineTold s behind ts m at n (Skipped e)
+      gap_skipped q =
           let g = gap_over (drop at s) (ap line_run (sym there) ∙ eqb-true _ _ (sym eo ∙ q)) in
           let z : line_end s at ≡ e = omega (arith, g.1) in
           record { so = record { ends = sym z; same = ap (read_lines behind ts m) (lines_skip s at g.0 ∙ ap (λ (k : ℕ). lines_from s (suc k)) z) } }
 
-      pub gap-stray : o ≡ false → LineTold s behind ts m at n (LineRefused 20 at)
-      gap-stray q =
+      pub gap_stray : o ≡ false → LineTold s behind ts m at n (LineRefused 20 at)
+      gap_stray q =
           let i : is_ignored (line_at s at) ≡ false = gap_not (drop at s) (λ z. eqb-false _ _ (sym eo ∙ q) (ap line_run there ∙ z)) in
-          record { so = refused_line i 20 (line_by_lem ∙ stray-by (eqb (length (cells_at s at)) (length ts)) (first_begins (not_ended i) t)) }
+          record { so = refused_line i 20 (line_by_lem ∙ stray_by (eqb (length (cells_at s at)) (length ts)) (first_begins (not_ended i) t)) }
         where
-          stray-by : (y : Bool) → first ≡ x ∷ take (cell_run (drop (suc at) s)) (drop (suc at) s)
+          stray_by : (y : Bool) → first ≡ x ∷ take (cell_run (drop (suc at) s)) (drop (suc at) s)
               → pick y (line_by (sort_of first) behind ts m (line_of (part at (line_at s at)))) (refused 20 at) ≡ refused 20 at
-          stray-by y f =
+          stray_by y f =
               ap (λ (u : LineSort). pick y (line_by u behind ts m (line_of (part at (line_at s at)))) (refused 20 at)) (ap sort_of f ∙ stray_sort x (take (cell_run (drop (suc at) s)) (drop (suc at) s)) b)
               ∙ both y (refused 20 at)
 
@@ -176,8 +176,8 @@ module _ (s : List ℕ) (at : ℕ) (h : at < length s) where
       no_lf : x ≡ LF → ⊥
       no_lf z = omega (arith, b, z)
 
-      no-tab : x ≡ TAB → ⊥
-      no-tab z = omega (arith, b, z)
+      no_tab : x ≡ TAB → ⊥
+      no_tab z = omega (arith, b, z)
 
       stays : is_ignored (line_at s at) ≡ false
       stays = line_stays no_lf (note_gap x b)
@@ -185,23 +185,23 @@ module _ (s : List ℕ) (at : ℕ) (h : at < length s) where
       count_is : length (cells_at s at) ≡ c
       count_is = ap length (cells_on s at ∙ ap (cells_at s) (sym eq)) ∙ sym ec
 
-      sort-is : sort_of first ≡ pick (same_bytes first type_mark) typing other
-      sort-is =
-          let f = first_begins no_lf no-tab in
+      sort_is : sort_of first ≡ pick (same_bytes first type_mark) typing other
+      sort_is =
+          let f = first_begins no_lf no_tab in
           ap sort_of f ∙ note_sort x (take (cell_run (drop (suc at) s)) (drop (suc at) s)) b ∙ ap (λ (u : List ℕ). pick (same_bytes u type_mark) typing other) (sym f)
 
-      pub note-count : (c ≡ n → ⊥) → LineTold s behind ts m at n (LineRefused 20 at)
+      pub note_count : (c ≡ n → ⊥) → LineTold s behind ts m at n (LineRefused 20 at)
       unfolding pick
-      note-count ne = record { so = refused_line stays 20 (line_by_lem ∙ rw (ne_eqb (length (cells_at s at)) (length ts) (λ z. ne (sym count_is ∙ z ∙ l)))) }
+      note_count ne = record { so = refused_line stays 20 (line_by_lem ∙ rw (ne_eqb (length (cells_at s at)) (length ts) (λ z. ne (sym count_is ∙ z ∙ l)))) }
 
       module _ (ce : c ≡ n) where
         counted : read_line behind ts m (line_of (part at (line_at s at))) ≡ line_by (sort_of first) behind ts m (line_of (part at (line_at s at)))
         unfolding pick
         counted = line_by_lem ∙ rw (eq-eqb (length (cells_at s at)) (length ts) (count_is ∙ ce ∙ sym l))
 
-        pub note-behind : behind ≡ true → LineTold s behind ts m at n (LineRefused 20 at)
-        note-behind z =
-            record { so = refused_line stays 20 (counted ∙ rw (z, sort-is) (behind_data (same_bytes first type_mark) ts m (line_of (part at (line_at s at))))) }
+        pub note_behind : behind ≡ true → LineTold s behind ts m at n (LineRefused 20 at)
+        note_behind z =
+            record { so = refused_line stays 20 (counted ∙ rw (z, sort_is) (behind_data (same_bytes first type_mark) ts m (line_of (part at (line_at s at))))) }
 
         module _ (z : behind ≡ false) (d : Bool) (ed : d ≡ same_bytes (take (q - at) (drop at s)) type_mark) where
           first_is : first ≡ take (q - at) (drop at s)
@@ -210,18 +210,18 @@ module _ (s : List ℕ) (at : ℕ) (h : at < length s) where
           mark_is : same_bytes first type_mark ≡ d
           mark_is = ap (λ (u : List ℕ). same_bytes u type_mark) first_is ∙ sym ed
 
-          pub note-typing : d ≡ true → LineTold s behind ts m at n (LineRefused 19 at)
+          pub note_typing : d ≡ true → LineTold s behind ts m at n (LineRefused 19 at)
           unfolding pick
-          note-typing y = record { so = refused_line stays 19 (counted ∙ rw (z, sort-is, mark_is ∙ y)) }
+          note_typing y = record { so = refused_line stays 19 (counted ∙ rw (z, sort_is, mark_is ∙ y)) }
 
-          pub note-other : (e : ℕ) → d ≡ false → e ≡ q + line_run (drop q s) → LineTold s behind ts m at n (Skipped e)
+          pub note_other : (e : ℕ) → d ≡ false → e ≡ q + line_run (drop q s) → LineTold s behind ts m at n (Skipped e)
           unfolding pick
-          note-other e y ee =
+          note_other e y ee =
               let w : line_end s at ≡ e =
               (let r : line_run (drop at s) ≡ cell_run (drop at s) + line_run (drop (cell_run (drop at s)) (drop at s)) = line_on (drop at s) (cell_run (drop at s)) (cell_line (drop at s)) in
               omega (arith, r, eq, ee, ap line_run (drop-drop (cell_run (drop at s)) at s ∙ ap (λ (k : ℕ). drop k s) (sym eq)))) in
-              let g : read_line behind ts m (line_of (part at (line_at s at))) ≡ got [] [] = counted ∙ rw (z, sort-is, mark_is ∙ y) in
-              let u : is_row (sort_of first) ≡ behind = rw (sort-is, mark_is ∙ y, z) in
+              let g : read_line behind ts m (line_of (part at (line_at s at))) ≡ got [] [] = counted ∙ rw (z, sort_is, mark_is ∙ y) in
+              let u : is_row (sort_of first) ≡ behind = rw (sort_is, mark_is ∙ y, z) in
               record {
                 so = record {
                   ends = sym w;
@@ -282,8 +282,8 @@ module _ (s : List ℕ) (at : ℕ) (h : at < length s) where
           rows : sort_of first ≡ row
           rows = ap sort_of (first_none t) ∙ no_first
 
-      pub row-stop : (number place : ℕ) → r ≡ RowRefused number place → LineTold s behind ts m at n (LineRefused number place)
-      row-stop number place q =
+      pub row_stop : (number place : ℕ) → r ≡ RowRefused number place → LineTold s behind ts m at n (LineRefused number place)
+      row_stop number place q =
           let g : row_read ts m at (cells_at s at) ≡ refused number place = subst (RowBy (row_read ts m at (cells_at s at)) (line_end s at) at n m) q w.so in
           record { so = line_is row_stays ∙ ap (λ (o : Cells). chain m o (λ d. read_lines (is_row (sort_of first)) ts d rest)) (row_is ∙ g) }
 
@@ -336,8 +336,8 @@ module _ (s : List ℕ) (ts : List ColumnType) (from n m at c j : ℕ) (w : Pass
         record { so = w.same ∙ ap (more w.cells w.bytes) g }
 
     module _ (e : ℕ) where
-      pub passing-skip : r ≡ Skipped e → Passing s ts from n m (e + 1) c j
-      passing-skip q =
+      pub passing_skip : r ≡ Skipped e → Passing s ts from n m (e + 1) c j
+      passing_skip q =
           let g : LineSkipped s (ltb 0 c) ts j at e = subst (LineBy s (ltb 0 c) ts j at n) q v.so in
           let i = line_in_lem s at e h g.ends in
           record {
@@ -351,19 +351,19 @@ module _ (s : List ℕ) (ts : List ColumnType) (from n m at c j : ℕ) (w : Pass
             inside = omega (arith, i.1);
           }
 
-      pub skip-in : r ≡ Skipped e → (at ≤ e) × (e ≤ length s)
-      skip-in q = let g : LineSkipped s (ltb 0 c) ts j at e = subst (LineBy s (ltb 0 c) ts j at n) q v.so in line_in_lem s at e h g.ends
+      pub skip_in : r ≡ Skipped e → (at ≤ e) × (e ≤ length s)
+      skip_in q = let g : LineSkipped s (ltb 0 c) ts j at e = subst (LineBy s (ltb 0 c) ts j at n) q v.so in line_in_lem s at e h g.ends
 
       module _ (d : ℕ) (q : r ≡ Read e d) where
-        got-line : LineGot s (ltb 0 c) ts j at n e d
-        got-line = subst (LineBy s (ltb 0 c) ts j at n) q v.so
+        got_line : LineGot s (ltb 0 c) ts j at n e d
+        got_line = subst (LineBy s (ltb 0 c) ts j at n) q v.so
 
-        pub read-in : (at + n ≤ e) × ((e ≤ length s) × (c + n ≤ e))
-        read-in = let i = line_in_lem s at e h got-line.ends in (got-line.room, (i.1, omega (arith, got-line.room, w.few)))
+        pub read_in : (at + n ≤ e) × ((e ≤ length s) × (c + n ≤ e))
+        read_in = let i = line_in_lem s at e h got_line.ends in (got_line.room, (i.1, omega (arith, got_line.room, w.few)))
 
-        pub passing-read : 0 < n → Passing s ts from n m (e + 1) (c + n) d
-        passing-read p =
-            let g = got-line in
+        pub passing_read : 0 < n → Passing s ts from n m (e + 1) (c + n) d
+        passing_read p =
+            let g = got_line in
             let i = line_in_lem s at e h g.ends in
             record {
               cells = w.cells ++ g.cells;
@@ -374,7 +374,7 @@ module _ (s : List ℕ) (ts : List ColumnType) (from n m at c j : ℕ) (w : Pass
               count = omega (arith, w.count, g.count, length-append w.cells g.cells);
               stored = omega (arith, w.stored, g.stored, length-append w.bytes g.bytes);
               small = omega (arith, g.small);
-              few = omega (arith, read-in.1.1);
+              few = omega (arith, read_in.1.1);
               inside = omega (arith, i.1);
             }
           where

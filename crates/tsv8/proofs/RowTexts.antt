@@ -195,8 +195,8 @@ module _ (s types : List ℕ) (from n m q k j : ℕ) (w : Reading s types from n
       step = ap₂ (λ (l : List ColumnType) (r : List Part). cells_of l j r) (types_next types n k h (omega arith)) cells_are
           ∙ cells_step (type_of (get_or types k 0)) (types_from types n (k + 1)) j (part (q + 1) c) (cells_at s e)
 
-      line-end : line_end s e ≡ line_end s q
-      line-end =
+      line_end_lem : line_end s e ≡ line_end s q
+      line_end_lem =
           let r : line_run (drop q s) ≡ e - q + line_run (drop (e - q) (drop q s)) = line_on (drop q s) (e - q) passes in
           let z : q + (e - q) ≡ e = omega (arith, on) in
           omega (arith, r, on, ap line_run (drop-drop (e - q) q s ∙ ap (λ (i : ℕ). drop i s) z))
@@ -204,9 +204,9 @@ module _ (s types : List ℕ) (from n m q k j : ℕ) (w : Reading s types from n
           passes : e - q ≤ line_run (drop q s)
           passes = tab_passes s q e there.0 there.1 on
 
-      pub reading-more : (r : CellOut) (kind place size : ℕ) (b i : ℕ) → CellTold (cell_at (type_of (get_or types k 0)) j (part (q + 1) c)) (strip c) e j r → r ≡ Got kind place size
+      pub reading_more : (r : CellOut) (kind place size : ℕ) (b i : ℕ) → CellTold (cell_at (type_of (get_or types k 0)) j (part (q + 1) c)) (strip c) e j r → r ≡ Got kind place size
           → b ≡ stored_by kind size → i ≡ j + b → Reading s types from n m e (k + 1) i
-      reading-more r kind place size b i v g eb ei =
+      reading_more r kind place size b i v g eb ei =
           let y : CellGot (cell_at (type_of (get_or types k 0)) j (part (q + 1) c)) (strip c) e j kind place size = subst (CellBy _ (strip c) e j) g v.so in
           let z : j + length y.bytes ≡ i = omega (arith, y.count, eb, ei) in
           let u = cell_ended s (suc q) e there.0 on in
@@ -222,19 +222,19 @@ module _ (s types : List ℕ) (from n m q k j : ℕ) (w : Reading s types from n
             passed = (let l : length (cells_at s q) ≡ suc (length (cells_at s e)) = ap length cells_are in omega (arith, w.passed, l));
             inside = u.0;
             starts = u.1;
-            ends = line-end ∙ w.ends;
-            small = stored_small kind size j q e i b w.small (on-le) eb ei y.small (strip_le c) (cell_long s (q + 1) e cell_in.0 cell_in.1);
+            ends = line_end_lem ∙ w.ends;
+            small = stored_small kind size j q e i b w.small (on_le) eb ei y.small (strip_le c) (cell_long s (q + 1) e cell_in.0 cell_in.1);
             room = omega (arith, w.room, on);
             few = omega arith;
           }
         where
-          on-le : suc q ≤ e
-          on-le = omega (arith, on)
+          on_le : suc q ≤ e
+          on_le = omega (arith, on)
 
-      pub row-refused : (r : CellOut) (number place p : ℕ) (v : Row) → CellTold (cell_at (type_of (get_or types k 0)) j (part (q + 1) c)) (strip c) e j r → r ≡ Refused number place
+      pub row_refused : (r : CellOut) (number place p : ℕ) (v : Row) → CellTold (cell_at (type_of (get_or types k 0)) j (part (q + 1) c)) (strip c) e j r → r ≡ Refused number place
           → v ≡ refused_row (length (cells_at s from)) n p number place → RowTold (row_read ts m p (cells_at s from)) (line_end s from) from n m v
       unfolding row_read refused_row pick
-      row-refused r number place p v x g ev =
+      row_refused r number place p v x g ev =
           let y : cell_at (type_of (get_or types k 0)) j (part (q + 1) c) ≡ refused number place = subst (CellBy _ (strip c) e j) g x.so in
           let z : cells_of ts m (cells_at s from) ≡ refused number place =
           w.same ∙ ap (more w.cells w.bytes) (step ∙ ap (λ (o : Cells). chain j o (λ d. cells_of (types_from types n (k + 1)) d (cells_at s e))) y) in

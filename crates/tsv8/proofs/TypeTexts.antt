@@ -43,14 +43,14 @@ module _ (w : List ℕ) (a : Bool) (ea : a ≡ same_bytes w (type_word bools)) w
     named_int t = rw (sym ea, fa, sym eb, t)
 
     module _ (fb : b ≡ false) (d : Bool) (ed : d ≡ same_bytes w (type_word floats)) where
-      pub named-float : d ≡ true → 3 ≡ number_of (type_named w)
+      pub named_float : d ≡ true → 3 ≡ number_of (type_named w)
       unfolding type_named pick
-      named-float t = rw (sym ea, fa, sym eb, fb, sym ed, t)
+      named_float t = rw (sym ea, fa, sym eb, fb, sym ed, t)
 
       module _ (fd : d ≡ false) (f : Bool) (ef : f ≡ same_bytes w (type_word strs)) where
-        pub named-str : f ≡ true → 4 ≡ number_of (type_named w)
+        pub named_str : f ≡ true → 4 ≡ number_of (type_named w)
         unfolding type_named pick
-        named-str t = rw (sym ea, fa, sym eb, fb, sym ed, fd, sym ef, t)
+        named_str t = rw (sym ea, fa, sym eb, fb, sym ed, fd, sym ef, t)
 
         pub named_none : f ≡ false → 0 ≡ number_of (type_named w)
         unfolding type_named pick
@@ -145,8 +145,8 @@ module _ (s : List ℕ) (from n q k : ℕ) (new : List ℕ) (w : Naming s from n
       on : e ≡ suc q + cell_run (drop (suc q) s)
       on = rw (sym (add-one q)) ee
 
-      pub type-in : (q + 1 ≤ e) × (e ≤ length s)
-      type-in = let i = cell_ended s (suc q) e tab_due.0 on in (omega (arith, on), i.0)
+      pub type_in : (q + 1 ≤ e) × (e ≤ length s)
+      type_in = let i = cell_ended s (suc q) e tab_due.0 on in (omega (arith, on), i.0)
 
       cells_are : cells_at s q ≡ part (q + 1) (take (e - (q + 1)) (drop (q + 1) s)) ∷ cells_at s e
       cells_are =
@@ -158,14 +158,14 @@ module _ (s : List ℕ) (from n q k : ℕ) (new : List ℕ) (w : Naming s from n
         types_are : types_in (cells_at s q) ≡ and_type (type_named (strip (take (e - (q + 1)) (drop (q + 1) s)))) (q + 1) (types_in (cells_at s e))
         types_are = ap types_in cells_are ∙ types_cons (part (q + 1) (take (e - (q + 1)) (drop (q + 1) s))) (cells_at s e)
 
-        pub type-unnamed : ty ≡ 0 → TypesTold (types_in (cells_at s from)) (line_end s from) n new (Unnamed (q + 1))
-        type-unnamed z =
+        pub type_unnamed : ty ≡ 0 → TypesTold (types_in (cells_at s from)) (line_end s from) n new (Unnamed (q + 1))
+        type_unnamed z =
             record {
               so = w.same ∙ ap (ahead (types_of (take k new))) (types_are ∙ ap (λ (v : Named). and_type v (q + 1) (types_in (cells_at s e))) (number_unnamed (type_named (strip (take (e - (q + 1)) (drop (q + 1) s)))) ty et z));
             }
 
-        pub type-named : (ty ≡ 0 → ⊥) → Naming s from n e (k + 1) (set new k ty)
-        type-named ne =
+        pub type_named_lem : (ty ≡ 0 → ⊥) → Naming s from n e (k + 1) (set new k ty)
+        type_named_lem ne =
             let u = cell_ended s (suc q) e tab_due.0 on in
             record {
               same =
@@ -175,13 +175,13 @@ module _ (s : List ℕ) (from n q k : ℕ) (new : List ℕ) (w : Naming s from n
               passed = (let l : length (cells_at s q) ≡ suc (length (cells_at s e)) = ap length cells_are in omega (arith, w.passed, l));
               inside = u.0;
               starts = u.1;
-              ends = line-end ∙ w.ends;
+              ends = line_end_lem ∙ w.ends;
               long = omega (arith, w.long, length-set new k ty);
               few = omega arith;
             }
           where
-            line-end : line_end s e ≡ line_end s q
-            line-end =
+            line_end_lem : line_end s e ≡ line_end s q
+            line_end_lem =
                 let r : line_run (drop q s) ≡ e - q + line_run (drop (e - q) (drop q s)) = line_on (drop q s) (e - q) (tab_passes s q e tab_due.0 tab_due.1 on) in
                 let z : q + (e - q) ≡ e = omega (arith, on) in
                 omega (arith, r, on, ap line_run (drop-drop (e - q) q s ∙ ap (λ (i : ℕ). drop i s) z))
@@ -195,7 +195,7 @@ module _ (s : List ℕ) (from n q k : ℕ) (new : List ℕ) (w : Naming s from n
         so = (
           w.same ∙ ap (λ (x : List Part). ahead (types_of (take k new)) (types_in x)) c ∙ ap (ahead (types_of (take k new))) types_nil
               ∙ ap types (append-nil (types_of (take k new))) ∙ ap (λ (i : ℕ). types (types_of (take i new))) (sym z),
-          (ended (cells-end l), w.long),
+          (ended (cells_end l), w.long),
         );
       }
     where
@@ -203,8 +203,8 @@ module _ (s : List ℕ) (from n q k : ℕ) (new : List ℕ) (w : Naming s from n
       empty [] e = refl
       empty (y ∷ x) e = absurd (omega (arith, e))
 
-      cells-end : length (cells_at s q) ≡ 0 → line_run (drop q s) ≡ 0
-      cells-end l =
+      cells_end : length (cells_at s q) ≡ 0 → line_run (drop q s) ≡ 0
+      cells_end l =
           split (eqb (get_or (drop q s) 0 0) TAB)
           (λ t. let (g, f) = tab_there s q (get_or (drop q s) 0 0) refl (eqb-true (get_or (drop q s) 0 0) TAB t) in
           let y : length (cells_at s q) ≡ suc (length (cells_at s (suc q + cell_run (drop (suc q) s)))) = ap length (cells_tab s q g f) in
@@ -269,14 +269,14 @@ module _ (s : List ℕ) (at : ℕ) (n : ℕ) (old : List ℕ) (l : n ≤ length 
       mark_is = ap (λ (u : List ℕ). same_bytes u type_mark) (first_at s at ∙ ap (λ (k : ℕ). take k (drop at s)) (let y : cell_run (drop at s) ≡ q - at = omega (arith, eq) in y)) ∙ sym ed
 
       cells_is : ln.cells ≡ cells_at s q
-      cells_is = line-cells ∙ cells_on s at ∙ ap (cells_at s) (sym eq)
+      cells_is = line_cells ∙ cells_on s at ∙ ap (cells_at s) (sym eq)
         where
-          line-cells : ln.cells ≡ cells_at s at
-          line-cells = cells_of_lem s at
+          line_cells : ln.cells ≡ cells_at s at
+          line_cells = cells_of_lem s at
 
-      pub no-mark : d ≡ false → TypedTold s at ns bs n old (Behind at)
+      pub no_mark : d ≡ false → TypedTold s at ns bs n old (Behind at)
       unfolding has_types
-      no-mark f = other_line (and_no_first (same_bytes ln.first type_mark) (eqb (length ln.cells) (length ns)) (mark_is ∙ f))
+      no_mark f = other_line (and_no_first (same_bytes ln.first type_mark) (eqb (length ln.cells) (length ns)) (mark_is ∙ f))
 
       module _ (k : ℕ) (ek : k ≡ length (cells_at s q)) where
         pub no_count : (k ≡ n → ⊥) → TypedTold s at ns bs n old (Behind at)
@@ -285,15 +285,15 @@ module _ (s : List ℕ) (at : ℕ) (n : ℕ) (old : List ℕ) (l : n ≤ length 
             other_line (and_no_second (same_bytes ln.first type_mark) (eqb (length ln.cells) (length ns))
             (ne_eqb (length ln.cells) (length ns) (λ z. f (ek ∙ ap length (sym cells_is) ∙ z ∙ c))))
 
-        pub types-line : d ≡ true → k ≡ n → (new : List ℕ) (r : Typing) → TypesTold (types_in (cells_at s q)) (line_end s q) n new r → line_end s q ≤ length s
+        pub types_line : d ≡ true → k ≡ n → (new : List ℕ) (r : Typing) → TypesTold (types_in (cells_at s q)) (line_end s q) n new r → line_end s q ≤ length s
             → TypedTold s at ns bs n new r
-        types-line t z new r x g = go r x
+        types_line t z new r x g = go r x
           where
             has : has_types (length ns) ln ≡ true
-            has = has-types (mark_is ∙ t) (eq-eqb (length ln.cells) (length ns) (ap length cells_is ∙ sym ek ∙ z ∙ sym c))
+            has = has_types_lem (mark_is ∙ t) (eq-eqb (length ln.cells) (length ns) (ap length cells_is ∙ sym ek ∙ z ∙ sym c))
               where
-                has-types : same_bytes ln.first type_mark ≡ true → eqb (length ln.cells) (length ns) ≡ true → has_types (length ns) ln ≡ true
-                has-types = both_have ln (length ns)
+                has_types_lem : same_bytes ln.first type_mark ≡ true → eqb (length ln.cells) (length ns) ≡ true → has_types (length ns) ln ≡ true
+                has_types_lem = both_have ln (length ns)
 
             names : behind_names ns bs (lines_from s at) ≡ behind_types ns bs rest (types_in (cells_at s q))
             names = ap (behind_names ns bs) lines_are ∙ typed_by ln rest has ∙ ap (λ (u : List Part). behind_types ns bs rest (types_in u)) cells_is

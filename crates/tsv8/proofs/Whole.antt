@@ -52,9 +52,9 @@ module _ (n c m a b d e : ℕ) where
           sym (and_no_second (leb n (a / 3)) (leb n b && (leb c (d / 3) && leb m e))
           (and_no_second (leb n b) (leb c (d / 3) && leb m e) (and_no_first (leb c (d / 3)) (leb m e) (lt-leb c (d / 3) h))))
 
-      pub by-store : c ≤ d / 3 → leb m e ≡ has_room rooms n c m
+      pub by_store : c ≤ d / 3 → leb m e ≡ has_room rooms n c m
       unfolding has_room
-      by-store h = rw (le-leb n (a / 3) x, le-leb n b y, le-leb c (d / 3) h)
+      by_store h = rw (le-leb n (a / 3) x, le-leb n b y, le-leb c (d / 3) h)
 
 pub record Roomy (r : Rooms) (n c m : ℕ) : Type 0 where
   pub names : n ≤ r.names
@@ -145,12 +145,12 @@ module _ (text ns₀ ts₀ cs₀ st₀ : List ℕ) where
       stored_is : o.stored ≡ length (g.before ++ b.bytes)
       stored_is = b.stored ∙ sym (length-append g.before b.bytes)
 
-      room-is : has_room (rooms_of ns₀ ts₀ cs₀ st₀) (length g.names) (length b.cells) (length (g.before ++ b.bytes)) ≡ has_room (rooms_of ns₀ ts₀ cs₀ st₀) o.columns o.cells o.stored
-      room-is = λ i. has_room (rooms_of ns₀ ts₀ cs₀ st₀) (g.count i) (sym b.count i) (sym stored_is i)
+      room_is : has_room (rooms_of ns₀ ts₀ cs₀ st₀) (length g.names) (length b.cells) (length (g.before ++ b.bytes)) ≡ has_room (rooms_of ns₀ ts₀ cs₀ st₀) o.columns o.cells o.stored
+      room_is = λ i. has_room (rooms_of ns₀ ts₀ cs₀ st₀) (g.count i) (sym b.count i) (sym stored_is i)
 
       module _ (f : Bool) (ef : f ≡ has_room (rooms_of ns₀ ts₀ cs₀ st₀) o.columns o.cells o.stored) where
         pub no_room_lem : f ≡ false → Answered (Refused 12 0) ns₀ ts₀ cs₀ st₀
-        no_room_lem z = answered (unread 12 0) (read_is ∙ ap (fitted (rooms_of ns₀ ts₀ cs₀ st₀)) b.same ∙ tight (room-is ∙ sym ef ∙ z)) refl refl refl refl refl
+        no_room_lem z = answered (unread 12 0) (read_is ∙ ap (fitted (rooms_of ns₀ ts₀ cs₀ st₀)) b.same ∙ tight (room_is ∙ sym ef ∙ z)) refl refl refl refl refl
           where
             tight : has_room (rooms_of ns₀ ts₀ cs₀ st₀) (length g.names) (length b.cells) (length (g.before ++ b.bytes)) ≡ false
                 → fitted (rooms_of ns₀ ts₀ cs₀ st₀) (read g.names ts b.cells (g.before ++ b.bytes)) ≡ unread 12 0
@@ -161,41 +161,41 @@ module _ (text ns₀ ts₀ cs₀ st₀ : List ℕ) where
           room = roomy (rooms_of ns₀ ts₀ cs₀ st₀) o.columns o.cells o.stored (sym ef ∙ z)
 
           whole : W ≡ read g.names ts b.cells (g.before ++ b.bytes)
-          whole = read_is ∙ ap (fitted (rooms_of ns₀ ts₀ cs₀ st₀)) b.same ∙ is_roomy (rooms_of ns₀ ts₀ cs₀ st₀) g.names ts b.cells (g.before ++ b.bytes) (room-is ∙ sym ef ∙ z)
+          whole = read_is ∙ ap (fitted (rooms_of ns₀ ts₀ cs₀ st₀)) b.same ∙ is_roomy (rooms_of ns₀ ts₀ cs₀ st₀) g.names ts b.cells (g.before ++ b.bytes) (room_is ∙ sym ef ∙ z)
 
-          pub types-fit : o.columns ≤ length ts₀
-          types-fit = room.types
+          pub types_fit : o.columns ≤ length ts₀
+          types_fit = room.types
 
           -- the names
           module _ (first : List ℕ) (a : AllStrs first) where
-            names-are : cells_of (types_of (take o.columns first)) 0 (cells_at text o.names) ≡ got g.names g.before
-            names-are = ap (λ (l : List ColumnType). cells_of l 0 (cells_at text o.names)) (a o.columns few).1 ∙ g.first
+            names_are : cells_of (types_of (take o.columns first)) 0 (cells_at text o.names) ≡ got g.names g.before
+            names_are = ap (λ (l : List ColumnType). cells_of l 0 (cells_at text o.names)) (a o.columns few).1 ∙ g.first
 
-            pub names-fit : Fits (cells_of (types_of (take o.columns first)) 0 (cells_at text o.names)) 0 0 ns₀ st₀
-            names-fit =
+            pub names_fit : Fits (cells_of (types_of (take o.columns first)) 0 (cells_at text o.names)) 0 0 ns₀ st₀
+            names_fit =
                 record {
                   cells = g.names;
                   bytes = g.before;
-                  same = names-are;
+                  same = names_are;
                   room = omega (arith, room.names, g.count);
                   long = omega (arith, room.store, b.stored);
                   short = omega (arith, b.short, b.stored, h);
                 }
 
-            pub names-due : (o.names ≤ length text) × (Starts text o.names × ((o.columns ≤ length first) × (length (cells_at text o.names) ≡ o.columns)))
-            names-due = (g.inside, (g.starts, ((a o.columns few).0, g.due)))
+            pub names_due : (o.names ≤ length text) × (Starts text o.names × ((o.columns ≤ length first) × (length (cells_at text o.names) ≡ o.columns)))
+            names_due = (g.inside, (g.starts, ((a o.columns few).0, g.due)))
 
             module _ (end m : ℕ) (ns st : List ℕ)
                 (u : (end ≡ line_end text o.names) × ((m ≡ 0 + length (bytes_in (cells_of (types_of (take o.columns first)) 0 (cells_at text o.names))))
                 × ((ns ≡ sets ns₀ (3 * 0) (flat (cells_in (cells_of (types_of (take o.columns first)) 0 (cells_at text o.names))))) × (st ≡ sets st₀ 0 (bytes_in (cells_of (types_of (take o.columns first)) 0 (cells_at text o.names))))))) where
-              m-is : m ≡ length g.before
-              m-is = u.1.0 ∙ zero-add _ ∙ ap (λ (y : Cells). length (bytes_in y)) names-are
+              m_is : m ≡ length g.before
+              m_is = u.1.0 ∙ zero-add _ ∙ ap (λ (y : Cells). length (bytes_in y)) names_are
 
-              st-is : st ≡ sets st₀ 0 g.before
-              st-is = u.1.1.1 ∙ ap (λ (y : Cells). sets st₀ 0 (bytes_in y)) names-are
+              st_is : st ≡ sets st₀ 0 g.before
+              st_is = u.1.1.1 ∙ ap (λ (y : Cells). sets st₀ 0 (bytes_in y)) names_are
 
               lines_are : read_lines false ts m (lines_from text o.rest) ≡ got b.cells b.bytes
-              lines_are = ap (λ (k : ℕ). read_lines false ts k (lines_from text o.rest)) m-is ∙ b.lines
+              lines_are = ap (λ (k : ℕ). read_lines false ts k (lines_from text o.rest)) m_is ∙ b.lines
 
               pub rest_in : o.rest ≤ length text + 1
               rest_in = b.inside
@@ -207,8 +207,8 @@ module _ (text ns₀ ts₀ cs₀ st₀ : List ℕ) where
                     bytes = b.bytes;
                     same = lines_are;
                     room = omega (arith, room.cells, b.count);
-                    long = omega (arith, room.store, b.stored, m-is, ap length st-is, length-sets st₀ 0 g.before);
-                    short = omega (arith, b.short, b.stored, h, m-is);
+                    long = omega (arith, room.store, b.stored, m_is, ap length st_is, length-sets st₀ 0 g.before);
+                    short = omega (arith, b.short, b.stored, h, m_is);
                   }
 
               pub all_done : (ts' cs' st' : List ℕ) → ts' ≡ sets ts₀ 0 (map type_number ts)
@@ -217,8 +217,8 @@ module _ (text ns₀ ts₀ cs₀ st₀ : List ℕ) where
               all_done ts' cs' st' et (ec, es) =
                   answered (read g.names ts b.cells (g.before ++ b.bytes)) whole
                   (λ i. Done (sym g.count i) (b.count i) (stored_is i))
-                  (u.1.1.0 ∙ ap (λ (y : Cells). sets ns₀ 0 (flat (cells_in y))) names-are ∙ sets_over (flat g.names) ns₀ (omega (arith, flat_length g.names, room.names, g.count)))
+                  (u.1.1.0 ∙ ap (λ (y : Cells). sets ns₀ 0 (flat (cells_in y))) names_are ∙ sets_over (flat g.names) ns₀ (omega (arith, flat_length g.names, room.names, g.count)))
                   (et ∙ sets_over (map type_number ts) ts₀ (omega (arith, numbers_length new o.columns long, room.types)))
                   (ec ∙ ap (λ (y : Cells). sets cs₀ 0 (flat (cells_in y))) lines_are ∙ sets_over (flat b.cells) cs₀ (omega (arith, flat_length b.cells, room.cells, b.count)))
-                  (es ∙ (λ i. sets (st-is i) (m-is i) (bytes_in (lines_are i))) ∙ sets_append g.before b.bytes st₀ 0 (length g.before) (zero-add _)
+                  (es ∙ (λ i. sets (st_is i) (m_is i) (bytes_in (lines_are i))) ∙ sets_append g.before b.bytes st₀ 0 (length g.before) (zero-add _)
                   ∙ sets_over (g.before ++ b.bytes) st₀ (omega (arith, stored_is, room.store)))

@@ -354,11 +354,11 @@ module _ (w : List ℕ) (h : 0 < length w) (ty q p m : ℕ) where
     unfit_held kind bs s k e z = record { so = rw s (unfit (type_of ty) q p m w bs no_str (sym e ∙ z)) }
 
     module _ (v : Text) (i : IsText w v) (k : ℕ) (e : k ≡ typed_kind (type_of ty) w) (z : k ≡ 0) where
-      pub unfit-bare : v ≡ Bare → CellTold (cell_by (read_stripped w) (type_of ty) q p m w) w (p + length w) m (Refused 21 q)
-      unfit-bare g = unfit_held 1 w (text_bare w v i g).same k e z
+      pub unfit_bare : v ≡ Bare → CellTold (cell_by (read_stripped w) (type_of ty) q p m w) w (p + length w) m (Refused 21 q)
+      unfit_bare g = unfit_held 1 w (text_bare w v i g).same k e z
 
-      pub unfit-plain : (n : ℕ) → v ≡ Plain n → CellTold (cell_by (read_stripped w) (type_of ty) q p m w) w (p + length w) m (Refused 21 q)
-      unfit-plain n g = let x = text_plain w v i n g in unfit_held x.kind x.bytes x.same k e z
+      pub unfit_plain : (n : ℕ) → v ≡ Plain n → CellTold (cell_by (read_stripped w) (type_of ty) q p m w) w (p + length w) m (Refused 21 q)
+      unfit_plain n g = let x = text_plain w v i n g in unfit_held x.kind x.bytes x.same k e z
 
-      pub unfit-slashed : (n : ℕ) → v ≡ Slashed n → CellTold (cell_by (read_stripped w) (type_of ty) q p m w) w (p + length w) m (Refused 21 q)
-      unfit-slashed n g = let x = text_slashed w v i n g in unfit_held x.kind x.bytes x.same k e z
+      pub unfit_slashed : (n : ℕ) → v ≡ Slashed n → CellTold (cell_by (read_stripped w) (type_of ty) q p m w) w (p + length w) m (Refused 21 q)
+      unfit_slashed n g = let x = text_slashed w v i n g in unfit_held x.kind x.bytes x.same k e z

@@ -23,7 +23,7 @@ use Rattle.units.specs.Units.{unit_at}
 use Rattle.escapes.proofs.EscapeLaws.{unit_below, letter_some, raw_two}
 use Rattle.notation.proofs.LiteralClasses.{plain_char}
 use Rattle.units.proofs.LiteralUnits.{literal_unit}
-use Rattle.units.proofs.UnitLaws.{unit-escape}
+use Rattle.units.proofs.UnitLaws.{unit_escape}
 
 -- `\u` and four digits of a number below 0x80
 encode_ascii : (v : ℕ) → v < 0x80 → encode v ≡ v ∷ []
@@ -94,4 +94,4 @@ module _ (st : Style) (s : List ℕ) (at : ℕ) (h : at < length s) where
   no_slash Bytes e = omega arith
 
   pub slash_unit : get_or s at 0 ≡ backslash → unit_at st (drop at s) ≡ escape st (drop (at + 1) s)
-  slash_unit e = sym (unit-escape st s at h (quote st) refl (escape st (drop (at + 1) s)) (λ q. no_slash st (sym q ∙ e)) e refl)
+  slash_unit e = sym (unit_escape st s at h (quote st) refl (escape st (drop (at + 1) s)) (λ q. no_slash st (sym q ∙ e)) e refl)

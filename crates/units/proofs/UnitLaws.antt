@@ -77,14 +77,14 @@ module _ (st : Style) (s : List ℕ) (at : ℕ) where
     unit_close e = sym (law ∙ pick_true _ _ _ (eq-eqb _ _ e))
 
     module _ (u : StringUnit) (nq : x ≡ q → ⊥) where
-      pub unit-escape : x ≡ backslash → u ≡ escape st (drop (at + 1) s) → u ≡ unit_at st (drop at s)
-      unit-escape e i = i ∙ sym (law ∙ pick_false _ _ _ (ne_eqb _ _ nq) ∙ pick_true _ _ _ (eq-eqb _ _ e))
+      pub unit_escape : x ≡ backslash → u ≡ escape st (drop (at + 1) s) → u ≡ unit_at st (drop at s)
+      unit_escape e i = i ∙ sym (law ∙ pick_false _ _ _ (ne_eqb _ _ nq) ∙ pick_true _ _ _ (eq-eqb _ _ e))
 
       module _ (nb : x ≡ backslash → ⊥) where
-        pub unit-control : x < 32 → u ≡ fault control → u ≡ unit_at st (drop at s)
-        unit-control e i =
+        pub unit_control : x < 32 → u ≡ fault control → u ≡ unit_at st (drop at s)
+        unit_control e i =
             i ∙ sym (law ∙ pick_false _ _ _ (ne_eqb _ _ nq) ∙ pick_false _ _ _ (ne_eqb _ _ nb) ∙ pick_true _ _ _ (lt-ltb _ _ e))
 
-        pub unit-literal : 32 ≤ x → u ≡ literal (char_at (drop at s)) (drop at s) → u ≡ unit_at st (drop at s)
-        unit-literal e i =
+        pub unit_literal : 32 ≤ x → u ≡ literal (char_at (drop at s)) (drop at s) → u ≡ unit_at st (drop at s)
+        unit_literal e i =
             i ∙ sym (law ∙ pick_false _ _ _ (ne_eqb _ _ nq) ∙ pick_false _ _ _ (ne_eqb _ _ nb) ∙ pick_false _ _ _ (le-ltb _ _ e))

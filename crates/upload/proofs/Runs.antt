@@ -19,7 +19,7 @@ use Rattle.upload.specs.Calls.{Lent, lent, with_counts, stored, feed_byte, feed_
 use Rattle.line_ends.specs.inner.Ends.{line_run}
 use Rattle.line_ends.proofs.Ends.{run_nil, run_on, run_lf}
 use Rattle.upload.proofs.Kept.{state_path, lent_path}
-use Rattle.upload.proofs.Values.{byte_kept, byte-stored}
+use Rattle.upload.proofs.Values.{byte_kept, byte_stored}
 
 bytes_cons : (m : Lent) (b : ℕ) (bs : List ℕ) → feed_bytes m (b ∷ bs) ≡ feed_bytes (feed_byte m b) bs
 unfolding feed_bytes pick
@@ -59,7 +59,7 @@ bytes_run (suc n) (x ∷ r) s line out h e a b =
     (λ p. let z : line_run (x ∷ r) ≡ suc (line_run r) = run_on x r p in
     one_run s line out x (take n r)
     ∙ bytes_run n r (stored (lent s line out) (x ∷ [])).state (set line s.held x) out (omega arith) e (omega arith) (omega arith)
-    ∙ ap (λ (w : Lent). feed_bytes w (take n r)) (byte-stored s line out x e (λ q. omega arith) (eqb-false x LF p) (λ q. omega arith))
+    ∙ ap (λ (w : Lent). feed_bytes w (take n r)) (byte_stored s line out x e (λ q. omega arith) (eqb-false x LF p) (λ q. omega arith))
     ∙ sym (bytes_cons (lent s line out) x (take n r)))
 
 -- a run behind the bytes taken

@@ -54,34 +54,34 @@ module _ (s : Upload) (line out : List ℕ) (b : ℕ) where
     byte_over t e q = rw (eq-eqb s.refusal 0 r, eq-eqb s.taken upload_max q, e)
 
     module _ (n : s.taken ≡ upload_max → ⊥) where
-      pub byte-long : (t : Upload) → t ≡ with_refusal s too_long line_max → (b ≡ LF → ⊥) → s.held ≡ line_max → lent t line out ≡ feed_byte (lent s line out) b
+      pub byte_long : (t : Upload) → t ≡ with_refusal s too_long line_max → (b ≡ LF → ⊥) → s.held ≡ line_max → lent t line out ≡ feed_byte (lent s line out) b
       unfolding feed_byte pick
-      byte-long t e l h = rw (eq-eqb s.refusal 0 r, ne_eqb s.taken upload_max n, ne_eqb b LF l, eq-eqb s.held line_max h, e)
+      byte_long t e l h = rw (eq-eqb s.refusal 0 r, ne_eqb s.taken upload_max n, ne_eqb b LF l, eq-eqb s.held line_max h, e)
 
-      pub byte-stored : (b ≡ LF → ⊥) → (s.held ≡ line_max → ⊥) → stored (lent s line out) (b ∷ []) ≡ feed_byte (lent s line out) b
+      pub byte_stored : (b ≡ LF → ⊥) → (s.held ≡ line_max → ⊥) → stored (lent s line out) (b ∷ []) ≡ feed_byte (lent s line out) b
       unfolding feed_byte pick
-      byte-stored l h = rw (eq-eqb s.refusal 0 r, ne_eqb s.taken upload_max n, ne_eqb b LF l, ne_eqb s.held line_max h) (rw (ne_eqb b LF l))
+      byte_stored l h = rw (eq-eqb s.refusal 0 r, ne_eqb s.taken upload_max n, ne_eqb b LF l, ne_eqb s.held line_max h) (rw (ne_eqb b LF l))
 
-      lf-refused : (f : Fault) → line_fault (length out) s.used (take s.held line) ≡ f → ((append_by f (take s.held line) out s.used).number ≡ 0 → ⊥) → lent (with_refusal s (append_by f (take s.held line) out s.used).number (append_by f (take s.held line) out s.used).place) line (append_by f (take s.held line) out s.used).out ≡ byte_by f (lent s line out) b
-      lf-refused none e z = absurd (z refl)
-      lf-refused (refuse m p) e z = refl
+      lf_refused : (f : Fault) → line_fault (length out) s.used (take s.held line) ≡ f → ((append_by f (take s.held line) out s.used).number ≡ 0 → ⊥) → lent (with_refusal s (append_by f (take s.held line) out s.used).number (append_by f (take s.held line) out s.used).place) line (append_by f (take s.held line) out s.used).out ≡ byte_by f (lent s line out) b
+      lf_refused none e z = absurd (z refl)
+      lf_refused (refuse m p) e z = refl
 
-      lf-taken : b ≡ LF → (f : Fault) → NonZero f → ((append_by f (take s.held line) out s.used).number ≡ 0) → lent (behind_lf s (s.used + (append_by f (take s.held line) out s.used).count)) line (append_by f (take s.held line) out s.used).out ≡ byte_by f (lent s line out) b
+      lf_taken : b ≡ LF → (f : Fault) → NonZero f → ((append_by f (take s.held line) out s.used).number ≡ 0) → lent (behind_lf s (s.used + (append_by f (take s.held line) out s.used).count)) line (append_by f (take s.held line) out s.used).out ≡ byte_by f (lent s line out) b
       unfolding pick
-      lf-taken l none z e = rw (eq-eqb b LF l)
-      lf-taken l (refuse m p) z e = absurd (eqb-false m 0 z e)
+      lf_taken l none z e = rw (eq-eqb b LF l)
+      lf_taken l (refuse m p) z e = absurd (eqb-false m 0 z e)
 
-      pub byte-lf-refused : b ≡ LF → (a : Appended) → a ≡ append_line (take s.held line) out s.used → (a.number ≡ 0 → ⊥) → (t : Upload) → t ≡ with_refusal s a.number a.place → lent t line a.out ≡ feed_byte (lent s line out) b
+      pub byte_lf_refused : b ≡ LF → (a : Appended) → a ≡ append_line (take s.held line) out s.used → (a.number ≡ 0 → ⊥) → (t : Upload) → t ≡ with_refusal s a.number a.place → lent t line a.out ≡ feed_byte (lent s line out) b
       unfolding feed_byte append_line pick
-      byte-lf-refused l a ea z t et =
+      byte_lf_refused l a ea z t et =
           rw (et, ea, eq-eqb s.refusal 0 r, ne_eqb s.taken upload_max n, eq-eqb b LF l)
-          (lf-refused (line_fault (length out) s.used (take s.held line)) refl (rw ea at z))
+          (lf_refused (line_fault (length out) s.used (take s.held line)) refl (rw ea at z))
 
-      pub byte-lf : b ≡ LF → (a : Appended) → a ≡ append_line (take s.held line) out s.used → a.number ≡ 0 → lent (behind_lf s (s.used + a.count)) line a.out ≡ feed_byte (lent s line out) b
+      pub byte_lf : b ≡ LF → (a : Appended) → a ≡ append_line (take s.held line) out s.used → a.number ≡ 0 → lent (behind_lf s (s.used + a.count)) line a.out ≡ feed_byte (lent s line out) b
       unfolding feed_byte append_line pick
-      byte-lf l a ea z =
+      byte_lf l a ea z =
           rw (ea, eq-eqb s.refusal 0 r, ne_eqb s.taken upload_max n, eq-eqb b LF l)
-          (lf-taken l (line_fault (length out) s.used (take s.held line)) (line_nonzero (length out) s.used (take s.held line)) (rw ea at z))
+          (lf_taken l (line_fault (length out) s.used (take s.held line)) (line_nonzero (length out) s.used (take s.held line)) (rw ea at z))
 
 -- take_end
 module _ (s : Upload) (line out : List ℕ) where

@@ -3,7 +3,7 @@
 use borrow.Author.Rules.{rules}
 use Rattle.command_texts.proofs.put_quoted.Statement.{statement}
 use Rattle.command_texts.proofs.put_quoted.Tie as tie
-use Rattle.command_texts.proofs.Puts.{string-counts, string_put, string_left}
+use Rattle.command_texts.proofs.Puts.{string_counts, string_put, string_left}
 
 write-requires : tie.Need-write-requires
 write-requires c κs = search rules
@@ -13,7 +13,7 @@ enum-known-written c = search rules
 
 put-shown-requires : tie.Need-put-shown-requires
 put-shown-requires c κs =
-    string-counts c.before.before.before.before.before.before.before.before.before.before.before.before.args.s.now c.before.before.before.before.before.before.before.before.before.before.before.before.args.line.now _ c.before.before.before.before.before.before.before.write.ensures.0 _ c.before.before.before.written.given.1 _ c.before.before.before.before.before.before.before.write.ensures.1
+    string_counts c.before.before.before.before.before.before.before.before.before.before.before.before.args.s.now c.before.before.before.before.before.before.before.before.before.before.before.before.args.line.now _ c.before.before.before.before.before.before.before.write.ensures.0 _ c.before.before.before.written.given.1 _ c.before.before.before.before.before.before.before.write.ensures.1
 
 enum_told : tie.Need-enum-told
 enum_told c = search rules

@@ -3,7 +3,7 @@
 use borrow.Author.Rules.{rules}
 use Rattle.escapes.proofs.braced.Statement.{statement}
 use Rattle.escapes.proofs.braced.Tie as tie
-use Rattle.escapes.proofs.EscapeLaws.{brace_first, brace_under, brace_over, brace-last, brace-yes}
+use Rattle.escapes.proofs.EscapeLaws.{brace_first, brace_under, brace_over, brace_last, brace_yes}
 
 byte-at-requires : tie.Need-byte-at-requires
 byte-at-requires c κs = search rules
@@ -40,11 +40,11 @@ scalar-requires c κs = search rules
 
 returns-4 : tie.Need-returns-4
 returns-4 c =
-    (search brace-yes, search rules)
+    (search brace_yes, search rules)
 
 returns-5 : tie.Need-returns-5
 returns-5 c =
-    (search brace-last, tt)
+    (search brace_last, tt)
 
 pub braced-spec : {M : Type 1} → statement M
 braced-spec =

@@ -3,7 +3,7 @@
 use borrow.Author.Rules.{rules}
 use Rattle.escapes.proofs.escape_at.Statement.{statement}
 use Rattle.escapes.proofs.escape_at.Tie as tie
-use Rattle.escapes.proofs.EscapeLaws.{first_inside, escape-u, escape-y, escape-letter}
+use Rattle.escapes.proofs.EscapeLaws.{first_inside, escape_u, escape_y, escape_letter}
 
 byte-at-requires : tie.Need-byte-at-requires
 byte-at-requires c κs = search rules
@@ -17,7 +17,7 @@ code-point-requires c κs =
 
 returns : tie.Need-returns
 returns c =
-    (search escape-u, search rules)
+    (search escape_u, search rules)
 
 add-raw-byte : tie.Need-overflow-add-raw-byte
 add-raw-byte c = search rules
@@ -27,7 +27,7 @@ raw-byte-requires c κs = search rules
 
 returns-2 : tie.Need-returns-2
 returns-2 c =
-    (search escape-y, search rules)
+    (search escape_y, search rules)
 
 byte-of-requires : tie.Need-byte-of-requires
 byte-of-requires c κs = search rules
@@ -37,7 +37,7 @@ letter-escape-requires c κs = search rules
 
 returns-3 : tie.Need-returns-3
 returns-3 c =
-    (search escape-letter, search rules)
+    (search escape_letter, search rules)
 
 pub escape-at-spec : {M : Type 1} → statement M
 escape-at-spec =

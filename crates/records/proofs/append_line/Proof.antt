@@ -4,7 +4,7 @@ use borrow.Author.Rules.{rules}
 use Rattle.records.proofs.append_line.Statement.{statement}
 use Rattle.records.proofs.append_line.Tie as tie
 use native.Mathlib.Omega.{arith}
-use Rattle.records.proofs.LineRecords.{from_inside, nothing_added, fault_added, no_head, holds-inside, record-added}
+use Rattle.records.proofs.LineRecords.{from_inside, nothing_added, fault_added, no_head, holds_inside, record_added}
 
 payload-from-requires : tie.Need-payload-from-requires
 payload-from-requires c κs = search rules
@@ -44,7 +44,7 @@ put-head-requires c κs = search rules
 
 add-t15 : tie.Need-overflow-add-t15
 add-t15 c =
-    omega (arith, holds-inside c.before.before.before.before.before.before.before.before.before.before.before.before.before.before.before.args.out.now _ _ c.before.before.before.before.before.before.before.before.before.before.before.before.before.before.before.requires.1 c.before.before.before.before.before.before.before.before.before.before.before.before.payload-from.ensures _ _ _ c.before.before.before.before.before.before.before.before.before.before.read-line.ensures _ _ c.before.before.before.before.before.before.line.given.1)
+    omega (arith, holds_inside c.before.before.before.before.before.before.before.before.before.before.before.before.before.before.before.args.out.now _ _ c.before.before.before.before.before.before.before.before.before.before.before.before.before.before.before.requires.1 c.before.before.before.before.before.before.before.before.before.before.before.before.payload-from.ensures _ _ _ c.before.before.before.before.before.before.before.before.before.before.read-line.ensures _ _ c.before.before.before.before.before.before.line.given.1)
 
 enum-known-line-2 : tie.Need-enum-known-line-2
 enum-known-line-2 c = search rules
@@ -61,7 +61,7 @@ same-length-3 c = search rules
 
 returns-3 : tie.Need-returns-3
 returns-3 c =
-    record-added c.before.before.before.before.before.before.before.before.before.before.before.before.before.before.before.args.out.now _ _ c.before.before.before.before.before.before.before.before.before.before.before.before.before.before.before.requires.1 c.before.before.before.before.before.before.before.before.before.before.before.before.payload-from.ensures _ _ _ c.before.before.before.before.before.before.before.before.before.before.read-line.ensures _ _ c.before.before.before.before.before.before.line.given.1 _ (omega arith) c.before.before.put-head.ensures
+    record_added c.before.before.before.before.before.before.before.before.before.before.before.before.before.before.before.args.out.now _ _ c.before.before.before.before.before.before.before.before.before.before.before.before.before.before.before.requires.1 c.before.before.before.before.before.before.before.before.before.before.before.before.payload-from.ensures _ _ _ c.before.before.before.before.before.before.before.before.before.before.read-line.ensures _ _ c.before.before.before.before.before.before.line.given.1 _ (omega arith) c.before.before.put-head.ensures
 
 same-length-4 : tie.Need-same-length-4
 same-length-4 c = search rules

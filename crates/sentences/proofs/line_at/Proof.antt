@@ -6,7 +6,7 @@ use borrow.Author.Rules.{rules}
 use native.Mathlib.Omega.{arith}
 use Prim.Native.Nat.{◌-◌}
 use lib.ListN.{length}
-use Rattle.sentences.proofs.SentenceLines.{Looking, looking_first, looking_end, looking_found, looking-line, looking-byte}
+use Rattle.sentences.proofs.SentenceLines.{Looking, looking_first, looking_end, looking_found, looking_line, looking_byte}
 
 abbrev invariant-loop : tie.invariant-loop
 invariant-loop s n left₀ i₀ left i =
@@ -38,7 +38,7 @@ loop-less c =
 
 loop-again : tie.Need-loop-preserved invariant-loop decreases-loop
 loop-again c =
-    looking-byte _ _ _ _ c.before.before.before.before.loop.invariant c.before.before.before.loop-test.true c.before.before.if1.false c.if2.true
+    looking_byte _ _ _ _ c.before.before.before.before.loop.invariant c.before.before.before.loop-test.true c.before.before.if1.false c.if2.true
 
 sub-left : tie.Need-overflow-sub-left invariant-loop decreases-loop
 sub-left c =
@@ -54,7 +54,7 @@ loop-less-2 c =
 
 loop-again-2 : tie.Need-loop-preserved-2 invariant-loop decreases-loop
 loop-again-2 c =
-    looking-line _ _ _ _ c.before.before.before.before.loop.invariant c.before.before.before.loop-test.true c.before.before.if1.false c.if2.false
+    looking_line _ _ _ _ c.before.before.before.before.loop.invariant c.before.before.before.loop-test.true c.before.before.if1.false c.if2.false
 
 returns-2 : tie.Need-returns-2 invariant-loop decreases-loop
 returns-2 c =

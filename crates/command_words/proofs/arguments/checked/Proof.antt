@@ -3,7 +3,7 @@
 use borrow.Author.Rules.{rules}
 use Rattle.command_words.proofs.arguments.checked.Statement.{statement}
 use Rattle.command_words.proofs.arguments.checked.Tie as tie
-use Rattle.command_words.proofs.Choices.{checked_size, checked_other, checked-line, checked-both}
+use Rattle.command_words.proofs.Choices.{checked_size, checked_other, checked_line, checked_both}
 
 faulty-requires : tie.Need-faulty-requires
 faulty-requires c κs = search rules
@@ -18,14 +18,14 @@ returns-2 c =
 
 returns-3 : tie.Need-returns-3
 returns-3 c =
-    checked-line c.before.before.before.before.before.args.o c.before.before.before.before.if1.false c.before.before.if2.false c.if3.true
+    checked_line c.before.before.before.before.before.args.o c.before.before.before.before.if1.false c.before.before.if2.false c.if3.true
 
 faulty-requires-2 : tie.Need-faulty-requires-2
 faulty-requires-2 c κs = search rules
 
 returns-4 : tie.Need-returns-4
 returns-4 c =
-    checked-both c.before.before.before.before.before.before.args.o c.before.before.before.before.before.if1.false c.before.before.before.if2.false c.before.if3.false c.faulty2.ensures
+    checked_both c.before.before.before.before.before.before.args.o c.before.before.before.before.before.if1.false c.before.before.before.if2.false c.before.if3.false c.faulty2.ensures
 
 pub checked-spec : {M : Type 1} → statement M
 checked-spec =

@@ -2,7 +2,7 @@
 -- Assumes nothing.
 use Rattle.command_words.proofs.arguments.size_of.Statement.{statement}
 use Rattle.command_words.proofs.arguments.size_of.Tie as tie
-use Rattle.command_words.proofs.Choices.{Counted, counted_first, counted_end, counted_low, counted-high, counted-over, counted_next}
+use Rattle.command_words.proofs.Choices.{Counted, counted_first, counted_end, counted_low, counted_high, counted_over, counted_next}
 use borrow.Author.Rules.{rules}
 use native.Mathlib.Omega.{arith}
 use Prim.Native.Nat.{◌-◌}
@@ -30,7 +30,7 @@ returns c =
 
 returns-2 : tie.Need-returns-2 invariant-loop decreases-loop
 returns-2 c =
-    counted-high _ _ _ c.before.before.before.before.loop.invariant c.before.before.before.loop-test.true c.before.if1.false c.if2.true
+    counted_high _ _ _ c.before.before.before.before.loop.invariant c.before.before.before.loop-test.true c.before.if1.false c.if2.true
 
 mul-size : tie.Need-overflow-mul-size invariant-loop decreases-loop
 mul-size c =
@@ -46,7 +46,7 @@ add-size c =
 
 returns-3 : tie.Need-returns-3 invariant-loop decreases-loop
 returns-3 c =
-    counted-over _ _ _ c.before.before.before.before.before.loop.invariant c.before.before.before.before.loop-test.true c.before.before.if1.false c.before.if2.false c.if3.true
+    counted_over _ _ _ c.before.before.before.before.before.loop.invariant c.before.before.before.before.loop-test.true c.before.before.if1.false c.before.if2.false c.if3.true
 
 add-i : tie.Need-overflow-add-i invariant-loop decreases-loop
 add-i c =

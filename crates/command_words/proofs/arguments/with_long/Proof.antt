@@ -3,7 +3,7 @@
 use borrow.Author.Rules.{rules}
 use Rattle.command_words.proofs.arguments.with_long.Statement.{statement}
 use Rattle.command_words.proofs.arguments.with_long.Tie as tie
-use Rattle.command_words.proofs.Choices.{long_size, long-ended, long-option, long-file}
+use Rattle.command_words.proofs.Choices.{long_size, long_ended, long_option, long_file}
 
 with-size-requires : tie.Need-with-size-requires
 with-size-requires c κs = search rules
@@ -17,21 +17,21 @@ with-file-requires c κs = search rules
 
 returns-2 : tie.Need-returns-2
 returns-2 c =
-    long-ended c.before.before.before.args.o c.before.before.before.args.i c.before.before.before.args.first c.before.before.if1.false c.before.if2.true c.with-file.ensures
+    long_ended c.before.before.before.args.o c.before.before.before.args.i c.before.before.before.args.first c.before.before.if1.false c.before.if2.true c.with-file.ensures
 
 faulty-requires : tie.Need-faulty-requires
 faulty-requires c κs = search rules
 
 returns-3 : tie.Need-returns-3
 returns-3 c =
-    long-option c.before.before.before.before.args.o c.before.before.before.before.args.i c.before.before.before.before.args.first c.before.before.before.if1.false c.before.before.if2.false c.before.if3.true c.faulty.ensures
+    long_option c.before.before.before.before.args.o c.before.before.before.before.args.i c.before.before.before.before.args.first c.before.before.before.if1.false c.before.before.if2.false c.before.if3.true c.faulty.ensures
 
 with-file-requires-2 : tie.Need-with-file-requires-2
 with-file-requires-2 c κs = search rules
 
 returns-4 : tie.Need-returns-4
 returns-4 c =
-    long-file c.before.before.before.before.args.o c.before.before.before.before.args.i c.before.before.before.before.args.first c.before.before.before.if1.false c.before.before.if2.false c.before.if3.false c.with-file2.ensures
+    long_file c.before.before.before.before.args.o c.before.before.before.before.args.i c.before.before.before.before.args.first c.before.before.before.if1.false c.before.before.if2.false c.before.if3.false c.with-file2.ensures
 
 pub with-long-spec : {M : Type 1} → statement M
 with-long-spec =

@@ -3,7 +3,7 @@
 use borrow.Author.Rules.{rules}
 use Rattle.command_words.proofs.arguments.with_sized.Statement.{statement}
 use Rattle.command_words.proofs.arguments.with_sized.Tie as tie
-use Rattle.command_words.proofs.Choices.{sized_unknown, sized-short, sized-there}
+use Rattle.command_words.proofs.Choices.{sized_unknown, sized_short, sized_there}
 
 faulty-requires : tie.Need-faulty-requires
 faulty-requires c κs = search rules
@@ -17,7 +17,7 @@ faulty-requires-2 c κs = search rules
 
 returns-2 : tie.Need-returns-2
 returns-2 c =
-    sized-short c.before.before.before.before.args.o c.before.before.before.before.args.i c.before.before.before.before.args.word.now c.before.before.before.before.args.known c.before.before.if1.false c.before.if2.true c.faulty2.ensures
+    sized_short c.before.before.before.before.args.o c.before.before.before.before.args.i c.before.before.before.before.args.word.now c.before.before.before.before.args.known c.before.before.if1.false c.before.if2.true c.faulty2.ensures
 
 sub-size-of : tie.Need-overflow-sub-size-of
 sub-size-of c = search rules
@@ -36,7 +36,7 @@ with-size-requires c κs = search rules
 
 returns-3 : tie.Need-returns-3
 returns-3 c =
-    sized-there c.before.before.before.before.before.before.args.o c.before.before.before.before.before.before.args.i c.before.before.before.before.before.before.args.word.now c.before.before.before.before.before.before.args.known c.before.before.before.before.if1.false _ c.before.type_size.ensures c.with_size.ensures
+    sized_there c.before.before.before.before.before.before.args.o c.before.before.before.before.before.before.args.i c.before.before.before.before.before.before.args.word.now c.before.before.before.before.before.before.args.known c.before.before.before.before.if1.false _ c.before.type_size.ensures c.with_size.ensures
 
 pub with-sized-spec : {M : Type 1} → statement M
 with-sized-spec =

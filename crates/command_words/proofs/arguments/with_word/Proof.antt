@@ -3,7 +3,7 @@
 use borrow.Author.Rules.{rules}
 use Rattle.command_words.proofs.arguments.with_word.Statement.{statement}
 use Rattle.command_words.proofs.arguments.with_word.Tie as tie
-use Rattle.command_words.proofs.Choices.{alike, differ, word_file, word_end, word_size, word-option}
+use Rattle.command_words.proofs.Choices.{alike, differ, word_file, word_end, word_size, word_option}
 use borrow.Author.Tests.{not-true, not-false}
 use mathlib.Core.Path.{sym, ◌∙◌}
 
@@ -45,7 +45,7 @@ with-option-requires c κs = search rules
 
 returns-4 : tie.Need-returns-4
 returns-4 c =
-    word-option c.before.before.before.before.before.before.before.before.before.before.args.o c.before.before.before.before.before.before.before.before.before.before.args.i c.before.before.before.before.before.before.before.before.before.before.args.word.now c.before.before.before.before.before.before.before.before.before.before.args.known (sym c.before.before.before.before.before.before.before.before.is-option.ensures ∙ not-false _ c.before.before.before.before.before.before.before.if1.false) (differ c.before.before.before.before.before.same.ensures c.before.before.before.before.if2.false) _ (sym c.before.before.before.has-size.ensures ∙ c.before.before.if3.false) c.before.option-of.ensures c.with-option.ensures
+    word_option c.before.before.before.before.before.before.before.before.before.before.args.o c.before.before.before.before.before.before.before.before.before.before.args.i c.before.before.before.before.before.before.before.before.before.before.args.word.now c.before.before.before.before.before.before.before.before.before.before.args.known (sym c.before.before.before.before.before.before.before.before.is-option.ensures ∙ not-false _ c.before.before.before.before.before.before.before.if1.false) (differ c.before.before.before.before.before.same.ensures c.before.before.before.before.if2.false) _ (sym c.before.before.before.has-size.ensures ∙ c.before.before.if3.false) c.before.option-of.ensures c.with-option.ensures
 
 pub with-word-spec : {M : Type 1} → statement M
 with-word-spec =

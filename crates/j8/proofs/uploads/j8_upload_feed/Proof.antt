@@ -3,7 +3,7 @@
 use borrow.Author.Rules.{rules}
 use Rattle.j8.proofs.uploads.j8_upload_feed.Statement.{statement}
 use Rattle.j8.proofs.uploads.j8_upload_feed.Tie as tie
-use Rattle.j8.proofs.Calls.{as-fed}
+use Rattle.j8.proofs.Calls.{as_fed}
 
 state-of-requires : tie.Need-state-of-requires
 state-of-requires c κs = search rules
@@ -22,7 +22,7 @@ same-length-2 c = search rules
 
 returns : tie.Need-returns
 returns c =
-    as-fed _ _ _ _ _ _ _ _ c.before.before.before.before.before.before.before.before.state-of.ensures c.fed-from.ensures _ c.before.before.before.before.before.feed.ensures
+    as_fed _ _ _ _ _ _ _ _ c.before.before.before.before.before.before.before.before.state-of.ensures c.fed-from.ensures _ c.before.before.before.before.before.feed.ensures
 
 pub j8-upload-feed-spec : {M : Type 1} → statement M
 j8-upload-feed-spec =

@@ -34,8 +34,8 @@ use Rattle.trees.specs.Tables.{Maybe}
 use Rattle.json8_fit.specs.Fitness.{is_fit}
 use Rattle.json8_fit.specs.inner.Steps.{within}
 use Rattle.json8_fit.proofs.TableNodes.{count_there}
-use Rattle.json8_fit.proofs.Choices.{value_end, value-group, value-leaf}
-use Rattle.json8_fit.proofs.Fitting.{member_long, member_unlabelled, member_value, member_room, Judged, begun, judged_unfit, judged-size, judged_on, judged_last, deep_unfit, empty_unfit, group_fit}
+use Rattle.json8_fit.proofs.Choices.{value_end, value_group, value_leaf}
+use Rattle.json8_fit.proofs.Fitting.{member_long, member_unlabelled, member_value, member_room, Judged, begun, judged_unfit, judged_size, judged_on, judged_last, deep_unfit, empty_unfit, group_fit}
 
 abbrev μ-are-members : Measures 3 are-members-kinds.ps ℕ
 μ-are-members κs a =
@@ -108,11 +108,11 @@ are-members-member-size-requires t c κs =
 
 are-members-add-at : (t : ℕ) → are-members-lts.Need-overflow-add-at (is-member-below t, is_member.Post, member-size-reads.Asked, member-size-reads.Learnt) (are-members-at t) are-members.Post are-members-Inv-loop are-members-μ-loop
 are-members-add-at t c =
-    omega (arith, c.before.before.before.before.loop.invariant.bound, judged-size c.before.before.before.before.before.before.before.before.args.sort c.before.before.before.before.before.before.before.before.args.table.now c.before.before.before.before.before.before.before.before.args.text.now c.before.before.before.before.before.before.before.before.args.store.now c.before.before.before.before.before.before.before.before.args.left _ _ _ _ c.before.before.before.before.loop.invariant c.before.before.before.loop-test.true _ c.before.before.is_member.ensures (not-false _ c.before.if1.false) _ c.member-size.ensures.0)
+    omega (arith, c.before.before.before.before.loop.invariant.bound, judged_size c.before.before.before.before.before.before.before.before.args.sort c.before.before.before.before.before.before.before.before.args.table.now c.before.before.before.before.before.before.before.before.args.text.now c.before.before.before.before.before.before.before.before.args.store.now c.before.before.before.before.before.before.before.before.args.left _ _ _ _ c.before.before.before.before.loop.invariant c.before.before.before.loop-test.true _ c.before.before.is_member.ensures (not-false _ c.before.if1.false) _ c.member-size.ensures.0)
 
 are-members-sub-free : (t : ℕ) → are-members-lts.Need-overflow-sub-free (is-member-below t, is_member.Post, member-size-reads.Asked, member-size-reads.Learnt) (are-members-at t) are-members.Post are-members-Inv-loop are-members-μ-loop
 are-members-sub-free t c =
-    judged-size c.before.before.before.before.before.before.before.before.args.sort c.before.before.before.before.before.before.before.before.args.table.now c.before.before.before.before.before.before.before.before.args.text.now c.before.before.before.before.before.before.before.before.args.store.now c.before.before.before.before.before.before.before.before.args.left _ _ _ _ c.before.before.before.before.loop.invariant c.before.before.before.loop-test.true _ c.before.before.is_member.ensures (not-false _ c.before.if1.false) _ c.member-size.ensures.0
+    judged_size c.before.before.before.before.before.before.before.before.args.sort c.before.before.before.before.before.before.before.before.args.table.now c.before.before.before.before.before.before.before.before.args.text.now c.before.before.before.before.before.before.before.before.args.store.now c.before.before.before.before.before.before.before.before.args.left _ _ _ _ c.before.before.before.before.loop.invariant c.before.before.before.loop-test.true _ c.before.before.is_member.ensures (not-false _ c.before.if1.false) _ c.member-size.ensures.0
 
 are-members-sub-more : (t : ℕ) → are-members-lts.Need-overflow-sub-more (is-member-below t, is_member.Post, member-size-reads.Asked, member-size-reads.Learnt) (are-members-at t) are-members.Post are-members-Inv-loop are-members-μ-loop
 are-members-sub-more t c =
@@ -252,11 +252,11 @@ is-value-is-leaf-requires t c κs =
 
 is-value-returns-2 : (t : ℕ) → is-value-lts.Need-returns-2 (shape-of-reads.Asked, shape-of-reads.Learnt, is-group-below t, is-group.Post, is-leaf-reads.Asked, is-leaf-reads.Learnt) (is-value-at t) is-value.Post
 is-value-returns-2 t c =
-    c.is-group.ensures ∙ sym (ap (λ (x : Maybe Tree). is_fit x) (value-group c.before.before.before.before.before.before.before.before.before.before.args.table.now c.before.before.before.before.before.before.before.before.before.before.args.text.now c.before.before.before.before.before.before.before.before.before.before.args.store.now c.before.before.before.before.before.before.before.before.before.before.args.left c.before.before.before.before.before.before.before.before.before.before.args.i c.before.before.before.before.before.before.if1.false _ c.before.before.before.before.shape_of.ensures _ c.before.before.sort.given.1))
+    c.is-group.ensures ∙ sym (ap (λ (x : Maybe Tree). is_fit x) (value_group c.before.before.before.before.before.before.before.before.before.before.args.table.now c.before.before.before.before.before.before.before.before.before.before.args.text.now c.before.before.before.before.before.before.before.before.before.before.args.store.now c.before.before.before.before.before.before.before.before.before.before.args.left c.before.before.before.before.before.before.before.before.before.before.args.i c.before.before.before.before.before.before.if1.false _ c.before.before.before.before.shape_of.ensures _ c.before.before.sort.given.1))
 
 is-value-returns-3 : (t : ℕ) → is-value-lts.Need-returns-3 (shape-of-reads.Asked, shape-of-reads.Learnt, is-group-below t, is-group.Post, is-leaf-reads.Asked, is-leaf-reads.Learnt) (is-value-at t) is-value.Post
 is-value-returns-3 t c =
-    c.is_IsLeaf.ensures ∙ sym (ap (λ (x : Maybe Tree). is_fit x) (value-leaf c.before.before.before.before.before.before.before.before.before.args.table.now c.before.before.before.before.before.before.before.before.before.args.text.now c.before.before.before.before.before.before.before.before.before.args.store.now c.before.before.before.before.before.before.before.before.before.args.left c.before.before.before.before.before.before.before.before.before.args.i c.before.before.before.before.before.if1.false _ c.before.before.before.shape_of.ensures c.before.enum_told.given.1))
+    c.is_IsLeaf.ensures ∙ sym (ap (λ (x : Maybe Tree). is_fit x) (value_leaf c.before.before.before.before.before.before.before.before.before.args.table.now c.before.before.before.before.before.before.before.before.before.args.text.now c.before.before.before.before.before.before.before.before.before.args.store.now c.before.before.before.before.before.before.before.before.before.args.left c.before.before.before.before.before.before.before.before.before.args.i c.before.before.before.before.before.if1.false _ c.before.before.before.shape_of.ensures c.before.enum_told.given.1))
 
 pub +are-members-is-group-is-member-is-value-spec : {M : Type 1} → statement M
 +are-members-is-group-is-member-is-value-spec =

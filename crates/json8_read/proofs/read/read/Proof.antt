@@ -4,7 +4,7 @@ use borrow.Author.Rules.{rules}
 use Rattle.json8_read.proofs.read.read.Statement.{statement}
 use Rattle.json8_read.proofs.read.read.Tie as tie
 use mathlib.Core.Path.{refl}
-use Rattle.json8_read.proofs.Whole.{too_long_lem, pass_refused, few, within, tight-table, tight-store, all_fit, spread-done}
+use Rattle.json8_read.proofs.Whole.{too_long_lem, pass_refused, few, within, tight_table, tight_store, all_fit, spread_done}
 
 returns : tie.Need-returns
 returns c =
@@ -28,7 +28,7 @@ enum-known-i c = search rules
 
 returns-3 : tie.Need-returns-3
 returns-3 c =
-    tight-table c.before.before.before.before.before.before.before.before.before.before.before.before.args.text.now c.before.before.before.before.before.before.before.before.before.before.before.before.args.table.now c.before.before.before.before.before.before.before.before.before.before.before.before.args.store.now c.before.before.before.before.before.before.before.before.if1.false _ _ _ c.before.before.before.before.pass.ensures refl _ _ c.before.before.i.given.1 c.if2.true
+    tight_table c.before.before.before.before.before.before.before.before.before.before.before.before.args.text.now c.before.before.before.before.before.before.before.before.before.before.before.before.args.table.now c.before.before.before.before.before.before.before.before.before.before.before.before.args.store.now c.before.before.before.before.before.before.before.before.if1.false _ _ _ c.before.before.before.before.pass.ensures refl _ _ c.before.before.i.given.1 c.if2.true
 
 is-tight-requires : tie.Need-is-tight-requires
 is-tight-requires c κs =
@@ -36,7 +36,7 @@ is-tight-requires c κs =
 
 returns-4 : tie.Need-returns-4
 returns-4 c =
-    tight-store c.before.before.before.before.before.before.before.before.before.before.before.before.before.before.before.args.text.now c.before.before.before.before.before.before.before.before.before.before.before.before.before.before.before.args.table.now c.before.before.before.before.before.before.before.before.before.before.before.before.before.before.before.args.store.now c.before.before.before.before.before.before.before.before.before.before.before.if1.false _ _ _ c.before.before.before.before.before.before.before.pass.ensures refl _ _ c.before.before.before.before.before.i.given.1 c.before.before.before.if2.false (c.before.is-tight.ensures.0 c.if3.true)
+    tight_store c.before.before.before.before.before.before.before.before.before.before.before.before.before.before.before.args.text.now c.before.before.before.before.before.before.before.before.before.before.before.before.before.before.before.args.table.now c.before.before.before.before.before.before.before.before.before.before.before.before.before.before.before.args.store.now c.before.before.before.before.before.before.before.before.before.before.before.if1.false _ _ _ c.before.before.before.before.before.before.before.pass.ensures refl _ _ c.before.before.before.before.before.i.given.1 c.before.before.before.if2.false (c.before.is-tight.ensures.0 c.if3.true)
 
 spread-requires : tie.Need-spread-requires
 spread-requires c κs =
@@ -50,7 +50,7 @@ same-length-2 c = search rules
 
 returns-5 : tie.Need-returns-5
 returns-5 c =
-    spread-done c.before.before.before.before.before.before.before.before.before.before.before.before.before.before.before.before.before.before.before.before.before.before.before.before.args.text.now c.before.before.before.before.before.before.before.before.before.before.before.before.before.before.before.before.before.before.before.before.before.before.before.before.args.table.now c.before.before.before.before.before.before.before.before.before.before.before.before.before.before.before.before.before.before.before.before.before.before.before.before.args.store.now c.before.before.before.before.before.before.before.before.before.before.before.before.before.before.before.before.before.before.before.before.if1.false _ _ _ c.before.before.before.before.before.before.before.before.before.before.before.before.before.before.before.before.pass.ensures refl _ _ c.before.before.before.before.before.before.before.before.before.before.before.before.before.before.i.given.1 c.before.before.before.before.before.before.before.before.before.before.before.before.if2.false (c.before.before.before.before.before.before.before.before.before.before.is-tight.ensures.1 c.before.before.before.before.before.before.before.before.before.if3.false) _ _ _ c.before.before.before.before.spread.ensures
+    spread_done c.before.before.before.before.before.before.before.before.before.before.before.before.before.before.before.before.before.before.before.before.before.before.before.before.args.text.now c.before.before.before.before.before.before.before.before.before.before.before.before.before.before.before.before.before.before.before.before.before.before.before.before.args.table.now c.before.before.before.before.before.before.before.before.before.before.before.before.before.before.before.before.before.before.before.before.before.before.before.before.args.store.now c.before.before.before.before.before.before.before.before.before.before.before.before.before.before.before.before.before.before.before.before.if1.false _ _ _ c.before.before.before.before.before.before.before.before.before.before.before.before.before.before.before.before.pass.ensures refl _ _ c.before.before.before.before.before.before.before.before.before.before.before.before.before.before.i.given.1 c.before.before.before.before.before.before.before.before.before.before.before.before.if2.false (c.before.before.before.before.before.before.before.before.before.before.is-tight.ensures.1 c.before.before.before.before.before.before.before.before.before.if3.false) _ _ _ c.before.before.before.before.spread.ensures
 
 pub read_spec : {M : Type 1} → statement M
 read_spec =

@@ -36,7 +36,7 @@ use Rattle.json8.specs.Nodes.{seq}
 use Rattle.json8.proofs.Fair.{spaces_fair, value_fair, key_fair}
 use Rattle.json8_leaves.proofs.Joined.{took, stopped, went, halted, told_stop, spaces_blind, step_stop, step_on, seq_stop, seq_took, seq_refused, on}
 use Rattle.json8_leaves.proofs.Choices.{list_start, dict_start, no_bracket, value_list, value_dict}
-use Rattle.json8_values.proofs.Members.{Loop, too_deep_lem, too_many_lem, bracket_place, bracket_byte, bracket_told, bracket_inside, loop_begun, loop_cut, loop_closed, loop_last, round_closed, round_member, round_refused, member_none, goes_on, ends, no_comma, inner_fair, further, around_fair, key_refused, colon_refused, pair-refused, pair-took}
+use Rattle.json8_values.proofs.Members.{Loop, too_deep_lem, too_many_lem, bracket_place, bracket_byte, bracket_told, bracket_inside, loop_begun, loop_cut, loop_closed, loop_last, round_closed, round_member, round_refused, member_none, goes_on, ends, no_comma, inner_fair, further, around_fair, key_refused, colon_refused, pair_refused, pair_took}
 
 abbrev μ-dict-node : Measures 3 dict-node-kinds.ps ℕ
 μ-dict-node κs a =
@@ -179,7 +179,7 @@ dict-node-enum-known-number-4 t c =
 
 dict-node-returns-7 : (t : ℕ) → dict-node-lts.Need-returns-7 (next-reads.Asked, next-reads.Learnt, note-reads.Asked, note-reads.Learnt, key-node-reads.Asked, key-node-reads.Learnt, around-colon-reads.Asked, around-colon-reads.Learnt, value-node-below t, value-node.Post, mark-reads.Asked, mark-reads.Learnt, misplaced-reads.Asked, misplaced-reads.Learnt) (dict-node-at t) dict-node.Post dict-node-Inv-loop dict-node-μ-loop
 dict-node-returns-7 t c =
-    let l = c.before.before.before.before.before.before.before.before.before.before.before.before.before.before.before.before.before.before.before.loop.invariant 0 in let g = went c.before.before.before.before.before.before.before.before.before.before.before.before.before.before.before.before.before.before.next.ensures c.before.before.before.before.before.before.before.before.before.before.before.before.before.before.before.before.o.given.1 in let r = step_on spaces 0 spaces_fair (record { short = c.before.before.before.before.before.before.before.before.before.before.before.before.before.before.before.before.before.before.before.before.before.before.before.requires.1.1.short; inside = l.inside; few = l.few }) g.0 in let y = on key 1 key_fair r.0 (took (c.before.before.before.before.before.before.before.before.before.before.before.before.key-node.ensures 0) c.before.before.before.before.before.before.before.before.before.before.e.given.1) in let a = went c.before.before.before.before.before.before.before.before.around-colon.ensures c.before.before.before.before.before.before.c.given.1 in let d = step_on (seq spaces (seq colon spaces)) 1 around_fair y.0 a.0 in loop_cut _ Pairs c.before.before.before.before.before.before.before.before.before.before.before.before.before.before.before.before.before.before.before.before.before.before.before.args.text.now (c.before.before.before.before.before.before.before.before.before.before.before.before.before.before.before.before.before.before.before.before.before.before.before.args.from - 1) _ _ c.before.before.before.before.before.before.before.before.before.before.before.before.before.before.before.before.before.before.before.before.before.if1.false c.before.before.before.before.before.before.before.before.before.before.before.before.before.before.before.before.before.before.before.before.if2.false c.before.before.before.before.before.before.before.before.before.before.before.before.before.before.before.before.before.before.before.before.before.before.before.requires.1.1 _ _ _ _ c.before.before.before.before.before.before.before.before.before.before.before.before.before.before.before.before.before.before.before.loop.invariant _ _ _ (λ m. round_refused 0x7d (member_of Pairs (value (c.before.before.before.before.before.before.before.before.before.before.before.before.before.before.before.before.before.before.before.before.before.before.before.args.left - 1))) c.before.before.before.before.before.before.before.before.before.before.before.before.before.before.before.before.before.before.before.before.before.before.before.args.text.now _ _ _ _ _ g.0 g.1 c.before.before.before.before.before.before.before.before.before.before.before.before.before.before.if3.false (member_none Pairs (c.before.before.before.before.before.before.before.before.before.before.before.before.before.before.before.before.before.before.before.before.before.before.before.args.left - 1) _ _) (seq_stop (member_of Pairs (value (c.before.before.before.before.before.before.before.before.before.before.before.before.before.before.before.before.before.before.before.before.before.before.before.args.left - 1))) (seq spaces (comma 0x7d)) _ _ _ _ _ _ (pair-refused (value (c.before.before.before.before.before.before.before.before.before.before.before.before.before.before.before.before.before.before.before.before.before.before.before.args.left - 1)) c.before.before.before.before.before.before.before.before.before.before.before.before.before.before.before.before.before.before.before.before.before.before.before.args.text.now _ _ _ (took (c.before.before.before.before.before.before.before.before.before.before.before.before.key-node.ensures _) c.before.before.before.before.before.before.before.before.before.before.e.given.1) a.0 _ _ (λ m. stopped (c.before.before.before.value-node.ensures m) c.before.number4.given.1))))
+    let l = c.before.before.before.before.before.before.before.before.before.before.before.before.before.before.before.before.before.before.before.loop.invariant 0 in let g = went c.before.before.before.before.before.before.before.before.before.before.before.before.before.before.before.before.before.before.next.ensures c.before.before.before.before.before.before.before.before.before.before.before.before.before.before.before.before.o.given.1 in let r = step_on spaces 0 spaces_fair (record { short = c.before.before.before.before.before.before.before.before.before.before.before.before.before.before.before.before.before.before.before.before.before.before.before.requires.1.1.short; inside = l.inside; few = l.few }) g.0 in let y = on key 1 key_fair r.0 (took (c.before.before.before.before.before.before.before.before.before.before.before.before.key-node.ensures 0) c.before.before.before.before.before.before.before.before.before.before.e.given.1) in let a = went c.before.before.before.before.before.before.before.before.around-colon.ensures c.before.before.before.before.before.before.c.given.1 in let d = step_on (seq spaces (seq colon spaces)) 1 around_fair y.0 a.0 in loop_cut _ Pairs c.before.before.before.before.before.before.before.before.before.before.before.before.before.before.before.before.before.before.before.before.before.before.before.args.text.now (c.before.before.before.before.before.before.before.before.before.before.before.before.before.before.before.before.before.before.before.before.before.before.before.args.from - 1) _ _ c.before.before.before.before.before.before.before.before.before.before.before.before.before.before.before.before.before.before.before.before.before.if1.false c.before.before.before.before.before.before.before.before.before.before.before.before.before.before.before.before.before.before.before.before.if2.false c.before.before.before.before.before.before.before.before.before.before.before.before.before.before.before.before.before.before.before.before.before.before.before.requires.1.1 _ _ _ _ c.before.before.before.before.before.before.before.before.before.before.before.before.before.before.before.before.before.before.before.loop.invariant _ _ _ (λ m. round_refused 0x7d (member_of Pairs (value (c.before.before.before.before.before.before.before.before.before.before.before.before.before.before.before.before.before.before.before.before.before.before.before.args.left - 1))) c.before.before.before.before.before.before.before.before.before.before.before.before.before.before.before.before.before.before.before.before.before.before.before.args.text.now _ _ _ _ _ g.0 g.1 c.before.before.before.before.before.before.before.before.before.before.before.before.before.before.if3.false (member_none Pairs (c.before.before.before.before.before.before.before.before.before.before.before.before.before.before.before.before.before.before.before.before.before.before.before.args.left - 1) _ _) (seq_stop (member_of Pairs (value (c.before.before.before.before.before.before.before.before.before.before.before.before.before.before.before.before.before.before.before.before.before.before.before.args.left - 1))) (seq spaces (comma 0x7d)) _ _ _ _ _ _ (pair_refused (value (c.before.before.before.before.before.before.before.before.before.before.before.before.before.before.before.before.before.before.before.before.before.before.before.args.left - 1)) c.before.before.before.before.before.before.before.before.before.before.before.before.before.before.before.before.before.before.before.before.before.before.before.args.text.now _ _ _ (took (c.before.before.before.before.before.before.before.before.before.before.before.before.key-node.ensures _) c.before.before.before.before.before.before.before.before.before.before.e.given.1) a.0 _ _ (λ m. stopped (c.before.before.before.value-node.ensures m) c.before.number4.given.1))))
 
 dict-node-enum-known-q : (t : ℕ) → dict-node-lts.Need-enum-known-q (next-reads.Asked, next-reads.Learnt, note-reads.Asked, note-reads.Learnt, key-node-reads.Asked, key-node-reads.Learnt, around-colon-reads.Asked, around-colon-reads.Learnt, value-node-below t, value-node.Post, mark-reads.Asked, mark-reads.Learnt, misplaced-reads.Asked, misplaced-reads.Learnt) (dict-node-at t) dict-node.Post dict-node-Inv-loop dict-node-μ-loop
 dict-node-enum-known-q t c =
@@ -195,7 +195,7 @@ dict-node-enum-known-number-5 t c =
 
 dict-node-returns-8 : (t : ℕ) → dict-node-lts.Need-returns-8 (next-reads.Asked, next-reads.Learnt, note-reads.Asked, note-reads.Learnt, key-node-reads.Asked, key-node-reads.Learnt, around-colon-reads.Asked, around-colon-reads.Learnt, value-node-below t, value-node.Post, mark-reads.Asked, mark-reads.Learnt, misplaced-reads.Asked, misplaced-reads.Learnt) (dict-node-at t) dict-node.Post dict-node-Inv-loop dict-node-μ-loop
 dict-node-returns-8 t c =
-    let l = c.before.before.before.before.before.before.before.before.before.before.before.before.before.before.before.before.before.before.before.before.before.before.before.loop.invariant 0 in let g = went c.before.before.before.before.before.before.before.before.before.before.before.before.before.before.before.before.before.before.before.before.before.before.next.ensures c.before.before.before.before.before.before.before.before.before.before.before.before.before.before.before.before.before.before.before.before.o.given.1 in let r = step_on spaces 0 spaces_fair (record { short = c.before.before.before.before.before.before.before.before.before.before.before.before.before.before.before.before.before.before.before.before.before.before.before.before.before.before.before.requires.1.1.short; inside = l.inside; few = l.few }) g.0 in let y = on key 1 key_fair r.0 (took (c.before.before.before.before.before.before.before.before.before.before.before.before.before.before.before.before.key-node.ensures 0) c.before.before.before.before.before.before.before.before.before.before.before.before.before.before.e.given.1) in let a = went c.before.before.before.before.before.before.before.before.before.before.before.before.around-colon.ensures c.before.before.before.before.before.before.before.before.before.before.c.given.1 in let d = step_on (seq spaces (seq colon spaces)) 1 around_fair y.0 a.0 in loop_cut _ Pairs c.before.before.before.before.before.before.before.before.before.before.before.before.before.before.before.before.before.before.before.before.before.before.before.before.before.before.before.args.text.now (c.before.before.before.before.before.before.before.before.before.before.before.before.before.before.before.before.before.before.before.before.before.before.before.before.before.before.before.args.from - 1) _ _ c.before.before.before.before.before.before.before.before.before.before.before.before.before.before.before.before.before.before.before.before.before.before.before.before.before.if1.false c.before.before.before.before.before.before.before.before.before.before.before.before.before.before.before.before.before.before.before.before.before.before.before.before.if2.false c.before.before.before.before.before.before.before.before.before.before.before.before.before.before.before.before.before.before.before.before.before.before.before.before.before.before.before.requires.1.1 _ _ _ _ c.before.before.before.before.before.before.before.before.before.before.before.before.before.before.before.before.before.before.before.before.before.before.before.loop.invariant _ _ _ (λ m. round_refused 0x7d (member_of Pairs (value (c.before.before.before.before.before.before.before.before.before.before.before.before.before.before.before.before.before.before.before.before.before.before.before.before.before.before.before.args.left - 1))) c.before.before.before.before.before.before.before.before.before.before.before.before.before.before.before.before.before.before.before.before.before.before.before.before.before.before.before.args.text.now _ _ _ _ _ g.0 g.1 c.before.before.before.before.before.before.before.before.before.before.before.before.before.before.before.before.before.before.if3.false (member_none Pairs (c.before.before.before.before.before.before.before.before.before.before.before.before.before.before.before.before.before.before.before.before.before.before.before.before.before.before.before.args.left - 1) _ _) (seq_refused (member_of Pairs (value (c.before.before.before.before.before.before.before.before.before.before.before.before.before.before.before.before.before.before.before.before.before.before.before.before.before.before.before.args.left - 1))) (seq spaces (comma 0x7d)) c.before.before.before.before.before.before.before.before.before.before.before.before.before.before.before.before.before.before.before.before.before.before.before.before.before.before.before.args.text.now _ _ _ _ _ 0 _ _ (pair-took (value (c.before.before.before.before.before.before.before.before.before.before.before.before.before.before.before.before.before.before.before.before.before.before.before.before.before.before.before.args.left - 1)) c.before.before.before.before.before.before.before.before.before.before.before.before.before.before.before.before.before.before.before.before.before.before.before.before.before.before.before.args.text.now _ _ _ (took (c.before.before.before.before.before.before.before.before.before.before.before.before.before.before.before.before.key-node.ensures _) c.before.before.before.before.before.before.before.before.before.before.before.before.before.before.e.given.1) a.0 (λ m. took (c.before.before.before.before.before.before.before.value-node.ensures m) c.before.before.before.before.before.q.given.1)) _ _ (step_stop spaces (comma 0x7d) spaces_blind c.before.before.before.before.before.before.before.before.before.before.before.before.before.before.before.before.before.before.before.before.before.before.before.before.before.before.before.args.text.now _ _ _ _ _ (halted c.before.before.before.mark.ensures c.before.number5.given.1))))
+    let l = c.before.before.before.before.before.before.before.before.before.before.before.before.before.before.before.before.before.before.before.before.before.before.before.loop.invariant 0 in let g = went c.before.before.before.before.before.before.before.before.before.before.before.before.before.before.before.before.before.before.before.before.before.before.next.ensures c.before.before.before.before.before.before.before.before.before.before.before.before.before.before.before.before.before.before.before.before.o.given.1 in let r = step_on spaces 0 spaces_fair (record { short = c.before.before.before.before.before.before.before.before.before.before.before.before.before.before.before.before.before.before.before.before.before.before.before.before.before.before.before.requires.1.1.short; inside = l.inside; few = l.few }) g.0 in let y = on key 1 key_fair r.0 (took (c.before.before.before.before.before.before.before.before.before.before.before.before.before.before.before.before.key-node.ensures 0) c.before.before.before.before.before.before.before.before.before.before.before.before.before.before.e.given.1) in let a = went c.before.before.before.before.before.before.before.before.before.before.before.before.around-colon.ensures c.before.before.before.before.before.before.before.before.before.before.c.given.1 in let d = step_on (seq spaces (seq colon spaces)) 1 around_fair y.0 a.0 in loop_cut _ Pairs c.before.before.before.before.before.before.before.before.before.before.before.before.before.before.before.before.before.before.before.before.before.before.before.before.before.before.before.args.text.now (c.before.before.before.before.before.before.before.before.before.before.before.before.before.before.before.before.before.before.before.before.before.before.before.before.before.before.before.args.from - 1) _ _ c.before.before.before.before.before.before.before.before.before.before.before.before.before.before.before.before.before.before.before.before.before.before.before.before.before.if1.false c.before.before.before.before.before.before.before.before.before.before.before.before.before.before.before.before.before.before.before.before.before.before.before.before.if2.false c.before.before.before.before.before.before.before.before.before.before.before.before.before.before.before.before.before.before.before.before.before.before.before.before.before.before.before.requires.1.1 _ _ _ _ c.before.before.before.before.before.before.before.before.before.before.before.before.before.before.before.before.before.before.before.before.before.before.before.loop.invariant _ _ _ (λ m. round_refused 0x7d (member_of Pairs (value (c.before.before.before.before.before.before.before.before.before.before.before.before.before.before.before.before.before.before.before.before.before.before.before.before.before.before.before.args.left - 1))) c.before.before.before.before.before.before.before.before.before.before.before.before.before.before.before.before.before.before.before.before.before.before.before.before.before.before.before.args.text.now _ _ _ _ _ g.0 g.1 c.before.before.before.before.before.before.before.before.before.before.before.before.before.before.before.before.before.before.if3.false (member_none Pairs (c.before.before.before.before.before.before.before.before.before.before.before.before.before.before.before.before.before.before.before.before.before.before.before.before.before.before.before.args.left - 1) _ _) (seq_refused (member_of Pairs (value (c.before.before.before.before.before.before.before.before.before.before.before.before.before.before.before.before.before.before.before.before.before.before.before.before.before.before.before.args.left - 1))) (seq spaces (comma 0x7d)) c.before.before.before.before.before.before.before.before.before.before.before.before.before.before.before.before.before.before.before.before.before.before.before.before.before.before.before.args.text.now _ _ _ _ _ 0 _ _ (pair_took (value (c.before.before.before.before.before.before.before.before.before.before.before.before.before.before.before.before.before.before.before.before.before.before.before.before.before.before.before.args.left - 1)) c.before.before.before.before.before.before.before.before.before.before.before.before.before.before.before.before.before.before.before.before.before.before.before.before.before.before.before.args.text.now _ _ _ (took (c.before.before.before.before.before.before.before.before.before.before.before.before.before.before.before.before.key-node.ensures _) c.before.before.before.before.before.before.before.before.before.before.before.before.before.before.e.given.1) a.0 (λ m. took (c.before.before.before.before.before.before.before.value-node.ensures m) c.before.before.before.before.before.q.given.1)) _ _ (step_stop spaces (comma 0x7d) spaces_blind c.before.before.before.before.before.before.before.before.before.before.before.before.before.before.before.before.before.before.before.before.before.before.before.before.before.before.before.args.text.now _ _ _ _ _ (halted c.before.before.before.mark.ensures c.before.number5.given.1))))
 
 dict-node-enum-known-z : (t : ℕ) → dict-node-lts.Need-enum-known-z (next-reads.Asked, next-reads.Learnt, note-reads.Asked, note-reads.Learnt, key-node-reads.Asked, key-node-reads.Learnt, around-colon-reads.Asked, around-colon-reads.Learnt, value-node-below t, value-node.Post, mark-reads.Asked, mark-reads.Learnt, misplaced-reads.Asked, misplaced-reads.Learnt) (dict-node-at t) dict-node.Post dict-node-Inv-loop dict-node-μ-loop
 dict-node-enum-known-z t c =
@@ -219,7 +219,7 @@ dict-node-add-t46 t c =
 
 dict-node-returns-9 : (t : ℕ) → dict-node-lts.Need-returns-9 (next-reads.Asked, next-reads.Learnt, note-reads.Asked, note-reads.Learnt, key-node-reads.Asked, key-node-reads.Learnt, around-colon-reads.Asked, around-colon-reads.Learnt, value-node-below t, value-node.Post, mark-reads.Asked, mark-reads.Learnt, misplaced-reads.Asked, misplaced-reads.Learnt) (dict-node-at t) dict-node.Post dict-node-Inv-loop dict-node-μ-loop
 dict-node-returns-9 t c =
-    let l = c.before.before.before.before.before.before.before.before.before.before.before.before.before.before.before.before.before.before.before.before.before.before.before.before.before.before.loop.invariant 0 in let g = went c.before.before.before.before.before.before.before.before.before.before.before.before.before.before.before.before.before.before.before.before.before.before.before.before.before.next.ensures c.before.before.before.before.before.before.before.before.before.before.before.before.before.before.before.before.before.before.before.before.before.before.before.o.given.1 in let r = step_on spaces 0 spaces_fair (record { short = c.before.before.before.before.before.before.before.before.before.before.before.before.before.before.before.before.before.before.before.before.before.before.before.before.before.before.before.before.before.before.requires.1.1.short; inside = l.inside; few = l.few }) g.0 in let y = on key 1 key_fair r.0 (took (c.before.before.before.before.before.before.before.before.before.before.before.before.before.before.before.before.before.before.before.key-node.ensures 0) c.before.before.before.before.before.before.before.before.before.before.before.before.before.before.before.before.before.e.given.1) in let a = went c.before.before.before.before.before.before.before.before.before.before.before.before.before.before.before.around-colon.ensures c.before.before.before.before.before.before.before.before.before.before.before.before.before.c.given.1 in let d = step_on (seq spaces (seq colon spaces)) 1 around_fair y.0 a.0 in let v = on (value (c.before.before.before.before.before.before.before.before.before.before.before.before.before.before.before.before.before.before.before.before.before.before.before.before.before.before.before.before.before.before.args.left - 1)) 1 (value_fair _) d.0 (took (c.before.before.before.before.before.before.before.before.before.before.value-node.ensures 0) c.before.before.before.before.before.before.before.before.q.given.1) in let s = went c.before.before.before.before.before.before.mark.ensures c.before.before.before.before.z.given.1 in let f = step_on spaces 0 spaces_fair v.0 s.0 in loop_last _ Pairs c.before.before.before.before.before.before.before.before.before.before.before.before.before.before.before.before.before.before.before.before.before.before.before.before.before.before.before.before.before.before.args.text.now (c.before.before.before.before.before.before.before.before.before.before.before.before.before.before.before.before.before.before.before.before.before.before.before.before.before.before.before.before.before.before.args.from - 1) _ _ c.before.before.before.before.before.before.before.before.before.before.before.before.before.before.before.before.before.before.before.before.before.before.before.before.before.before.before.before.if1.false c.before.before.before.before.before.before.before.before.before.before.before.before.before.before.before.before.before.before.before.before.before.before.before.before.before.before.before.if2.false c.before.before.before.before.before.before.before.before.before.before.before.before.before.before.before.before.before.before.before.before.before.before.before.before.before.before.before.before.before.before.requires.1.1 _ _ _ _ c.before.before.before.before.before.before.before.before.before.before.before.before.before.before.before.before.before.before.before.before.before.before.before.before.before.before.loop.invariant _ _ _ _ v.0.few (let u : c.before.before.before.before.before.before.before.before.before.before.before.before.before.before.before.before.before.before.before.before.before.before.before.before.before.before.loop.count < text_max = omega (arith, l.counted, r.1, y.1, d.1, v.1, v.0.inside, c.before.before.before.before.before.before.before.before.before.before.before.before.before.before.before.before.before.before.before.before.before.before.before.before.before.before.before.before.before.before.requires.1.1.short) in u) (λ m. round_member 0x7d (member_of Pairs (value (c.before.before.before.before.before.before.before.before.before.before.before.before.before.before.before.before.before.before.before.before.before.before.before.before.before.before.before.before.before.before.args.left - 1))) c.before.before.before.before.before.before.before.before.before.before.before.before.before.before.before.before.before.before.before.before.before.before.before.before.before.before.before.before.before.before.args.text.now _ _ _ _ _ g.0 g.1 c.before.before.before.before.before.before.before.before.before.before.before.before.before.before.before.before.before.before.before.before.before.if3.false (member_none Pairs (c.before.before.before.before.before.before.before.before.before.before.before.before.before.before.before.before.before.before.before.before.before.before.before.before.before.before.before.before.before.before.args.left - 1) _ _) (seq_took (member_of Pairs (value (c.before.before.before.before.before.before.before.before.before.before.before.before.before.before.before.before.before.before.before.before.before.before.before.before.before.before.before.before.before.before.args.left - 1))) (seq spaces (comma 0x7d)) c.before.before.before.before.before.before.before.before.before.before.before.before.before.before.before.before.before.before.before.before.before.before.before.before.before.before.before.before.before.before.args.text.now _ _ _ _ _ 0 _ _ (pair-took (value (c.before.before.before.before.before.before.before.before.before.before.before.before.before.before.before.before.before.before.before.before.before.before.before.before.before.before.before.before.before.before.args.left - 1)) c.before.before.before.before.before.before.before.before.before.before.before.before.before.before.before.before.before.before.before.before.before.before.before.before.before.before.before.before.before.before.args.text.now _ _ _ (took (c.before.before.before.before.before.before.before.before.before.before.before.before.before.before.before.before.before.before.before.key-node.ensures _) c.before.before.before.before.before.before.before.before.before.before.before.before.before.before.before.before.before.e.given.1) a.0 (λ m. took (c.before.before.before.before.before.before.before.before.before.before.value-node.ensures m) c.before.before.before.before.before.before.before.before.q.given.1)) _ _ 1 _ (ends 0x7d c.before.before.before.before.before.before.before.before.before.before.before.before.before.before.before.before.before.before.before.before.before.before.before.before.before.before.before.before.before.before.args.text.now _ _ _ _ _ s.0 s.1 c.before.before.if4.true (omega arith)))) c.note2.ensures
+    let l = c.before.before.before.before.before.before.before.before.before.before.before.before.before.before.before.before.before.before.before.before.before.before.before.before.before.before.loop.invariant 0 in let g = went c.before.before.before.before.before.before.before.before.before.before.before.before.before.before.before.before.before.before.before.before.before.before.before.before.before.next.ensures c.before.before.before.before.before.before.before.before.before.before.before.before.before.before.before.before.before.before.before.before.before.before.before.o.given.1 in let r = step_on spaces 0 spaces_fair (record { short = c.before.before.before.before.before.before.before.before.before.before.before.before.before.before.before.before.before.before.before.before.before.before.before.before.before.before.before.before.before.before.requires.1.1.short; inside = l.inside; few = l.few }) g.0 in let y = on key 1 key_fair r.0 (took (c.before.before.before.before.before.before.before.before.before.before.before.before.before.before.before.before.before.before.before.key-node.ensures 0) c.before.before.before.before.before.before.before.before.before.before.before.before.before.before.before.before.before.e.given.1) in let a = went c.before.before.before.before.before.before.before.before.before.before.before.before.before.before.before.around-colon.ensures c.before.before.before.before.before.before.before.before.before.before.before.before.before.c.given.1 in let d = step_on (seq spaces (seq colon spaces)) 1 around_fair y.0 a.0 in let v = on (value (c.before.before.before.before.before.before.before.before.before.before.before.before.before.before.before.before.before.before.before.before.before.before.before.before.before.before.before.before.before.before.args.left - 1)) 1 (value_fair _) d.0 (took (c.before.before.before.before.before.before.before.before.before.before.value-node.ensures 0) c.before.before.before.before.before.before.before.before.q.given.1) in let s = went c.before.before.before.before.before.before.mark.ensures c.before.before.before.before.z.given.1 in let f = step_on spaces 0 spaces_fair v.0 s.0 in loop_last _ Pairs c.before.before.before.before.before.before.before.before.before.before.before.before.before.before.before.before.before.before.before.before.before.before.before.before.before.before.before.before.before.before.args.text.now (c.before.before.before.before.before.before.before.before.before.before.before.before.before.before.before.before.before.before.before.before.before.before.before.before.before.before.before.before.before.before.args.from - 1) _ _ c.before.before.before.before.before.before.before.before.before.before.before.before.before.before.before.before.before.before.before.before.before.before.before.before.before.before.before.before.if1.false c.before.before.before.before.before.before.before.before.before.before.before.before.before.before.before.before.before.before.before.before.before.before.before.before.before.before.before.if2.false c.before.before.before.before.before.before.before.before.before.before.before.before.before.before.before.before.before.before.before.before.before.before.before.before.before.before.before.before.before.before.requires.1.1 _ _ _ _ c.before.before.before.before.before.before.before.before.before.before.before.before.before.before.before.before.before.before.before.before.before.before.before.before.before.before.loop.invariant _ _ _ _ v.0.few (let u : c.before.before.before.before.before.before.before.before.before.before.before.before.before.before.before.before.before.before.before.before.before.before.before.before.before.before.loop.count < text_max = omega (arith, l.counted, r.1, y.1, d.1, v.1, v.0.inside, c.before.before.before.before.before.before.before.before.before.before.before.before.before.before.before.before.before.before.before.before.before.before.before.before.before.before.before.before.before.before.requires.1.1.short) in u) (λ m. round_member 0x7d (member_of Pairs (value (c.before.before.before.before.before.before.before.before.before.before.before.before.before.before.before.before.before.before.before.before.before.before.before.before.before.before.before.before.before.before.args.left - 1))) c.before.before.before.before.before.before.before.before.before.before.before.before.before.before.before.before.before.before.before.before.before.before.before.before.before.before.before.before.before.before.args.text.now _ _ _ _ _ g.0 g.1 c.before.before.before.before.before.before.before.before.before.before.before.before.before.before.before.before.before.before.before.before.before.if3.false (member_none Pairs (c.before.before.before.before.before.before.before.before.before.before.before.before.before.before.before.before.before.before.before.before.before.before.before.before.before.before.before.before.before.before.args.left - 1) _ _) (seq_took (member_of Pairs (value (c.before.before.before.before.before.before.before.before.before.before.before.before.before.before.before.before.before.before.before.before.before.before.before.before.before.before.before.before.before.before.args.left - 1))) (seq spaces (comma 0x7d)) c.before.before.before.before.before.before.before.before.before.before.before.before.before.before.before.before.before.before.before.before.before.before.before.before.before.before.before.before.before.before.args.text.now _ _ _ _ _ 0 _ _ (pair_took (value (c.before.before.before.before.before.before.before.before.before.before.before.before.before.before.before.before.before.before.before.before.before.before.before.before.before.before.before.before.before.before.args.left - 1)) c.before.before.before.before.before.before.before.before.before.before.before.before.before.before.before.before.before.before.before.before.before.before.before.before.before.before.before.before.before.before.args.text.now _ _ _ (took (c.before.before.before.before.before.before.before.before.before.before.before.before.before.before.before.before.before.before.before.key-node.ensures _) c.before.before.before.before.before.before.before.before.before.before.before.before.before.before.before.before.before.e.given.1) a.0 (λ m. took (c.before.before.before.before.before.before.before.before.before.before.value-node.ensures m) c.before.before.before.before.before.before.before.before.q.given.1)) _ _ 1 _ (ends 0x7d c.before.before.before.before.before.before.before.before.before.before.before.before.before.before.before.before.before.before.before.before.before.before.before.before.before.before.before.before.before.before.args.text.now _ _ _ _ _ s.0 s.1 c.before.before.if4.true (omega arith)))) c.note2.ensures
 
 dict-node-misplaced-requires : (t : ℕ) → dict-node-lts.Need-misplaced-requires (next-reads.Asked, next-reads.Learnt, note-reads.Asked, note-reads.Learnt, key-node-reads.Asked, key-node-reads.Learnt, around-colon-reads.Asked, around-colon-reads.Learnt, value-node-below t, value-node.Post, mark-reads.Asked, mark-reads.Learnt, misplaced-reads.Asked, misplaced-reads.Learnt) (dict-node-at t) dict-node.Post dict-node-Inv-loop dict-node-μ-loop
 dict-node-misplaced-requires t c κs =
@@ -227,7 +227,7 @@ dict-node-misplaced-requires t c κs =
 
 dict-node-returns-10 : (t : ℕ) → dict-node-lts.Need-returns-10 (next-reads.Asked, next-reads.Learnt, note-reads.Asked, note-reads.Learnt, key-node-reads.Asked, key-node-reads.Learnt, around-colon-reads.Asked, around-colon-reads.Learnt, value-node-below t, value-node.Post, mark-reads.Asked, mark-reads.Learnt, misplaced-reads.Asked, misplaced-reads.Learnt) (dict-node-at t) dict-node.Post dict-node-Inv-loop dict-node-μ-loop
 dict-node-returns-10 t c =
-    let l = c.before.before.before.before.before.before.before.before.before.before.before.before.before.before.before.before.before.before.before.before.before.before.before.before.before.before.loop.invariant 0 in let g = went c.before.before.before.before.before.before.before.before.before.before.before.before.before.before.before.before.before.before.before.before.before.before.before.before.before.next.ensures c.before.before.before.before.before.before.before.before.before.before.before.before.before.before.before.before.before.before.before.before.before.before.before.o.given.1 in let r = step_on spaces 0 spaces_fair (record { short = c.before.before.before.before.before.before.before.before.before.before.before.before.before.before.before.before.before.before.before.before.before.before.before.before.before.before.before.before.before.before.requires.1.1.short; inside = l.inside; few = l.few }) g.0 in let y = on key 1 key_fair r.0 (took (c.before.before.before.before.before.before.before.before.before.before.before.before.before.before.before.before.before.before.before.key-node.ensures 0) c.before.before.before.before.before.before.before.before.before.before.before.before.before.before.before.before.before.e.given.1) in let a = went c.before.before.before.before.before.before.before.before.before.before.before.before.before.before.before.around-colon.ensures c.before.before.before.before.before.before.before.before.before.before.before.before.before.c.given.1 in let d = step_on (seq spaces (seq colon spaces)) 1 around_fair y.0 a.0 in let v = on (value (c.before.before.before.before.before.before.before.before.before.before.before.before.before.before.before.before.before.before.before.before.before.before.before.before.before.before.before.before.before.before.args.left - 1)) 1 (value_fair _) d.0 (took (c.before.before.before.before.before.before.before.before.before.before.value-node.ensures 0) c.before.before.before.before.before.before.before.before.q.given.1) in let s = went c.before.before.before.before.before.before.mark.ensures c.before.before.before.before.z.given.1 in let f = step_on spaces 0 spaces_fair v.0 s.0 in loop_cut _ Pairs c.before.before.before.before.before.before.before.before.before.before.before.before.before.before.before.before.before.before.before.before.before.before.before.before.before.before.before.before.before.before.args.text.now (c.before.before.before.before.before.before.before.before.before.before.before.before.before.before.before.before.before.before.before.before.before.before.before.before.before.before.before.before.before.before.args.from - 1) _ _ c.before.before.before.before.before.before.before.before.before.before.before.before.before.before.before.before.before.before.before.before.before.before.before.before.before.before.before.before.if1.false c.before.before.before.before.before.before.before.before.before.before.before.before.before.before.before.before.before.before.before.before.before.before.before.before.before.before.before.if2.false c.before.before.before.before.before.before.before.before.before.before.before.before.before.before.before.before.before.before.before.before.before.before.before.before.before.before.before.before.before.before.requires.1.1 _ _ _ _ c.before.before.before.before.before.before.before.before.before.before.before.before.before.before.before.before.before.before.before.before.before.before.before.before.before.before.loop.invariant _ _ _ (λ m. round_refused 0x7d (member_of Pairs (value (c.before.before.before.before.before.before.before.before.before.before.before.before.before.before.before.before.before.before.before.before.before.before.before.before.before.before.before.before.before.before.args.left - 1))) c.before.before.before.before.before.before.before.before.before.before.before.before.before.before.before.before.before.before.before.before.before.before.before.before.before.before.before.before.before.before.args.text.now _ _ _ _ _ g.0 g.1 c.before.before.before.before.before.before.before.before.before.before.before.before.before.before.before.before.before.before.before.before.before.if3.false (member_none Pairs (c.before.before.before.before.before.before.before.before.before.before.before.before.before.before.before.before.before.before.before.before.before.before.before.before.before.before.before.before.before.before.args.left - 1) _ _) (seq_refused (member_of Pairs (value (c.before.before.before.before.before.before.before.before.before.before.before.before.before.before.before.before.before.before.before.before.before.before.before.before.before.before.before.before.before.before.args.left - 1))) (seq spaces (comma 0x7d)) c.before.before.before.before.before.before.before.before.before.before.before.before.before.before.before.before.before.before.before.before.before.before.before.before.before.before.before.before.before.before.args.text.now _ _ _ _ _ 0 _ _ (pair-took (value (c.before.before.before.before.before.before.before.before.before.before.before.before.before.before.before.before.before.before.before.before.before.before.before.before.before.before.before.before.before.before.args.left - 1)) c.before.before.before.before.before.before.before.before.before.before.before.before.before.before.before.before.before.before.before.before.before.before.before.before.before.before.before.before.before.before.args.text.now _ _ _ (took (c.before.before.before.before.before.before.before.before.before.before.before.before.before.before.before.before.before.before.before.key-node.ensures _) c.before.before.before.before.before.before.before.before.before.before.before.before.before.before.before.before.before.e.given.1) a.0 (λ m. took (c.before.before.before.before.before.before.before.before.before.before.value-node.ensures m) c.before.before.before.before.before.before.before.before.q.given.1)) _ _ (no_comma 0x7d c.before.before.before.before.before.before.before.before.before.before.before.before.before.before.before.before.before.before.before.before.before.before.before.before.before.before.before.before.before.before.args.text.now _ _ _ _ _ s.0 s.1 _ c.misplaced.ensures c.before.before.if4.false c.before.if5.true)))
+    let l = c.before.before.before.before.before.before.before.before.before.before.before.before.before.before.before.before.before.before.before.before.before.before.before.before.before.before.loop.invariant 0 in let g = went c.before.before.before.before.before.before.before.before.before.before.before.before.before.before.before.before.before.before.before.before.before.before.before.before.before.next.ensures c.before.before.before.before.before.before.before.before.before.before.before.before.before.before.before.before.before.before.before.before.before.before.before.o.given.1 in let r = step_on spaces 0 spaces_fair (record { short = c.before.before.before.before.before.before.before.before.before.before.before.before.before.before.before.before.before.before.before.before.before.before.before.before.before.before.before.before.before.before.requires.1.1.short; inside = l.inside; few = l.few }) g.0 in let y = on key 1 key_fair r.0 (took (c.before.before.before.before.before.before.before.before.before.before.before.before.before.before.before.before.before.before.before.key-node.ensures 0) c.before.before.before.before.before.before.before.before.before.before.before.before.before.before.before.before.before.e.given.1) in let a = went c.before.before.before.before.before.before.before.before.before.before.before.before.before.before.before.around-colon.ensures c.before.before.before.before.before.before.before.before.before.before.before.before.before.c.given.1 in let d = step_on (seq spaces (seq colon spaces)) 1 around_fair y.0 a.0 in let v = on (value (c.before.before.before.before.before.before.before.before.before.before.before.before.before.before.before.before.before.before.before.before.before.before.before.before.before.before.before.before.before.before.args.left - 1)) 1 (value_fair _) d.0 (took (c.before.before.before.before.before.before.before.before.before.before.value-node.ensures 0) c.before.before.before.before.before.before.before.before.q.given.1) in let s = went c.before.before.before.before.before.before.mark.ensures c.before.before.before.before.z.given.1 in let f = step_on spaces 0 spaces_fair v.0 s.0 in loop_cut _ Pairs c.before.before.before.before.before.before.before.before.before.before.before.before.before.before.before.before.before.before.before.before.before.before.before.before.before.before.before.before.before.before.args.text.now (c.before.before.before.before.before.before.before.before.before.before.before.before.before.before.before.before.before.before.before.before.before.before.before.before.before.before.before.before.before.before.args.from - 1) _ _ c.before.before.before.before.before.before.before.before.before.before.before.before.before.before.before.before.before.before.before.before.before.before.before.before.before.before.before.before.if1.false c.before.before.before.before.before.before.before.before.before.before.before.before.before.before.before.before.before.before.before.before.before.before.before.before.before.before.before.if2.false c.before.before.before.before.before.before.before.before.before.before.before.before.before.before.before.before.before.before.before.before.before.before.before.before.before.before.before.before.before.before.requires.1.1 _ _ _ _ c.before.before.before.before.before.before.before.before.before.before.before.before.before.before.before.before.before.before.before.before.before.before.before.before.before.before.loop.invariant _ _ _ (λ m. round_refused 0x7d (member_of Pairs (value (c.before.before.before.before.before.before.before.before.before.before.before.before.before.before.before.before.before.before.before.before.before.before.before.before.before.before.before.before.before.before.args.left - 1))) c.before.before.before.before.before.before.before.before.before.before.before.before.before.before.before.before.before.before.before.before.before.before.before.before.before.before.before.before.before.before.args.text.now _ _ _ _ _ g.0 g.1 c.before.before.before.before.before.before.before.before.before.before.before.before.before.before.before.before.before.before.before.before.before.if3.false (member_none Pairs (c.before.before.before.before.before.before.before.before.before.before.before.before.before.before.before.before.before.before.before.before.before.before.before.before.before.before.before.before.before.before.args.left - 1) _ _) (seq_refused (member_of Pairs (value (c.before.before.before.before.before.before.before.before.before.before.before.before.before.before.before.before.before.before.before.before.before.before.before.before.before.before.before.before.before.before.args.left - 1))) (seq spaces (comma 0x7d)) c.before.before.before.before.before.before.before.before.before.before.before.before.before.before.before.before.before.before.before.before.before.before.before.before.before.before.before.before.before.before.args.text.now _ _ _ _ _ 0 _ _ (pair_took (value (c.before.before.before.before.before.before.before.before.before.before.before.before.before.before.before.before.before.before.before.before.before.before.before.before.before.before.before.before.before.before.args.left - 1)) c.before.before.before.before.before.before.before.before.before.before.before.before.before.before.before.before.before.before.before.before.before.before.before.before.before.before.before.before.before.before.args.text.now _ _ _ (took (c.before.before.before.before.before.before.before.before.before.before.before.before.before.before.before.before.before.before.before.key-node.ensures _) c.before.before.before.before.before.before.before.before.before.before.before.before.before.before.before.before.before.e.given.1) a.0 (λ m. took (c.before.before.before.before.before.before.before.before.before.before.value-node.ensures m) c.before.before.before.before.before.before.before.before.q.given.1)) _ _ (no_comma 0x7d c.before.before.before.before.before.before.before.before.before.before.before.before.before.before.before.before.before.before.before.before.before.before.before.before.before.before.before.before.before.before.args.text.now _ _ _ _ _ s.0 s.1 _ c.misplaced.ensures c.before.before.if4.false c.before.if5.true)))
 
 dict-node-add-p : (t : ℕ) → dict-node-lts.Need-overflow-add-p (next-reads.Asked, next-reads.Learnt, note-reads.Asked, note-reads.Learnt, key-node-reads.Asked, key-node-reads.Learnt, around-colon-reads.Asked, around-colon-reads.Learnt, value-node-below t, value-node.Post, mark-reads.Asked, mark-reads.Learnt, misplaced-reads.Asked, misplaced-reads.Learnt) (dict-node-at t) dict-node.Post dict-node-Inv-loop dict-node-μ-loop
 dict-node-add-p t c =
@@ -243,7 +243,7 @@ dict-node-loop-less t c =
 
 dict-node-loop-again : (t : ℕ) → dict-node-lts.Need-loop-preserved (next-reads.Asked, next-reads.Learnt, note-reads.Asked, note-reads.Learnt, key-node-reads.Asked, key-node-reads.Learnt, around-colon-reads.Asked, around-colon-reads.Learnt, value-node-below t, value-node.Post, mark-reads.Asked, mark-reads.Learnt, misplaced-reads.Asked, misplaced-reads.Learnt) (dict-node-at t) dict-node.Post dict-node-Inv-loop dict-node-μ-loop
 dict-node-loop-again t c =
-    let l = c.before.before.before.before.before.before.before.before.before.before.before.before.before.before.before.before.before.before.before.before.before.before.before.before.before.loop.invariant 0 in let g = went c.before.before.before.before.before.before.before.before.before.before.before.before.before.before.before.before.before.before.before.before.before.before.before.before.next.ensures c.before.before.before.before.before.before.before.before.before.before.before.before.before.before.before.before.before.before.before.before.before.before.o.given.1 in let r = step_on spaces 0 spaces_fair (record { short = c.before.before.before.before.before.before.before.before.before.before.before.before.before.before.before.before.before.before.before.before.before.before.before.before.before.before.before.before.before.requires.1.1.short; inside = l.inside; few = l.few }) g.0 in let y = on key 1 key_fair r.0 (took (c.before.before.before.before.before.before.before.before.before.before.before.before.before.before.before.before.before.before.key-node.ensures 0) c.before.before.before.before.before.before.before.before.before.before.before.before.before.before.before.before.e.given.1) in let a = went c.before.before.before.before.before.before.before.before.before.before.before.before.before.before.around-colon.ensures c.before.before.before.before.before.before.before.before.before.before.before.before.c.given.1 in let d = step_on (seq spaces (seq colon spaces)) 1 around_fair y.0 a.0 in let v = on (value (c.before.before.before.before.before.before.before.before.before.before.before.before.before.before.before.before.before.before.before.before.before.before.before.before.before.before.before.before.before.args.left - 1)) 1 (value_fair _) d.0 (took (c.before.before.before.before.before.before.before.before.before.value-node.ensures 0) c.before.before.before.before.before.before.before.q.given.1) in let s = went c.before.before.before.before.before.mark.ensures c.before.before.before.z.given.1 in let f = step_on spaces 0 spaces_fair v.0 s.0 in λ m. further Pairs (value (c.before.before.before.before.before.before.before.before.before.before.before.before.before.before.before.before.before.before.before.before.before.before.before.before.before.before.before.before.before.args.left - 1)) c.before.before.before.before.before.before.before.before.before.before.before.before.before.before.before.before.before.before.before.before.before.before.before.before.before.before.before.before.before.args.text.now (c.before.before.before.before.before.before.before.before.before.before.before.before.before.before.before.before.before.before.before.before.before.before.before.before.before.before.before.before.before.args.from - 1) _ m _ (c.before.before.before.before.before.before.before.before.before.before.before.before.before.before.before.before.before.before.before.before.before.before.before.before.before.loop.invariant m) (inner_fair Pairs (c.before.before.before.before.before.before.before.before.before.before.before.before.before.before.before.before.before.before.before.before.before.before.before.before.before.before.before.before.before.args.left - 1)) (round_member 0x7d (member_of Pairs (value (c.before.before.before.before.before.before.before.before.before.before.before.before.before.before.before.before.before.before.before.before.before.before.before.before.before.before.before.before.before.args.left - 1))) c.before.before.before.before.before.before.before.before.before.before.before.before.before.before.before.before.before.before.before.before.before.before.before.before.before.before.before.before.before.args.text.now _ _ _ _ _ g.0 g.1 c.before.before.before.before.before.before.before.before.before.before.before.before.before.before.before.before.before.before.before.before.if3.false (member_none Pairs (c.before.before.before.before.before.before.before.before.before.before.before.before.before.before.before.before.before.before.before.before.before.before.before.before.before.before.before.before.before.args.left - 1) _ _) (seq_took (member_of Pairs (value (c.before.before.before.before.before.before.before.before.before.before.before.before.before.before.before.before.before.before.before.before.before.before.before.before.before.before.before.before.before.args.left - 1))) (seq spaces (comma 0x7d)) c.before.before.before.before.before.before.before.before.before.before.before.before.before.before.before.before.before.before.before.before.before.before.before.before.before.before.before.before.before.args.text.now _ _ _ _ _ 0 _ _ (pair-took (value (c.before.before.before.before.before.before.before.before.before.before.before.before.before.before.before.before.before.before.before.before.before.before.before.before.before.before.before.before.before.args.left - 1)) c.before.before.before.before.before.before.before.before.before.before.before.before.before.before.before.before.before.before.before.before.before.before.before.before.before.before.before.before.before.args.text.now _ _ _ (took (c.before.before.before.before.before.before.before.before.before.before.before.before.before.before.before.before.before.before.key-node.ensures _) c.before.before.before.before.before.before.before.before.before.before.before.before.before.before.before.before.e.given.1) a.0 (λ m. took (c.before.before.before.before.before.before.before.before.before.value-node.ensures m) c.before.before.before.before.before.before.before.q.given.1)) _ _ 2 _ (goes_on 0x7d c.before.before.before.before.before.before.before.before.before.before.before.before.before.before.before.before.before.before.before.before.before.before.before.before.before.before.before.before.before.args.text.now _ _ _ _ _ s.0 s.1 c.before.if4.false c.if5.false)))
+    let l = c.before.before.before.before.before.before.before.before.before.before.before.before.before.before.before.before.before.before.before.before.before.before.before.before.before.loop.invariant 0 in let g = went c.before.before.before.before.before.before.before.before.before.before.before.before.before.before.before.before.before.before.before.before.before.before.before.before.next.ensures c.before.before.before.before.before.before.before.before.before.before.before.before.before.before.before.before.before.before.before.before.before.before.o.given.1 in let r = step_on spaces 0 spaces_fair (record { short = c.before.before.before.before.before.before.before.before.before.before.before.before.before.before.before.before.before.before.before.before.before.before.before.before.before.before.before.before.before.requires.1.1.short; inside = l.inside; few = l.few }) g.0 in let y = on key 1 key_fair r.0 (took (c.before.before.before.before.before.before.before.before.before.before.before.before.before.before.before.before.before.before.key-node.ensures 0) c.before.before.before.before.before.before.before.before.before.before.before.before.before.before.before.before.e.given.1) in let a = went c.before.before.before.before.before.before.before.before.before.before.before.before.before.before.around-colon.ensures c.before.before.before.before.before.before.before.before.before.before.before.before.c.given.1 in let d = step_on (seq spaces (seq colon spaces)) 1 around_fair y.0 a.0 in let v = on (value (c.before.before.before.before.before.before.before.before.before.before.before.before.before.before.before.before.before.before.before.before.before.before.before.before.before.before.before.before.before.args.left - 1)) 1 (value_fair _) d.0 (took (c.before.before.before.before.before.before.before.before.before.value-node.ensures 0) c.before.before.before.before.before.before.before.q.given.1) in let s = went c.before.before.before.before.before.mark.ensures c.before.before.before.z.given.1 in let f = step_on spaces 0 spaces_fair v.0 s.0 in λ m. further Pairs (value (c.before.before.before.before.before.before.before.before.before.before.before.before.before.before.before.before.before.before.before.before.before.before.before.before.before.before.before.before.before.args.left - 1)) c.before.before.before.before.before.before.before.before.before.before.before.before.before.before.before.before.before.before.before.before.before.before.before.before.before.before.before.before.before.args.text.now (c.before.before.before.before.before.before.before.before.before.before.before.before.before.before.before.before.before.before.before.before.before.before.before.before.before.before.before.before.before.args.from - 1) _ m _ (c.before.before.before.before.before.before.before.before.before.before.before.before.before.before.before.before.before.before.before.before.before.before.before.before.before.loop.invariant m) (inner_fair Pairs (c.before.before.before.before.before.before.before.before.before.before.before.before.before.before.before.before.before.before.before.before.before.before.before.before.before.before.before.before.before.args.left - 1)) (round_member 0x7d (member_of Pairs (value (c.before.before.before.before.before.before.before.before.before.before.before.before.before.before.before.before.before.before.before.before.before.before.before.before.before.before.before.before.before.args.left - 1))) c.before.before.before.before.before.before.before.before.before.before.before.before.before.before.before.before.before.before.before.before.before.before.before.before.before.before.before.before.before.args.text.now _ _ _ _ _ g.0 g.1 c.before.before.before.before.before.before.before.before.before.before.before.before.before.before.before.before.before.before.before.before.if3.false (member_none Pairs (c.before.before.before.before.before.before.before.before.before.before.before.before.before.before.before.before.before.before.before.before.before.before.before.before.before.before.before.before.before.args.left - 1) _ _) (seq_took (member_of Pairs (value (c.before.before.before.before.before.before.before.before.before.before.before.before.before.before.before.before.before.before.before.before.before.before.before.before.before.before.before.before.before.args.left - 1))) (seq spaces (comma 0x7d)) c.before.before.before.before.before.before.before.before.before.before.before.before.before.before.before.before.before.before.before.before.before.before.before.before.before.before.before.before.before.args.text.now _ _ _ _ _ 0 _ _ (pair_took (value (c.before.before.before.before.before.before.before.before.before.before.before.before.before.before.before.before.before.before.before.before.before.before.before.before.before.before.before.before.before.args.left - 1)) c.before.before.before.before.before.before.before.before.before.before.before.before.before.before.before.before.before.before.before.before.before.before.before.before.before.before.before.before.before.args.text.now _ _ _ (took (c.before.before.before.before.before.before.before.before.before.before.before.before.before.before.before.before.before.before.key-node.ensures _) c.before.before.before.before.before.before.before.before.before.before.before.before.before.before.before.before.e.given.1) a.0 (λ m. took (c.before.before.before.before.before.before.before.before.before.value-node.ensures m) c.before.before.before.before.before.before.before.q.given.1)) _ _ 2 _ (goes_on 0x7d c.before.before.before.before.before.before.before.before.before.before.before.before.before.before.before.before.before.before.before.before.before.before.before.before.before.before.before.before.before.args.text.now _ _ _ _ _ s.0 s.1 c.before.if4.false c.if5.false)))
 
 abbrev list-node-Inv-loop : list-node-lts.invariant-loop
 list-node-Inv-loop t text from left n notes₀ at p₀ i₀ count₀ notes p i count =

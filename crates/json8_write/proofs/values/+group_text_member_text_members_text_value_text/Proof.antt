@@ -39,7 +39,7 @@ use Rattle.json8_fit.specs.inner.Steps.{within}
 use Rattle.json8_write.specs.inner.Texts.{tree_text, body_text}
 use Rattle.rooms.proofs.Puts.{put_as}
 use Rattle.json8_fit.proofs.TableNodes.{count_there, value_room}
-use Rattle.json8_fit.proofs.Choices.{value-group, value-leaf}
+use Rattle.json8_fit.proofs.Choices.{value_group, value_leaf}
 use Rattle.json8_write.proofs.GroupTexts.{value_there, value_fit, member_put, Loop, begun, opens, counts, inner_fit, group_put, turn_bound, turn_label, turn_tree, further, ended}
 
 abbrev μ-group-text : Measures 5 group-text-kinds.ps ℕ
@@ -244,7 +244,7 @@ value-text-enum-known-sort t c =
 
 value-text-group-text-requires : (t : ℕ) → value-text-lts.Need-group-text-requires (shape-of-reads.Asked, shape-of-reads.Learnt, group-text-below t, group-text.Post, leaf-text-reads.Asked, leaf-text-reads.Learnt) (value-text-at t) value-text.Post
 value-text-group-text-requires t c κs =
-    (omega (arith, c.before.before.before.before.before.before.before.before.before.before.requires.0), (c.before.before.before.before.before.before.before.before.before.before.requires.1.0, (value_there c.before.before.before.before.before.before.before.before.before.before.args.table.now c.before.before.before.before.before.before.before.before.before.before.args.text.now c.before.before.before.before.before.before.before.before.before.before.args.store.now c.before.before.before.before.before.before.before.before.before.before.args.left c.before.before.before.before.before.before.before.before.before.before.args.i c.before.before.before.before.before.before.before.before.before.before.requires.1.2), omega (arith, c.before.before.before.before.before.before.before.before.before.before.requires.1.1, count_there c.before.before.before.before.before.before.before.before.before.before.args.i c.before.before.before.before.before.before.before.before.before.before.args.table.now (value_there c.before.before.before.before.before.before.before.before.before.before.args.table.now c.before.before.before.before.before.before.before.before.before.before.args.text.now c.before.before.before.before.before.before.before.before.before.before.args.store.now c.before.before.before.before.before.before.before.before.before.before.args.left c.before.before.before.before.before.before.before.before.before.before.args.i c.before.before.before.before.before.before.before.before.before.before.requires.1.2)), sym (ap (λ (x : Maybe Tree). is_fit x) (value-group c.before.before.before.before.before.before.before.before.before.before.args.table.now c.before.before.before.before.before.before.before.before.before.before.args.text.now c.before.before.before.before.before.before.before.before.before.before.args.store.now c.before.before.before.before.before.before.before.before.before.before.args.left c.before.before.before.before.before.before.before.before.before.before.args.i (value_there c.before.before.before.before.before.before.before.before.before.before.args.table.now c.before.before.before.before.before.before.before.before.before.before.args.text.now c.before.before.before.before.before.before.before.before.before.before.args.store.now c.before.before.before.before.before.before.before.before.before.before.args.left c.before.before.before.before.before.before.before.before.before.before.args.i c.before.before.before.before.before.before.before.before.before.before.requires.1.2) _ c.before.before.before.before.shape_of.ensures _ c.before.before.sort.given.1)) ∙ c.before.before.before.before.before.before.before.before.before.before.requires.1.2, c.before.before.before.before.before.before.before.before.before.before.requires.1.3))
+    (omega (arith, c.before.before.before.before.before.before.before.before.before.before.requires.0), (c.before.before.before.before.before.before.before.before.before.before.requires.1.0, (value_there c.before.before.before.before.before.before.before.before.before.before.args.table.now c.before.before.before.before.before.before.before.before.before.before.args.text.now c.before.before.before.before.before.before.before.before.before.before.args.store.now c.before.before.before.before.before.before.before.before.before.before.args.left c.before.before.before.before.before.before.before.before.before.before.args.i c.before.before.before.before.before.before.before.before.before.before.requires.1.2), omega (arith, c.before.before.before.before.before.before.before.before.before.before.requires.1.1, count_there c.before.before.before.before.before.before.before.before.before.before.args.i c.before.before.before.before.before.before.before.before.before.before.args.table.now (value_there c.before.before.before.before.before.before.before.before.before.before.args.table.now c.before.before.before.before.before.before.before.before.before.before.args.text.now c.before.before.before.before.before.before.before.before.before.before.args.store.now c.before.before.before.before.before.before.before.before.before.before.args.left c.before.before.before.before.before.before.before.before.before.before.args.i c.before.before.before.before.before.before.before.before.before.before.requires.1.2)), sym (ap (λ (x : Maybe Tree). is_fit x) (value_group c.before.before.before.before.before.before.before.before.before.before.args.table.now c.before.before.before.before.before.before.before.before.before.before.args.text.now c.before.before.before.before.before.before.before.before.before.before.args.store.now c.before.before.before.before.before.before.before.before.before.before.args.left c.before.before.before.before.before.before.before.before.before.before.args.i (value_there c.before.before.before.before.before.before.before.before.before.before.args.table.now c.before.before.before.before.before.before.before.before.before.before.args.text.now c.before.before.before.before.before.before.before.before.before.before.args.store.now c.before.before.before.before.before.before.before.before.before.before.args.left c.before.before.before.before.before.before.before.before.before.before.args.i c.before.before.before.before.before.before.before.before.before.before.requires.1.2) _ c.before.before.before.before.shape_of.ensures _ c.before.before.sort.given.1)) ∙ c.before.before.before.before.before.before.before.before.before.before.requires.1.2, c.before.before.before.before.before.before.before.before.before.before.requires.1.3))
 
 value-text-enum-told : (t : ℕ) → value-text-lts.Need-enum-told (shape-of-reads.Asked, shape-of-reads.Learnt, group-text-below t, group-text.Post, leaf-text-reads.Asked, leaf-text-reads.Learnt) (value-text-at t) value-text.Post
 value-text-enum-told t c =
@@ -252,7 +252,7 @@ value-text-enum-told t c =
 
 value-text-leaf-text-requires : (t : ℕ) → value-text-lts.Need-leaf-text-requires (shape-of-reads.Asked, shape-of-reads.Learnt, group-text-below t, group-text.Post, leaf-text-reads.Asked, leaf-text-reads.Learnt) (value-text-at t) value-text.Post
 value-text-leaf-text-requires t c κs =
-    (c.before.before.before.before.before.before.before.before.before.requires.1.0, (value_there c.before.before.before.before.before.before.before.before.before.args.table.now c.before.before.before.before.before.before.before.before.before.args.text.now c.before.before.before.before.before.before.before.before.before.args.store.now c.before.before.before.before.before.before.before.before.before.args.left c.before.before.before.before.before.before.before.before.before.args.i c.before.before.before.before.before.before.before.before.before.requires.1.2), sym (ap (λ (x : Maybe Tree). is_fit x) (value-leaf c.before.before.before.before.before.before.before.before.before.args.table.now c.before.before.before.before.before.before.before.before.before.args.text.now c.before.before.before.before.before.before.before.before.before.args.store.now c.before.before.before.before.before.before.before.before.before.args.left c.before.before.before.before.before.before.before.before.before.args.i (value_there c.before.before.before.before.before.before.before.before.before.args.table.now c.before.before.before.before.before.before.before.before.before.args.text.now c.before.before.before.before.before.before.before.before.before.args.store.now c.before.before.before.before.before.before.before.before.before.args.left c.before.before.before.before.before.before.before.before.before.args.i c.before.before.before.before.before.before.before.before.before.requires.1.2) _ c.before.before.before.shape_of.ensures c.before.enum_told.given.1)) ∙ c.before.before.before.before.before.before.before.before.before.requires.1.2, c.before.before.before.before.before.before.before.before.before.requires.1.3)
+    (c.before.before.before.before.before.before.before.before.before.requires.1.0, (value_there c.before.before.before.before.before.before.before.before.before.args.table.now c.before.before.before.before.before.before.before.before.before.args.text.now c.before.before.before.before.before.before.before.before.before.args.store.now c.before.before.before.before.before.before.before.before.before.args.left c.before.before.before.before.before.before.before.before.before.args.i c.before.before.before.before.before.before.before.before.before.requires.1.2), sym (ap (λ (x : Maybe Tree). is_fit x) (value_leaf c.before.before.before.before.before.before.before.before.before.args.table.now c.before.before.before.before.before.before.before.before.before.args.text.now c.before.before.before.before.before.before.before.before.before.args.store.now c.before.before.before.before.before.before.before.before.before.args.left c.before.before.before.before.before.before.before.before.before.args.i (value_there c.before.before.before.before.before.before.before.before.before.args.table.now c.before.before.before.before.before.before.before.before.before.args.text.now c.before.before.before.before.before.before.before.before.before.args.store.now c.before.before.before.before.before.before.before.before.before.args.left c.before.before.before.before.before.before.before.before.before.args.i c.before.before.before.before.before.before.before.before.before.requires.1.2) _ c.before.before.before.shape_of.ensures c.before.enum_told.given.1)) ∙ c.before.before.before.before.before.before.before.before.before.requires.1.2, c.before.before.before.before.before.before.before.before.before.requires.1.3)
 
 value-text-same-length : (t : ℕ) → value-text-lts.Need-same-length (shape-of-reads.Asked, shape-of-reads.Learnt, group-text-below t, group-text.Post, leaf-text-reads.Asked, leaf-text-reads.Learnt) (value-text-at t) value-text.Post
 value-text-same-length t c =
@@ -260,7 +260,7 @@ value-text-same-length t c =
 
 value-text-returns : (t : ℕ) → value-text-lts.Need-returns (shape-of-reads.Asked, shape-of-reads.Learnt, group-text-below t, group-text.Post, leaf-text-reads.Asked, leaf-text-reads.Learnt) (value-text-at t) value-text.Post
 value-text-returns t c =
-    put_as (ap tree_text (value-group c.before.before.before.before.before.before.before.before.before.before.before.before.before.args.table.now c.before.before.before.before.before.before.before.before.before.before.before.before.before.args.text.now c.before.before.before.before.before.before.before.before.before.before.before.before.before.args.store.now c.before.before.before.before.before.before.before.before.before.before.before.before.before.args.left c.before.before.before.before.before.before.before.before.before.before.before.before.before.args.i (value_there c.before.before.before.before.before.before.before.before.before.before.before.before.before.args.table.now c.before.before.before.before.before.before.before.before.before.before.before.before.before.args.text.now c.before.before.before.before.before.before.before.before.before.before.before.before.before.args.store.now c.before.before.before.before.before.before.before.before.before.before.before.before.before.args.left c.before.before.before.before.before.before.before.before.before.before.before.before.before.args.i c.before.before.before.before.before.before.before.before.before.before.before.before.before.requires.1.2) _ c.before.before.before.before.before.before.before.shape_of.ensures _ c.before.before.before.before.before.sort.given.1)) c.before.before.group-text.ensures
+    put_as (ap tree_text (value_group c.before.before.before.before.before.before.before.before.before.before.before.before.before.args.table.now c.before.before.before.before.before.before.before.before.before.before.before.before.before.args.text.now c.before.before.before.before.before.before.before.before.before.before.before.before.before.args.store.now c.before.before.before.before.before.before.before.before.before.before.before.before.before.args.left c.before.before.before.before.before.before.before.before.before.before.before.before.before.args.i (value_there c.before.before.before.before.before.before.before.before.before.before.before.before.before.args.table.now c.before.before.before.before.before.before.before.before.before.before.before.before.before.args.text.now c.before.before.before.before.before.before.before.before.before.before.before.before.before.args.store.now c.before.before.before.before.before.before.before.before.before.before.before.before.before.args.left c.before.before.before.before.before.before.before.before.before.before.before.before.before.args.i c.before.before.before.before.before.before.before.before.before.before.before.before.before.requires.1.2) _ c.before.before.before.before.before.before.before.shape_of.ensures _ c.before.before.before.before.before.sort.given.1)) c.before.before.group-text.ensures
 
 value-text-same-length-2 : (t : ℕ) → value-text-lts.Need-same-length-2 (shape-of-reads.Asked, shape-of-reads.Learnt, group-text-below t, group-text.Post, leaf-text-reads.Asked, leaf-text-reads.Learnt) (value-text-at t) value-text.Post
 value-text-same-length-2 t c =
@@ -268,7 +268,7 @@ value-text-same-length-2 t c =
 
 value-text-returns-2 : (t : ℕ) → value-text-lts.Need-returns-2 (shape-of-reads.Asked, shape-of-reads.Learnt, group-text-below t, group-text.Post, leaf-text-reads.Asked, leaf-text-reads.Learnt) (value-text-at t) value-text.Post
 value-text-returns-2 t c =
-    put_as (ap tree_text (value-leaf c.before.before.before.before.before.before.before.before.before.before.before.before.args.table.now c.before.before.before.before.before.before.before.before.before.before.before.before.args.text.now c.before.before.before.before.before.before.before.before.before.before.before.before.args.store.now c.before.before.before.before.before.before.before.before.before.before.before.before.args.left c.before.before.before.before.before.before.before.before.before.before.before.before.args.i (value_there c.before.before.before.before.before.before.before.before.before.before.before.before.args.table.now c.before.before.before.before.before.before.before.before.before.before.before.before.args.text.now c.before.before.before.before.before.before.before.before.before.before.before.before.args.store.now c.before.before.before.before.before.before.before.before.before.before.before.before.args.left c.before.before.before.before.before.before.before.before.before.before.before.before.args.i c.before.before.before.before.before.before.before.before.before.before.before.before.requires.1.2) _ c.before.before.before.before.before.before.shape_of.ensures c.before.before.before.before.enum_told.given.1)) c.before.before.leaf-text.ensures
+    put_as (ap tree_text (value_leaf c.before.before.before.before.before.before.before.before.before.before.before.before.args.table.now c.before.before.before.before.before.before.before.before.before.before.before.before.args.text.now c.before.before.before.before.before.before.before.before.before.before.before.before.args.store.now c.before.before.before.before.before.before.before.before.before.before.before.before.args.left c.before.before.before.before.before.before.before.before.before.before.before.before.args.i (value_there c.before.before.before.before.before.before.before.before.before.before.before.before.args.table.now c.before.before.before.before.before.before.before.before.before.before.before.before.args.text.now c.before.before.before.before.before.before.before.before.before.before.before.before.args.store.now c.before.before.before.before.before.before.before.before.before.before.before.before.args.left c.before.before.before.before.before.before.before.before.before.before.before.before.args.i c.before.before.before.before.before.before.before.before.before.before.before.before.requires.1.2) _ c.before.before.before.before.before.before.shape_of.ensures c.before.before.before.before.enum_told.given.1)) c.before.before.leaf-text.ensures
 
 pub +group-text-member-text-members-text-value-text-spec : {M : Type 1} → statement M
 +group-text-member-text-members-text-value-text-spec =

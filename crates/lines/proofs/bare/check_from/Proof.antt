@@ -6,7 +6,7 @@ use Rattle.lines.proofs.bare.check_from.Tie as tie
 use native.Mathlib.Omega.{arith}
 use Prim.Native.Nat.{◌+◌, ◌-◌}
 use lib.ListN.{length}
-use Rattle.lines.proofs.BareTexts.{Passing, begun, plain_on, tab-on, control-stop, good-on, further, bad-stop, ended}
+use Rattle.lines.proofs.BareTexts.{Passing, begun, plain_on, tab_on, control_stop, good_on, further, bad_stop, ended}
 
 abbrev invariant-loop : tie.invariant-loop
 invariant-loop t s from at₀ at =
@@ -50,11 +50,11 @@ loop-less-2 c =
 
 loop-again-2 : tie.Need-loop-preserved-2 invariant-loop decreases-loop
 loop-again-2 c =
-    search tab-on
+    search tab_on
 
 returns : tie.Need-returns invariant-loop decreases-loop
 returns c =
-    search control-stop
+    search control_stop
 
 long-or-fault-requires : tie.Need-long-or-fault-requires invariant-loop decreases-loop
 long-or-fault-requires c κs =
@@ -65,19 +65,19 @@ cast-at c = search rules
 
 add-at-3 : tie.Need-overflow-add-at-3 invariant-loop decreases-loop
 add-at-3 c =
-    let g = good-on _ _ _ c.before.before.before.before.before.before.loop.invariant (omega arith) _ c.before.before.before.class-in.ensures _ c.before.long-or-fault.ensures (omega arith) (omega arith) in record { fits = omega (arith, g.inside) }
+    let g = good_on _ _ _ c.before.before.before.before.before.before.loop.invariant (omega arith) _ c.before.before.before.class-in.ensures _ c.before.long-or-fault.ensures (omega arith) (omega arith) in record { fits = omega (arith, g.inside) }
 
 loop-less-3 : tie.Need-loop-smaller-3 invariant-loop decreases-loop
 loop-less-3 c =
-    let g = good-on _ _ _ c.before.before.before.before.before.before.loop.invariant (omega arith) _ c.before.before.before.class-in.ensures _ c.before.long-or-fault.ensures (omega arith) (omega arith) in omega (arith, g.inside, further _ _ _ c.before.before.before.before.before.before.loop.invariant (omega arith) _ c.before.before.before.class-in.ensures _ c.before.long-or-fault.ensures (omega arith) (omega arith))
+    let g = good_on _ _ _ c.before.before.before.before.before.before.loop.invariant (omega arith) _ c.before.before.before.class-in.ensures _ c.before.long-or-fault.ensures (omega arith) (omega arith) in omega (arith, g.inside, further _ _ _ c.before.before.before.before.before.before.loop.invariant (omega arith) _ c.before.before.before.class-in.ensures _ c.before.long-or-fault.ensures (omega arith) (omega arith))
 
 loop-again-3 : tie.Need-loop-preserved-3 invariant-loop decreases-loop
 loop-again-3 c =
-    search good-on
+    search good_on
 
 returns-2 : tie.Need-returns-2 invariant-loop decreases-loop
 returns-2 c =
-    search bad-stop
+    search bad_stop
 
 returns-3 : tie.Need-returns-3 invariant-loop decreases-loop
 returns-3 c =

@@ -3,7 +3,7 @@
 use borrow.Author.Rules.{rules}
 use Rattle.notation.proofs.marks.mark_at.Statement.{statement}
 use Rattle.notation.proofs.marks.mark_at.Tie as tie
-use Rattle.notation.proofs.MarkLaws.{json_mark, bare_mark, no_quote, unicode-mark, bytes-mark, other-mark}
+use Rattle.notation.proofs.MarkLaws.{json_mark, bare_mark, no_quote, unicode_mark, bytes_mark, other_mark}
 
 byte-at-requires : tie.Need-byte-at-requires
 byte-at-requires c κs = search rules
@@ -25,15 +25,15 @@ returns-3 c =
 
 returns-4 : tie.Need-returns-4
 returns-4 c =
-    search unicode-mark
+    search unicode_mark
 
 returns-5 : tie.Need-returns-5
 returns-5 c =
-    search bytes-mark
+    search bytes_mark
 
 returns-6 : tie.Need-returns-6
 returns-6 c =
-    search other-mark
+    search other_mark
 
 pub mark-at-spec : {M : Type 1} → statement M
 mark-at-spec =

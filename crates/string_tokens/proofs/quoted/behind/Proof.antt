@@ -10,7 +10,7 @@ use Rattle.runs.proofs.literals.inner_run.Reads as inner-run-reads
 use Rattle.string_tokens.proofs.quoted.counted.Reads as counted-reads
 use Rattle.notation.proofs.styles.quote_of.Reads as quote-of-reads
 use mathlib.Core.Path.{sym, ◌∙◌}
-use Rattle.string_tokens.proofs.Quoting.{mark_fits, plain_judged, slashed-judged, faulty-judged}
+use Rattle.string_tokens.proofs.Quoting.{mark_fits, plain_judged, slashed_judged, faulty_judged}
 
 inner-run-requires : tie.Need-inner-run-requires
 inner-run-requires c κs =
@@ -38,11 +38,11 @@ enum-known-token-2 c = search rules
 
 returns-2 : tie.Need-returns-2
 returns-2 c =
-    slashed-judged _ _ _ c.before.before.before.before.before.before.before.before.before.requires.1 _ c.before.before.before.before.before.before.before.inner-run.ensures _ c.before.before.before.counted.ensures _ _ (λ z. c.before.before.before.before.if1.false (c.before.before.before.before.before.before.byte_at.ensures ∙ z ∙ sym c.before.before.before.before.before.quote-of.ensures)) c.before.token.given.1
+    slashed_judged _ _ _ c.before.before.before.before.before.before.before.before.before.requires.1 _ c.before.before.before.before.before.before.before.inner-run.ensures _ c.before.before.before.counted.ensures _ _ (λ z. c.before.before.before.before.if1.false (c.before.before.before.before.before.before.byte_at.ensures ∙ z ∙ sym c.before.before.before.before.before.quote-of.ensures)) c.before.token.given.1
 
 returns-3 : tie.Need-returns-3
 returns-3 c =
-    faulty-judged _ _ _ c.before.before.before.before.before.before.before.before.before.requires.1 _ c.before.before.before.before.before.before.before.inner-run.ensures _ c.before.before.before.counted.ensures _ _ c.before.token2.given.1
+    faulty_judged _ _ _ c.before.before.before.before.before.before.before.before.before.requires.1 _ c.before.before.before.before.before.before.before.inner-run.ensures _ c.before.before.before.counted.ensures _ _ c.before.token2.given.1
 
 pub behind-spec : {M : Type 1} → statement M
 behind-spec =

@@ -7,7 +7,7 @@ use native.Mathlib.Omega.{arith}
 use mathlib.Core.Path.{ap, ◌∙◌}
 use Prim.Native.Nat.{◌-◌, ◌≤◌}
 use lib.ListN.{length, length-set}
-use Rattle.strings_write.proofs.Writing.{Writing, mark_stuck, begun, escape_moved, escape_stuck, run_inside, run_moved, run-stuck, kept, last}
+use Rattle.strings_write.proofs.Writing.{Writing, mark_stuck, begun, escape_moved, escape_stuck, run_inside, run_moved, run_stuck, kept, last}
 
 abbrev invariant-loop : tie.invariant-loop
 invariant-loop t form s room out₀ style first cap o₀ at₀ out o at =
@@ -103,7 +103,7 @@ same-length-3 c =
 
 returns-3 : tie.Need-returns-3 invariant-loop decreases-loop
 returns-3 c =
-    run-stuck c.before.before.before.before.before.before.before.before.loop.invariant c.before.before.before.before.before.before.before.before.before.before.before.before.before.before.style-of.ensures _ c.before.before.before.before.before.before.before.loop-test.true c.before.before.before.before.before.before.short-run.ensures c.before.before.before.copy_run.ensures c.before.before.before.before.before.before.before.before.before.before.before.before.before.before.before.before.before.args.out.now c.before.before.before.before.before.before.before.before.before.before.before.before.put-mark.ensures.1 c.before.before.before.before.before.before.before.before.before.before.before.before.before.before.before.before.before.requires.1 c.if4.true
+    run_stuck c.before.before.before.before.before.before.before.before.loop.invariant c.before.before.before.before.before.before.before.before.before.before.before.before.before.before.style-of.ensures _ c.before.before.before.before.before.before.before.loop-test.true c.before.before.before.before.before.before.short-run.ensures c.before.before.before.copy_run.ensures c.before.before.before.before.before.before.before.before.before.before.before.before.before.before.before.before.before.args.out.now c.before.before.before.before.before.before.before.before.before.before.before.before.put-mark.ensures.1 c.before.before.before.before.before.before.before.before.before.before.before.before.before.before.before.before.before.requires.1 c.if4.true
 
 add-o-2 : tie.Need-overflow-add-o-2 invariant-loop decreases-loop
 add-o-2 c =

@@ -7,7 +7,7 @@ use Prim.Native.Nat.{◌-◌}
 use native.Mathlib.Omega.{arith}
 use borrow.Author.Rules.{rules}
 use lib.ListN.{length}
-use Rattle.tokens.proofs.Skipping.{Skipping, begun, ended, comment-end, comment-char, comment-plain, comment-ill, comment_further, space-on, mark_on, token_here}
+use Rattle.tokens.proofs.Skipping.{Skipping, begun, ended, comment_end, comment_char, comment_plain, comment_ill, comment_further, space_on, mark_on, token_here}
 
 abbrev invariant-loop : tie.invariant-loop
 invariant-loop t s from at₀ inside₀ at inside =
@@ -35,7 +35,7 @@ loop-less c =
 
 loop-again : tie.Need-loop-preserved invariant-loop decreases-loop
 loop-again c =
-    comment-end _ _ _ _ c.before.before.before.before.loop.invariant (omega arith) c.before.if1.true c.if2.true
+    comment_end _ _ _ _ c.before.before.before.before.loop.invariant (omega arith) c.before.if1.true c.if2.true
 
 class-in-requires : tie.Need-class-in-requires invariant-loop decreases-loop
 class-in-requires c κs =
@@ -51,7 +51,7 @@ loop-less-2 c =
 
 loop-again-2 : tie.Need-loop-preserved-2 invariant-loop decreases-loop
 loop-again-2 c =
-    comment-plain _ _ _ _ c.before.before.before.before.before.before.loop.invariant (omega arith) c.before.before.before.if1.true c.before.before.if2.false _ c.before.class-in.ensures c.if3.true
+    comment_plain _ _ _ _ c.before.before.before.before.before.before.loop.invariant (omega arith) c.before.before.before.if1.true c.before.before.if2.false _ c.before.class-in.ensures c.if3.true
 
 char-at-requires : tie.Need-char-at-requires invariant-loop decreases-loop
 char-at-requires c κs =
@@ -63,7 +63,7 @@ enum-known-c c =
 
 add-at-3 : tie.Need-overflow-add-at-3 invariant-loop decreases-loop
 add-at-3 c =
-    let g = comment-char _ _ _ _ c.before.before.before.before.before.before.before.before.before.before.loop.invariant (omega arith) c.before.before.before.before.before.before.before.if1.true c.before.before.before.before.before.before.if2.false _ (sym c.before.before.before.char-at.ensures ∙ c.before.c.given.1) in record { fits = omega (arith, g.inside) }
+    let g = comment_char _ _ _ _ c.before.before.before.before.before.before.before.before.before.before.loop.invariant (omega arith) c.before.before.before.before.before.before.before.if1.true c.before.before.before.before.before.before.if2.false _ (sym c.before.before.before.char-at.ensures ∙ c.before.c.given.1) in record { fits = omega (arith, g.inside) }
 
 enum-known-c-2 : tie.Need-enum-known-c-2 invariant-loop decreases-loop
 enum-known-c-2 c =
@@ -75,15 +75,15 @@ sub-t16 c =
 
 returns : tie.Need-returns invariant-loop decreases-loop
 returns c =
-    comment-ill _ _ _ _ c.before.before.before.before.before.before.before.before.before.before.loop.invariant (omega arith) c.before.before.before.before.before.before.before.if1.true c.before.before.before.before.before.before.if2.false _ (sym c.before.before.before.char-at.ensures ∙ c.before.c2.given.1)
+    comment_ill _ _ _ _ c.before.before.before.before.before.before.before.before.before.before.loop.invariant (omega arith) c.before.before.before.before.before.before.before.if1.true c.before.before.before.before.before.before.if2.false _ (sym c.before.before.before.char-at.ensures ∙ c.before.c2.given.1)
 
 loop-less-3 : tie.Need-loop-smaller-3 invariant-loop decreases-loop
 loop-less-3 c =
-    let g = comment-char _ _ _ _ c.before.before.before.before.before.before.before.before.before.before.loop.invariant (omega arith) c.before.before.before.before.before.before.before.if1.true c.before.before.before.before.before.before.if2.false _ (sym c.before.before.before.char-at.ensures ∙ c.before.c.given.1) in omega (arith, g.inside, comment_further c.before.before.before.before.before.before.before.before.before.before.before.before.args.s.now c.before.before.before.before.before.before.before.before.before.before.loop.at _ (sym c.before.before.before.char-at.ensures ∙ c.before.c.given.1))
+    let g = comment_char _ _ _ _ c.before.before.before.before.before.before.before.before.before.before.loop.invariant (omega arith) c.before.before.before.before.before.before.before.if1.true c.before.before.before.before.before.before.if2.false _ (sym c.before.before.before.char-at.ensures ∙ c.before.c.given.1) in omega (arith, g.inside, comment_further c.before.before.before.before.before.before.before.before.before.before.before.before.args.s.now c.before.before.before.before.before.before.before.before.before.before.loop.at _ (sym c.before.before.before.char-at.ensures ∙ c.before.c.given.1))
 
 loop-again-3 : tie.Need-loop-preserved-3 invariant-loop decreases-loop
 loop-again-3 c =
-    comment-char _ _ _ _ c.before.before.before.before.before.before.before.before.before.before.loop.invariant (omega arith) c.before.before.before.before.before.before.before.if1.true c.before.before.before.before.before.before.if2.false _ (sym c.before.before.before.char-at.ensures ∙ c.before.c.given.1)
+    comment_char _ _ _ _ c.before.before.before.before.before.before.before.before.before.before.loop.invariant (omega arith) c.before.before.before.before.before.before.before.if1.true c.before.before.before.before.before.before.if2.false _ (sym c.before.before.before.char-at.ensures ∙ c.before.c.given.1)
 
 is-space-requires : tie.Need-is-space-requires invariant-loop decreases-loop
 is-space-requires c κs =
@@ -99,7 +99,7 @@ loop-less-4 c =
 
 loop-again-4 : tie.Need-loop-preserved-4 invariant-loop decreases-loop
 loop-again-4 c =
-    space-on _ _ _ _ c.before.before.before.before.before.loop.invariant (omega arith) c.before.before.if1.false (sym c.before.is-space.ensures ∙ c.if4.true)
+    space_on _ _ _ _ c.before.before.before.before.before.loop.invariant (omega arith) c.before.before.if1.false (sym c.before.is-space.ensures ∙ c.if4.true)
 
 sub-t18 : tie.Need-overflow-sub-t18 invariant-loop decreases-loop
 sub-t18 c =

@@ -3,7 +3,7 @@
 use borrow.Author.Rules.{rules}
 use Rattle.tokens.proofs.words.value_of.Statement.{statement}
 use Rattle.tokens.proofs.words.value_of.Tie as tie
-use Rattle.tokens.proofs.Spelling.{is_null, is_false, is_true, is-other}
+use Rattle.tokens.proofs.Spelling.{is_null, is_false, is_true, is_other_lem}
 
 slice-aggregate-same : tie.Need-slice-aggregate-same
 slice-aggregate-same c = search rules
@@ -37,7 +37,7 @@ returns-3 c =
 
 returns-4 : tie.Need-returns-4
 returns-4 c =
-    is-other _ _ c.before.before.before.before.before.before.before.same.ensures _ c.before.before.before.before.same2.ensures c.before.before.before.before.before.before.if1.false _ c.before.same3.ensures c.before.before.before.if2.false c.if3.false
+    is_other_lem _ _ c.before.before.before.before.before.before.before.same.ensures _ c.before.before.before.before.same2.ensures c.before.before.before.before.before.before.if1.false _ c.before.same3.ensures c.before.before.before.if2.false c.if3.false
 
 pub value-of-spec : {M : Type 1} → statement M
 value-of-spec =

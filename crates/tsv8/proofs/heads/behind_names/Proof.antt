@@ -4,7 +4,7 @@ use borrow.Author.Rules.{rules}
 use Rattle.tsv8.proofs.heads.behind_names.Statement.{statement}
 use Rattle.tsv8.proofs.heads.behind_names.Tie as tie
 use native.Mathlib.Omega.{arith}
-use Rattle.tsv8.proofs.HeadTexts.{types_stop, rest_in, lines-stop, lines-all}
+use Rattle.tsv8.proofs.HeadTexts.{types_stop, rest_in, lines_stop, lines_all}
 
 line-from-requires : tie.Need-line-from-requires
 line-from-requires c κs = search rules
@@ -34,11 +34,11 @@ returns c =
 
 returns-2 : tie.Need-returns-2
 returns-2 c =
-    lines-stop _ _ _ _ _ c.before.before.before.before.before.before.before.before.before.before.line-from.ensures _ _ c.before.before.before.before.before.before.before.before.types-at.ensures _ c.before.before.before.before.before.before.typing2.given.1 _ c.before.before.before.judge-lines.ensures _ _ _ c.before.counted.given.1
+    lines_stop _ _ _ _ _ c.before.before.before.before.before.before.before.before.before.before.line-from.ensures _ _ c.before.before.before.before.before.before.before.before.types-at.ensures _ c.before.before.before.before.before.before.typing2.given.1 _ c.before.before.before.judge-lines.ensures _ _ _ c.before.counted.given.1
 
 returns-3 : tie.Need-returns-3
 returns-3 c =
-    lines-all _ _ _ _ _ c.before.before.before.before.before.before.before.before.before.before.line-from.ensures _ _ c.before.before.before.before.before.before.before.before.types-at.ensures _ c.before.before.before.before.before.before.typing2.given.1 _ c.before.before.before.judge-lines.ensures _ _ _ c.before.counted2.given.1 c.before.before.before.before.before.before.before.before.before.before.before.before.requires.5
+    lines_all _ _ _ _ _ c.before.before.before.before.before.before.before.before.before.before.line-from.ensures _ _ c.before.before.before.before.before.before.before.before.types-at.ensures _ c.before.before.before.before.before.before.typing2.given.1 _ c.before.before.before.judge-lines.ensures _ _ _ c.before.counted2.given.1 c.before.before.before.before.before.before.before.before.before.before.before.before.requires.5
 
 pub behind-names-spec : {M : Type 1} → statement M
 behind-names-spec =

@@ -5,7 +5,7 @@ use Rattle.tsv8.proofs.heads.judge.Tie as tie
 use native.Mathlib.Omega.{arith}
 use borrow.Author.Rules.{rules}
 use Rattle.tsv8_cells.proofs.Places.{cell_ended}
-use Rattle.tsv8.proofs.HeadTexts.{no_first_line, no_head, columns-in, names-stop, names_in, head-told}
+use Rattle.tsv8.proofs.HeadTexts.{no_first_line, no_head, columns_in, names_stop, names_in, head_told}
 
 line-from-requires : tie.Need-line-from-requires
 line-from-requires c κs =
@@ -29,7 +29,7 @@ returns-2 c =
 
 judge-row-requires : tie.Need-judge-row-requires
 judge-row-requires c κs =
-    let i = cell_ended c.before.before.before.before.before.before.before.args.text.now _ _ (omega (arith, c.before.before.before.before.if1.false)) c.before.before.before.end-from.ensures in let j = columns-in _ _ c.before.before.before.before.before.line-from.ensures c.before.before.before.before.if1.false _ c.before.before.before.end-from.ensures _ c.before.before.columns.ensures c.before.if2.false in (c.before.before.before.before.before.before.before.requires.0, c.before.before.before.before.before.before.before.requires.1, i.0, j.1, omega arith, i.1, (c.before.before.before.before.before.before.before.requires.2 _ j.1).0)
+    let i = cell_ended c.before.before.before.before.before.before.before.args.text.now _ _ (omega (arith, c.before.before.before.before.if1.false)) c.before.before.before.end-from.ensures in let j = columns_in _ _ c.before.before.before.before.before.line-from.ensures c.before.before.before.before.if1.false _ c.before.before.before.end-from.ensures _ c.before.before.columns.ensures c.before.if2.false in (c.before.before.before.before.before.before.before.requires.0, c.before.before.before.before.before.before.before.requires.1, i.0, j.1, omega arith, i.1, (c.before.before.before.before.before.before.before.requires.2 _ j.1).0)
 
 enum-known-row : tie.Need-enum-known-row
 enum-known-row c =
@@ -45,15 +45,15 @@ add-behind-names c =
 
 behind-names-requires : tie.Need-behind-names-requires
 behind-names-requires c κs =
-    let j = columns-in _ _ c.before.before.before.before.before.before.before.before.before.before.line-from.ensures c.before.before.before.before.before.before.before.before.before.if1.false _ c.before.before.before.before.before.before.before.before.end-from.ensures _ c.before.before.before.before.before.before.before.columns.ensures c.before.before.before.before.before.before.if2.false in let i = names_in _ _ c.before.before.before.before.before.before.before.before.before.before.line-from.ensures c.before.before.before.before.before.before.before.before.before.if1.false _ c.before.before.before.before.before.before.before.before.end-from.ensures _ c.before.before.before.before.before.before.before.columns.ensures c.before.before.before.before.before.before.if2.false _ c.before.before.before.before.before.before.before.before.before.before.before.before.requires.2 _ c.before.before.before.before.judge-row.ensures _ _ c.before.before.row2.given.1 in (c.before.before.before.before.before.before.before.before.before.before.before.before.requires.0, c.before.before.before.before.before.before.before.before.before.before.before.before.requires.1, omega (arith, i.0), j.0, j.1, omega (arith, i.1.0), (c.before.before.before.before.before.before.before.before.before.before.before.before.requires.2 _ j.1).0, (c.before.before.before.before.before.before.before.before.before.before.before.before.requires.2 _ j.1).1)
+    let j = columns_in _ _ c.before.before.before.before.before.before.before.before.before.before.line-from.ensures c.before.before.before.before.before.before.before.before.before.if1.false _ c.before.before.before.before.before.before.before.before.end-from.ensures _ c.before.before.before.before.before.before.before.columns.ensures c.before.before.before.before.before.before.if2.false in let i = names_in _ _ c.before.before.before.before.before.before.before.before.before.before.line-from.ensures c.before.before.before.before.before.before.before.before.before.if1.false _ c.before.before.before.before.before.before.before.before.end-from.ensures _ c.before.before.before.before.before.before.before.columns.ensures c.before.before.before.before.before.before.if2.false _ c.before.before.before.before.before.before.before.before.before.before.before.before.requires.2 _ c.before.before.before.before.judge-row.ensures _ _ c.before.before.row2.given.1 in (c.before.before.before.before.before.before.before.before.before.before.before.before.requires.0, c.before.before.before.before.before.before.before.before.before.before.before.before.requires.1, omega (arith, i.0), j.0, j.1, omega (arith, i.1.0), (c.before.before.before.before.before.before.before.before.before.before.before.before.requires.2 _ j.1).0, (c.before.before.before.before.before.before.before.before.before.before.before.before.requires.2 _ j.1).1)
 
 returns-3 : tie.Need-returns-3
 returns-3 c =
-    names-stop _ _ c.before.before.before.before.before.before.before.before.before.line-from.ensures c.before.before.before.before.before.before.before.before.if1.false _ c.before.before.before.before.before.before.before.end-from.ensures _ c.before.before.before.before.before.before.columns.ensures c.before.before.before.before.before.if2.false _ c.before.before.before.before.before.before.before.before.before.before.before.requires.2 _ c.before.before.before.judge-row.ensures _ _ c.before.row.given.1 _
+    names_stop _ _ c.before.before.before.before.before.before.before.before.before.line-from.ensures c.before.before.before.before.before.before.before.before.if1.false _ c.before.before.before.before.before.before.before.end-from.ensures _ c.before.before.before.before.before.before.columns.ensures c.before.before.before.before.before.if2.false _ c.before.before.before.before.before.before.before.before.before.before.before.requires.2 _ c.before.before.before.judge-row.ensures _ _ c.before.row.given.1 _
 
 returns-4 : tie.Need-returns-4
 returns-4 c =
-    head-told _ _ c.before.before.before.before.before.before.before.before.before.before.before.line-from.ensures c.before.before.before.before.before.before.before.before.before.before.if1.false _ c.before.before.before.before.before.before.before.before.before.end-from.ensures _ c.before.before.before.before.before.before.before.before.columns.ensures c.before.before.before.before.before.before.before.if2.false _ c.before.before.before.before.before.before.before.before.before.before.before.before.before.requires.2 _ c.before.before.before.before.before.judge-row.ensures _ _ c.before.before.before.row2.given.1 _ _ c.behind-names.ensures
+    head_told _ _ c.before.before.before.before.before.before.before.before.before.before.before.line-from.ensures c.before.before.before.before.before.before.before.before.before.before.if1.false _ c.before.before.before.before.before.before.before.before.before.end-from.ensures _ c.before.before.before.before.before.before.before.before.columns.ensures c.before.before.before.before.before.before.before.if2.false _ c.before.before.before.before.before.before.before.before.before.before.before.before.before.requires.2 _ c.before.before.before.before.before.judge-row.ensures _ _ c.before.before.before.row2.given.1 _ _ c.behind-names.ensures
 
 pub judge-spec : {M : Type 1} → statement M
 judge-spec =

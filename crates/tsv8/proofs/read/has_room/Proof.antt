@@ -2,7 +2,7 @@
 -- Assumes nothing.
 use Rattle.tsv8.proofs.read.has_room.Statement.{statement}
 use Rattle.tsv8.proofs.read.has_room.Tie as tie
-use Rattle.tsv8.proofs.Whole.{no_names, no_types, no_cells, by-store}
+use Rattle.tsv8.proofs.Whole.{no_names, no_types, no_cells, by_store}
 
 returns : tie.Need-returns
 returns c =
@@ -18,7 +18,7 @@ returns-3 c =
 
 returns-4 : tie.Need-returns-4
 returns-4 c =
-    by-store _ _ _ _ _ _ _ c.before.before.if1.false c.before.if2.false c.if3.false
+    by_store _ _ _ _ _ _ _ c.before.before.if1.false c.before.if2.false c.if3.false
 
 pub has-room-spec : {M : Type 1} → statement M
 has-room-spec = tie.close (tie.spec returns returns-2 returns-3 returns-4)

@@ -6,7 +6,7 @@ use Rattle.tsv8.proofs.rows.judge_line.Tie as tie
 use native.Mathlib.Omega.{arith}
 use Rattle.tsv8.proofs.RowTexts.{types_long}
 use Rattle.tsv8_cells.proofs.Places.{tab_starts}
-use Rattle.tsv8.proofs.LineTexts.{row_line, row-stop}
+use Rattle.tsv8.proofs.LineTexts.{row_line, row_stop}
 
 shared-slice-read-x : tie.Need-shared-slice-read-x
 shared-slice-read-x c = search rules
@@ -27,7 +27,7 @@ enum-known-row-2 c = search rules
 
 returns-2 : tie.Need-returns-2
 returns-2 c =
-    row-stop _ _ c.before.before.before.before.before.before.before.requires.2 _ _ _ c.before.before.before.before.if1.true _ _ c.before.before.before.judge-row.ensures _ _ c.before.row2.given.1
+    row_stop _ _ c.before.before.before.before.before.before.before.requires.2 _ _ _ c.before.before.before.before.if1.true _ _ c.before.before.before.judge-row.ensures _ _ c.before.row2.given.1
 
 note-requires : tie.Need-note-requires
 note-requires c κs = search rules

@@ -7,7 +7,7 @@ use native.Mathlib.Omega.{arith}
 use borrow.Author.Rules.{rules}
 use lib.ListN.{length, take}
 use Rattle.tsv8_cells.specs.inner.Typed.{types_of}
-use Rattle.tsv8.proofs.LineTexts.{Passing, passing_none, passing_end, passing_stop, passing-skip, skip-in, read-in, passing-read}
+use Rattle.tsv8.proofs.LineTexts.{Passing, passing_none, passing_end, passing_stop, passing_skip, skip_in, read_in, passing_read}
 
 abbrev invariant-loop : tie.invariant-loop
 invariant-loop t text from n types m at₀ count₀ j₀ at count j =
@@ -31,15 +31,15 @@ enum-known-line c =
 
 add_at : tie.Need-overflow-add-at invariant-loop decreases-loop
 add_at c =
-    omega (arith, (skip-in _ _ _ _ _ _ _ _ c.before.before.before.before.before.loop.invariant c.before.before.before.before.loop-test.true _ c.before.before.before.judge-line.ensures _ c.before.line.given.1).1, c.before.before.before.before.before.before.before.requires.1)
+    omega (arith, (skip_in _ _ _ _ _ _ _ _ c.before.before.before.before.before.loop.invariant c.before.before.before.before.loop-test.true _ c.before.before.before.judge-line.ensures _ c.before.line.given.1).1, c.before.before.before.before.before.before.before.requires.1)
 
 loop-less : tie.Need-loop-smaller invariant-loop decreases-loop
 loop-less c =
-    omega (arith, (skip-in _ _ _ _ _ _ _ _ c.before.before.before.before.before.loop.invariant c.before.before.before.before.loop-test.true _ c.before.before.before.judge-line.ensures _ c.before.line.given.1).0)
+    omega (arith, (skip_in _ _ _ _ _ _ _ _ c.before.before.before.before.before.loop.invariant c.before.before.before.before.loop-test.true _ c.before.before.before.judge-line.ensures _ c.before.line.given.1).0)
 
 loop-again : tie.Need-loop-preserved invariant-loop decreases-loop
 loop-again c =
-    passing-skip _ _ _ _ _ _ _ _ c.before.before.before.before.before.loop.invariant c.before.before.before.before.loop-test.true _ c.before.before.before.judge-line.ensures _ c.before.line.given.1
+    passing_skip _ _ _ _ _ _ _ _ c.before.before.before.before.before.loop.invariant c.before.before.before.before.loop-test.true _ c.before.before.before.judge-line.ensures _ c.before.line.given.1
 
 enum-known-line-2 : tie.Need-enum-known-line-2 invariant-loop decreases-loop
 enum-known-line-2 c =
@@ -47,19 +47,19 @@ enum-known-line-2 c =
 
 add-at-2 : tie.Need-overflow-add-at-2 invariant-loop decreases-loop
 add-at-2 c =
-    let i = read-in _ _ _ _ _ _ _ _ c.before.before.before.before.before.loop.invariant c.before.before.before.before.loop-test.true _ c.before.before.before.judge-line.ensures _ _ c.before.line2.given.1 in omega (arith, i.1.0, c.before.before.before.before.before.before.before.requires.1)
+    let i = read_in _ _ _ _ _ _ _ _ c.before.before.before.before.before.loop.invariant c.before.before.before.before.loop-test.true _ c.before.before.before.judge-line.ensures _ _ c.before.line2.given.1 in omega (arith, i.1.0, c.before.before.before.before.before.before.before.requires.1)
 
 add-count : tie.Need-overflow-add-count invariant-loop decreases-loop
 add-count c =
-    let i = read-in _ _ _ _ _ _ _ _ c.before.before.before.before.before.loop.invariant c.before.before.before.before.loop-test.true _ c.before.before.before.judge-line.ensures _ _ c.before.line2.given.1 in omega (arith, i.1.0, i.1.1, c.before.before.before.before.before.before.before.requires.1)
+    let i = read_in _ _ _ _ _ _ _ _ c.before.before.before.before.before.loop.invariant c.before.before.before.before.loop-test.true _ c.before.before.before.judge-line.ensures _ _ c.before.line2.given.1 in omega (arith, i.1.0, i.1.1, c.before.before.before.before.before.before.before.requires.1)
 
 loop-less-2 : tie.Need-loop-smaller-2 invariant-loop decreases-loop
 loop-less-2 c =
-    let i = read-in _ _ _ _ _ _ _ _ c.before.before.before.before.before.loop.invariant c.before.before.before.before.loop-test.true _ c.before.before.before.judge-line.ensures _ _ c.before.line2.given.1 in omega (arith, i.0)
+    let i = read_in _ _ _ _ _ _ _ _ c.before.before.before.before.before.loop.invariant c.before.before.before.before.loop-test.true _ c.before.before.before.judge-line.ensures _ _ c.before.line2.given.1 in omega (arith, i.0)
 
 loop-again-2 : tie.Need-loop-preserved-2 invariant-loop decreases-loop
 loop-again-2 c =
-    passing-read _ _ _ _ _ _ _ _ c.before.before.before.before.before.loop.invariant c.before.before.before.before.loop-test.true _ c.before.before.before.judge-line.ensures _ _ c.before.line2.given.1 c.before.before.before.before.before.before.before.requires.3
+    passing_read _ _ _ _ _ _ _ _ c.before.before.before.before.before.loop.invariant c.before.before.before.before.loop-test.true _ c.before.before.before.judge-line.ensures _ _ c.before.line2.given.1 c.before.before.before.before.before.before.before.requires.3
 
 enum-known-line-3 : tie.Need-enum-known-line-3 invariant-loop decreases-loop
 enum-known-line-3 c =

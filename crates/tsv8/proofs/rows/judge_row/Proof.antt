@@ -6,7 +6,7 @@ use borrow.Author.Rules.{rules}
 use Prim.Native.Nat.{◌-◌}
 use mathlib.Core.Path.{refl}
 use native.Mathlib.Omega.{arith}
-use Rattle.tsv8.proofs.RowTexts.{Reading, reading_none, row_short, row_long, row_ended, reading-more, row-refused, tab_there}
+use Rattle.tsv8.proofs.RowTexts.{Reading, reading_none, row_short, row_long, row_ended, reading_more, row_refused, tab_there}
 
 abbrev invariant-loop : tie.invariant-loop
 invariant-loop t text p from n types m q₀ k₀ j₀ q k j =
@@ -50,7 +50,7 @@ stored-by-requires c κs =
 
 add-j : tie.Need-overflow-add-j invariant-loop decreases-loop
 add-j c =
-    let i = reading-more _ _ _ _ _ _ _ _ c.before.before.before.before.before.before.before.before.before.loop.invariant _ _ c.before.before.before.before.before.before.before.byte_at.ensures (omega arith) c.before.before.before.before.read.ensures.end c.before.before.before.before.before.before.before.before.loop-test.true c.before.before.before.before.before.before.before.before.before.before.before.requires.6 _ _ _ _ _ _ c.before.before.before.before.read.ensures.told c.before.before.cell.given.1 c.stored-by.ensures refl in omega (arith, i.small, i.inside, c.before.before.before.before.before.before.before.before.before.before.before.requires.1)
+    let i = reading_more _ _ _ _ _ _ _ _ c.before.before.before.before.before.before.before.before.before.loop.invariant _ _ c.before.before.before.before.before.before.before.byte_at.ensures (omega arith) c.before.before.before.before.read.ensures.end c.before.before.before.before.before.before.before.before.loop-test.true c.before.before.before.before.before.before.before.before.before.before.before.requires.6 _ _ _ _ _ _ c.before.before.before.before.read.ensures.told c.before.before.cell.given.1 c.stored-by.ensures refl in omega (arith, i.small, i.inside, c.before.before.before.before.before.before.before.before.before.before.before.requires.1)
 
 enum-known-cell-2 : tie.Need-enum-known-cell-2 invariant-loop decreases-loop
 enum-known-cell-2 c =
@@ -62,7 +62,7 @@ refuse-requires c κs =
 
 returns-2 : tie.Need-returns-2 invariant-loop decreases-loop
 returns-2 c =
-    row-refused _ _ _ _ _ _ _ _ c.before.before.before.before.before.before.before.before.before.loop.invariant _ _ c.before.before.before.before.before.before.before.byte_at.ensures (omega arith) c.before.before.before.before.read.ensures.end c.before.before.before.before.before.before.before.before.loop-test.true c.before.before.before.before.before.before.before.before.before.before.before.requires.6 _ _ _ _ _ c.before.before.before.before.read.ensures.told c.before.before.cell2.given.1 c.refuse.ensures
+    row_refused _ _ _ _ _ _ _ _ c.before.before.before.before.before.before.before.before.before.loop.invariant _ _ c.before.before.before.before.before.before.before.byte_at.ensures (omega arith) c.before.before.before.before.read.ensures.end c.before.before.before.before.before.before.before.before.loop-test.true c.before.before.before.before.before.before.before.before.before.before.before.requires.6 _ _ _ _ _ c.before.before.before.before.read.ensures.told c.before.before.cell2.given.1 c.refuse.ensures
 
 add-k : tie.Need-overflow-add-k invariant-loop decreases-loop
 add-k c =
@@ -74,7 +74,7 @@ loop-less c =
 
 loop-again : tie.Need-loop-preserved invariant-loop decreases-loop
 loop-again c =
-    reading-more _ _ _ _ _ _ _ _ c.before.before.before.before.before.before.before.before.before.loop.invariant _ _ c.before.before.before.before.before.before.before.byte_at.ensures (omega arith) c.before.before.before.before.read.ensures.end c.before.before.before.before.before.before.before.before.loop-test.true c.before.before.before.before.before.before.before.before.before.before.before.requires.6 _ _ _ _ _ _ c.before.before.before.before.read.ensures.told c.before.before.cell.given.1 c.stored-by.ensures refl
+    reading_more _ _ _ _ _ _ _ _ c.before.before.before.before.before.before.before.before.before.loop.invariant _ _ c.before.before.before.before.before.before.before.byte_at.ensures (omega arith) c.before.before.before.before.read.ensures.end c.before.before.before.before.before.before.before.before.loop-test.true c.before.before.before.before.before.before.before.before.before.before.before.requires.6 _ _ _ _ _ _ c.before.before.before.before.read.ensures.told c.before.before.cell.given.1 c.stored-by.ensures refl
 
 byte-at-requires-2 : tie.Need-byte-at-requires-2 invariant-loop decreases-loop
 byte-at-requires-2 c κs =

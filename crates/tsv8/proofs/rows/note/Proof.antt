@@ -5,7 +5,7 @@ use Rattle.tsv8.proofs.rows.note.Statement.{statement}
 use Rattle.tsv8.proofs.rows.note.Tie as tie
 use native.Mathlib.Omega.{arith}
 use Rattle.tsv8_cells.proofs.Places.{cell_ended}
-use Rattle.tsv8.proofs.LineTexts.{note-count, note-behind, note-typing, note-other}
+use Rattle.tsv8.proofs.LineTexts.{note_count, note_behind, note_typing, note_other}
 
 end-from-requires : tie.Need-end-from-requires
 end-from-requires c κs = search rules
@@ -16,11 +16,11 @@ tabs-requires c κs =
 
 returns : tie.Need-returns
 returns c =
-    λ ts m l. note-count _ _ c.before.before.before.before.requires.0 _ ts m c.before.before.before.before.requires.1 _ c.before.before.end-from.ensures _ _ c.before.tabs.ensures l c.if1.true
+    λ ts m l. note_count _ _ c.before.before.before.before.requires.0 _ ts m c.before.before.before.before.requires.1 _ c.before.before.end-from.ensures _ _ c.before.tabs.ensures l c.if1.true
 
 returns-2 : tie.Need-returns-2
 returns-2 c =
-    λ ts m l. note-behind _ _ c.before.before.before.before.before.requires.0 _ ts m c.before.before.before.before.before.requires.1 _ c.before.before.before.end-from.ensures _ _ c.before.before.tabs.ensures l (omega arith) c.if2.true
+    λ ts m l. note_behind _ _ c.before.before.before.before.before.requires.0 _ ts m c.before.before.before.before.before.requires.1 _ c.before.before.before.end-from.ensures _ _ c.before.before.tabs.ensures l (omega arith) c.if2.true
 
 sub_same : tie.Need-overflow-sub-same
 sub_same c = search rules
@@ -40,7 +40,7 @@ same-requires c κs = search rules
 
 returns-3 : tie.Need-returns-3
 returns-3 c =
-    λ ts m l. note-typing _ _ c.before.before.before.before.before.before.before.before.before.requires.0 _ ts m c.before.before.before.before.before.before.before.before.before.requires.1 _ c.before.before.before.before.before.before.before.end-from.ensures _ _ c.before.before.before.before.before.before.tabs.ensures l (omega arith) c.before.before.before.before.if2.false _ c.before.same.ensures c.if3.true
+    λ ts m l. note_typing _ _ c.before.before.before.before.before.before.before.before.before.requires.0 _ ts m c.before.before.before.before.before.before.before.before.before.requires.1 _ c.before.before.before.before.before.before.before.end-from.ensures _ _ c.before.before.before.before.before.before.tabs.ensures l (omega arith) c.before.before.before.before.if2.false _ c.before.same.ensures c.if3.true
 
 lf-from-requires : tie.Need-lf-from-requires
 lf-from-requires c κs =
@@ -48,7 +48,7 @@ lf-from-requires c κs =
 
 returns-4 : tie.Need-returns-4
 returns-4 c =
-    λ ts m l. note-other _ _ c.before.before.before.before.before.before.before.before.before.before.requires.0 _ ts m c.before.before.before.before.before.before.before.before.before.before.requires.1 _ c.before.before.before.before.before.before.before.before.end-from.ensures _ _ c.before.before.before.before.before.before.before.tabs.ensures l (omega arith) c.before.before.before.before.before.if2.false _ c.before.before.same.ensures _ c.before.if3.false c.lf-from.ensures
+    λ ts m l. note_other _ _ c.before.before.before.before.before.before.before.before.before.before.requires.0 _ ts m c.before.before.before.before.before.before.before.before.before.before.requires.1 _ c.before.before.before.before.before.before.before.before.end-from.ensures _ _ c.before.before.before.before.before.before.before.tabs.ensures l (omega arith) c.before.before.before.before.before.if2.false _ c.before.before.same.ensures _ c.before.if3.false c.lf-from.ensures
 
 pub note-spec : {M : Type 1} → statement M
 note-spec =

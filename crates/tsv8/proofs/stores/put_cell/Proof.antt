@@ -4,7 +4,7 @@ use borrow.Author.Rules.{rules}
 use Rattle.tsv8.proofs.stores.put_cell.Statement.{statement}
 use Rattle.tsv8.proofs.stores.put_cell.Tie as tie
 use native.Mathlib.Omega.{arith}
-use Rattle.tsv8.proofs.Filling.{here_in, numbers_small, six_room, six_asks, six-put, other-put, none_put}
+use Rattle.tsv8.proofs.Filling.{here_in, numbers_small, six_room, six_asks, six_put, other_put, none_put}
 
 read-requires : tie.Need-read-requires
 read-requires c κs = search rules
@@ -56,7 +56,7 @@ same-length-2 c = search rules
 
 returns : tie.Need-returns
 returns c =
-    six-put _ _ _ _ _ _ c.before.before.before.before.before.before.before.before.before.before.before.before.before.before.before.before.before.requires.2 c.before.before.before.before.before.before.before.before.before.before.before.before.before.read.ensures.end _ c.before.before.before.before.before.before.before.before.before.before.before.before.before.read.ensures.told _ _ _ c.before.before.before.before.before.before.before.before.before.before.before.cell.given.1 c.before.before.before.before.before.if1.true _ _ _ _ c.before.before.before.before.before.before.before.before.put_three.ensures c.before.before.put-bytes.ensures c.before.before.before.before.before.before.before.before.before.before.before.before.before.before.before.before.before.requires.5
+    six_put _ _ _ _ _ _ c.before.before.before.before.before.before.before.before.before.before.before.before.before.before.before.before.before.requires.2 c.before.before.before.before.before.before.before.before.before.before.before.before.before.read.ensures.end _ c.before.before.before.before.before.before.before.before.before.before.before.before.before.read.ensures.told _ _ _ c.before.before.before.before.before.before.before.before.before.before.before.cell.given.1 c.before.before.before.before.before.if1.true _ _ _ _ c.before.before.before.before.before.before.before.before.put_three.ensures c.before.before.put-bytes.ensures c.before.before.before.before.before.before.before.before.before.before.before.before.before.before.before.before.before.requires.5
 
 enum_told : tie.Need-enum-told
 enum_told c = search rules
@@ -66,7 +66,7 @@ same-length-3 c = search rules
 
 returns-2 : tie.Need-returns-2
 returns-2 c =
-    other-put _ _ _ _ _ _ c.before.before.before.before.before.before.before.before.before.before.before.before.requires.2 c.before.before.before.before.before.before.before.before.read.ensures.end _ c.before.before.before.before.before.before.before.before.read.ensures.told _ _ _ c.before.before.before.before.before.before.cell.given.1 c.if1.false _ _ _ c.before.before.before.put_three.ensures
+    other_put _ _ _ _ _ _ c.before.before.before.before.before.before.before.before.before.before.before.before.requires.2 c.before.before.before.before.before.before.before.before.read.ensures.end _ c.before.before.before.before.before.before.before.before.read.ensures.told _ _ _ c.before.before.before.before.before.before.cell.given.1 c.if1.false _ _ _ c.before.before.before.put_three.ensures
 
 returns-3 : tie.Need-returns-3
 returns-3 c =

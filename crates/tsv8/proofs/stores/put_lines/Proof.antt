@@ -11,7 +11,7 @@ use Rattle.tsv8_cells.specs.inner.Runs.{lines_from}
 use Rattle.tsv8_cells.specs.inner.Typed.{types_of}
 use Rattle.tsv8.specs.inner.Stored.{cells_in, bytes_in}
 use Rattle.tsv8_cells.proofs.Places.{tab_starts}
-use Rattle.tsv8.proofs.Filling.{normal, Spreading, spreading_none, spread_table, spread_store, spread_end, line-within, spread-skip, row-due, row_fits, spread_more, rows_few}
+use Rattle.tsv8.proofs.Filling.{normal, Spreading, spreading_none, spread_table, spread_store, spread_end, line_within, spread_skip, row_due, row_fits, spread_more, rows_few}
 
 abbrev invariant-loop : tie.invariant-loop
 invariant-loop t text from n types m table₀ store₀ at₀ i₀ j₀ table store at i j =
@@ -35,7 +35,7 @@ lf-from-requires c κs =
 
 add_at : tie.Need-overflow-add-at invariant-loop decreases-loop
 add_at c =
-    omega (arith, c.lf-from.ensures, line-within _ _ _ _ _ _ _ c.before.before.before.before.before.before.before.before.requires.4 (normal _ _ _ _ _ c.before.before.before.before.before.before.before.before.requires.5) _ _ _ _ _ c.before.before.before.before.loop.invariant c.before.before.before.loop-test.true, c.before.before.before.before.before.before.before.before.requires.1)
+    omega (arith, c.lf-from.ensures, line_within _ _ _ _ _ _ _ c.before.before.before.before.before.before.before.before.requires.4 (normal _ _ _ _ _ c.before.before.before.before.before.before.before.before.requires.5) _ _ _ _ _ c.before.before.before.before.loop.invariant c.before.before.before.loop-test.true, c.before.before.before.before.before.before.before.before.requires.1)
 
 loop-less : tie.Need-loop-smaller invariant-loop decreases-loop
 loop-less c =
@@ -43,15 +43,15 @@ loop-less c =
 
 loop-again : tie.Need-loop-preserved invariant-loop decreases-loop
 loop-again c =
-    spread-skip _ _ _ _ _ _ _ c.before.before.before.before.before.before.before.before.requires.4 (normal _ _ _ _ _ c.before.before.before.before.before.before.before.before.requires.5) _ _ _ _ _ c.before.before.before.before.loop.invariant c.before.before.before.loop-test.true _ c.before.if1.true c.lf-from.ensures
+    spread_skip _ _ _ _ _ _ _ c.before.before.before.before.before.before.before.before.requires.4 (normal _ _ _ _ _ c.before.before.before.before.before.before.before.before.requires.5) _ _ _ _ _ c.before.before.before.before.loop.invariant c.before.before.before.loop-test.true _ c.before.if1.true c.lf-from.ensures
 
 put-row-requires : tie.Need-put-row-requires invariant-loop decreases-loop
 put-row-requires c κs =
-    (c.before.before.before.before.before.before.before.before.before.requires.0, c.before.before.before.before.before.before.before.before.before.requires.1, omega arith, tab_starts _ _ c.before.before.before.before.loop-test.true (omega arith), c.before.before.before.before.before.before.before.before.before.requires.3, c.before.before.before.before.before.before.before.before.before.requires.4, row-due _ _ _ _ _ _ _ c.before.before.before.before.before.before.before.before.before.requires.4 (normal _ _ _ _ _ c.before.before.before.before.before.before.before.before.before.requires.5) _ _ _ _ _ c.before.before.before.before.before.loop.invariant c.before.before.before.before.loop-test.true (omega arith), row_fits _ _ _ _ _ _ _ c.before.before.before.before.before.before.before.before.before.requires.4 (normal _ _ _ _ _ c.before.before.before.before.before.before.before.before.before.requires.5) _ _ _ _ _ c.before.before.before.before.before.loop.invariant c.before.before.before.before.loop-test.true (omega arith))
+    (c.before.before.before.before.before.before.before.before.before.requires.0, c.before.before.before.before.before.before.before.before.before.requires.1, omega arith, tab_starts _ _ c.before.before.before.before.loop-test.true (omega arith), c.before.before.before.before.before.before.before.before.before.requires.3, c.before.before.before.before.before.before.before.before.before.requires.4, row_due _ _ _ _ _ _ _ c.before.before.before.before.before.before.before.before.before.requires.4 (normal _ _ _ _ _ c.before.before.before.before.before.before.before.before.before.requires.5) _ _ _ _ _ c.before.before.before.before.before.loop.invariant c.before.before.before.before.loop-test.true (omega arith), row_fits _ _ _ _ _ _ _ c.before.before.before.before.before.before.before.before.before.requires.4 (normal _ _ _ _ _ c.before.before.before.before.before.before.before.before.before.requires.5) _ _ _ _ _ c.before.before.before.before.before.loop.invariant c.before.before.before.before.loop-test.true (omega arith))
 
 add-at-2 : tie.Need-overflow-add-at-2 invariant-loop decreases-loop
 add-at-2 c =
-    omega (arith, c.before.before.before.before.before.put-row.ensures.0, line-within _ _ _ _ _ _ _ c.before.before.before.before.before.before.before.before.before.before.before.before.before.before.before.requires.4 (normal _ _ _ _ _ c.before.before.before.before.before.before.before.before.before.before.before.before.before.before.before.requires.5) _ _ _ _ _ c.before.before.before.before.before.before.before.before.before.before.before.loop.invariant c.before.before.before.before.before.before.before.before.before.before.loop-test.true, c.before.before.before.before.before.before.before.before.before.before.before.before.before.before.before.requires.1)
+    omega (arith, c.before.before.before.before.before.put-row.ensures.0, line_within _ _ _ _ _ _ _ c.before.before.before.before.before.before.before.before.before.before.before.before.before.before.before.requires.4 (normal _ _ _ _ _ c.before.before.before.before.before.before.before.before.before.before.before.before.before.before.before.requires.5) _ _ _ _ _ c.before.before.before.before.before.before.before.before.before.before.before.loop.invariant c.before.before.before.before.before.before.before.before.before.before.loop-test.true, c.before.before.before.before.before.before.before.before.before.before.before.before.before.before.before.requires.1)
 
 add-i : tie.Need-overflow-add-i invariant-loop decreases-loop
 add-i c =

@@ -9,7 +9,7 @@ use Rattle.tsv8_cells.specs.Cells.{cells_of}
 use Rattle.tsv8_cells.specs.inner.Runs.{cells_at}
 use Rattle.tsv8_cells.specs.inner.Typed.{types_of}
 use Rattle.tsv8.specs.inner.Stored.{cells_in, bytes_in}
-use Rattle.tsv8.proofs.Filling.{normal, Writing, writing_none, table_long, store_long, row_put, cell-fits, writing_more}
+use Rattle.tsv8.proofs.Filling.{normal, Writing, writing_none, table_long, store_long, row_put, cell_fits, writing_more}
 
 abbrev invariant-loop : tie.invariant-loop
 invariant-loop t text from n types i m table₀ store₀ q₀ k₀ j₀ table store q k j =
@@ -33,11 +33,11 @@ element-copy-out-put-cell c =
 
 add-put-cell-2 : tie.Need-overflow-add-put-cell-2 invariant-loop decreases-loop
 add-put-cell-2 c =
-    omega (arith, (cell-fits _ _ _ _ _ _ _ _ c.before.before.before.before.before.before.requires.5 (normal _ _ _ _ _ c.before.before.before.before.before.before.requires.7) c.before.before.before.before.before.before.requires.6 _ _ _ _ _ c.before.before.loop.invariant c.before.loop-test.true).1.1.0)
+    omega (arith, (cell_fits _ _ _ _ _ _ _ _ c.before.before.before.before.before.before.requires.5 (normal _ _ _ _ _ c.before.before.before.before.before.before.requires.7) c.before.before.before.before.before.before.requires.6 _ _ _ _ _ c.before.before.loop.invariant c.before.loop-test.true).1.1.0)
 
 put-cell-requires : tie.Need-put-cell-requires invariant-loop decreases-loop
 put-cell-requires c κs =
-    let v = cell-fits _ _ _ _ _ _ _ _ c.before.before.before.before.before.before.before.before.requires.5 (normal _ _ _ _ _ c.before.before.before.before.before.before.before.before.requires.7) c.before.before.before.before.before.before.before.before.requires.6 _ _ _ _ _ c.before.before.before.before.loop.invariant c.before.before.before.loop-test.true in (c.before.before.before.before.before.before.before.before.requires.0, c.before.before.before.before.before.before.before.before.requires.1, v.0, v.1.0, v.1.1.0, v.1.1.1)
+    let v = cell_fits _ _ _ _ _ _ _ _ c.before.before.before.before.before.before.before.before.requires.5 (normal _ _ _ _ _ c.before.before.before.before.before.before.before.before.requires.7) c.before.before.before.before.before.before.before.before.requires.6 _ _ _ _ _ c.before.before.before.before.loop.invariant c.before.before.before.loop-test.true in (c.before.before.before.before.before.before.before.before.requires.0, c.before.before.before.before.before.before.before.before.requires.1, v.0, v.1.0, v.1.1.0, v.1.1.1)
 
 add-k : tie.Need-overflow-add-k invariant-loop decreases-loop
 add-k c =

@@ -3,7 +3,7 @@
 use borrow.Author.Rules.{rules}
 use Rattle.tsv8.proofs.types.named.Statement.{statement}
 use Rattle.tsv8.proofs.types.named.Tie as tie
-use Rattle.tsv8.proofs.TypeTexts.{named_bool, named_int, named-float, named-str, named_none}
+use Rattle.tsv8.proofs.TypeTexts.{named_bool, named_int, named_float, named_str, named_none}
 
 slice-aggregate-same : tie.Need-slice-aggregate-same
 slice-aggregate-same c = search rules
@@ -33,7 +33,7 @@ same-requires-3 c κs = search rules
 
 returns-3 : tie.Need-returns-3
 returns-3 c =
-    named-float _ _ c.before.before.before.before.before.before.before.same.ensures c.before.before.before.before.before.before.if1.false _ c.before.before.before.before.same2.ensures c.before.before.before.if2.false _ c.before.same3.ensures c.if3.true
+    named_float _ _ c.before.before.before.before.before.before.before.same.ensures c.before.before.before.before.before.before.if1.false _ c.before.before.before.before.same2.ensures c.before.before.before.if2.false _ c.before.same3.ensures c.if3.true
 
 slice-aggregate-same-4 : tie.Need-slice-aggregate-same-4
 slice-aggregate-same-4 c = search rules
@@ -43,7 +43,7 @@ same-requires-4 c κs = search rules
 
 returns-4 : tie.Need-returns-4
 returns-4 c =
-    named-str _ _ c.before.before.before.before.before.before.before.before.before.before.same.ensures c.before.before.before.before.before.before.before.before.before.if1.false _ c.before.before.before.before.before.before.before.same2.ensures c.before.before.before.before.before.before.if2.false _ c.before.before.before.before.same3.ensures c.before.before.before.if3.false _ c.before.same4.ensures c.if4.true
+    named_str _ _ c.before.before.before.before.before.before.before.before.before.before.same.ensures c.before.before.before.before.before.before.before.before.before.if1.false _ c.before.before.before.before.before.before.before.same2.ensures c.before.before.before.before.before.before.if2.false _ c.before.before.before.before.same3.ensures c.before.before.before.if3.false _ c.before.same4.ensures c.if4.true
 
 returns-5 : tie.Need-returns-5
 returns-5 c =

@@ -7,7 +7,7 @@ use native.Mathlib.Omega.{arith}
 use borrow.Author.Tests.{not-true, not-false}
 use Rattle.line_ends.proofs.Ends.{run_inside}
 use Rattle.tsv8_cells.proofs.Places.{cell_ended}
-use Rattle.tsv8.proofs.TypeTexts.{no_line, no-mark, no_count, types-line}
+use Rattle.tsv8.proofs.TypeTexts.{no_line, no_mark, no_count, types_line}
 
 returns : tie.Need-returns
 returns c =
@@ -34,7 +34,7 @@ same-requires c κs = search rules
 
 returns-2 : tie.Need-returns-2
 returns-2 c =
-    λ ns bs l. no-mark _ _ _ _ c.before.before.before.before.before.before.before.requires.4 c.before.before.before.before.before.before.before.requires.5 c.before.before.before.before.before.before.before.requires.1 ns bs l c.before.before.before.before.before.if1.false c.before.before.before.before.before.before.before.requires.2 _ c.before.before.before.before.end-from.ensures _ c.before.same.ensures (not-true _ c.if2.true)
+    λ ns bs l. no_mark _ _ _ _ c.before.before.before.before.before.before.before.requires.4 c.before.before.before.before.before.before.before.requires.5 c.before.before.before.before.before.before.before.requires.1 ns bs l c.before.before.before.before.before.if1.false c.before.before.before.before.before.before.before.requires.2 _ c.before.before.before.before.end-from.ensures _ c.before.same.ensures (not-true _ c.if2.true)
 
 tabs-requires : tie.Need-tabs-requires
 tabs-requires c κs =
@@ -50,7 +50,7 @@ types-from-requires c κs =
 
 returns-4 : tie.Need-returns-4
 returns-4 c =
-    λ ns bs l. types-line _ _ _ _ c.before.before.before.before.before.before.before.before.before.before.before.requires.4 c.before.before.before.before.before.before.before.before.before.before.before.requires.5 c.before.before.before.before.before.before.before.before.before.before.before.requires.1 ns bs l c.before.before.before.before.before.before.before.before.before.if1.false c.before.before.before.before.before.before.before.before.before.before.before.requires.2 _ c.before.before.before.before.before.before.before.before.end-from.ensures _ c.before.before.before.before.before.same.ensures _ c.before.before.before.tabs.ensures (not-false _ c.before.before.before.before.if2.false) (omega arith) _ _ c.types-from.ensures (run_inside c.before.before.before.before.before.before.before.before.before.before.before.args.text.now _ (cell_ended c.before.before.before.before.before.before.before.before.before.before.before.args.text.now c.before.before.before.before.before.before.before.before.before.before.before.args.at _ (omega (arith, c.before.before.before.before.before.before.before.before.before.if1.false)) c.before.before.before.before.before.before.before.before.end-from.ensures).0)
+    λ ns bs l. types_line _ _ _ _ c.before.before.before.before.before.before.before.before.before.before.before.requires.4 c.before.before.before.before.before.before.before.before.before.before.before.requires.5 c.before.before.before.before.before.before.before.before.before.before.before.requires.1 ns bs l c.before.before.before.before.before.before.before.before.before.if1.false c.before.before.before.before.before.before.before.before.before.before.before.requires.2 _ c.before.before.before.before.before.before.before.before.end-from.ensures _ c.before.before.before.before.before.same.ensures _ c.before.before.before.tabs.ensures (not-false _ c.before.before.before.before.if2.false) (omega arith) _ _ c.types-from.ensures (run_inside c.before.before.before.before.before.before.before.before.before.before.before.args.text.now _ (cell_ended c.before.before.before.before.before.before.before.before.before.before.before.args.text.now c.before.before.before.before.before.before.before.before.before.before.before.args.at _ (omega (arith, c.before.before.before.before.before.before.before.before.before.if1.false)) c.before.before.before.before.before.before.before.before.end-from.ensures).0)
 
 pub types-at-spec : {M : Type 1} → statement M
 types-at-spec =

@@ -4,7 +4,7 @@ use Rattle.tsv8.proofs.types.types_from.Statement.{statement}
 use Rattle.tsv8.proofs.types.types_from.Tie as tie
 use Prim.Native.Nat.{◌-◌}
 use native.Mathlib.Omega.{arith}
-use Rattle.tsv8.proofs.TypeTexts.{Naming, naming_none, tab_due, type-in, type-unnamed, type-named, types_named}
+use Rattle.tsv8.proofs.TypeTexts.{Naming, naming_none, tab_due, type_in, type_unnamed, type_named_lem, types_named}
 
 abbrev invariant-loop : tie.invariant-loop
 invariant-loop text from n types₀ q₀ k₀ types q k =
@@ -32,15 +32,15 @@ add-named-in c =
 
 sub-named-in : tie.Need-overflow-sub-named-in invariant-loop decreases-loop
 sub-named-in c =
-    omega (arith, (type-in _ _ _ _ _ _ c.before.before.loop.invariant c.before.loop-test.true _ c.end-from.ensures).0)
+    omega (arith, (type_in _ _ _ _ _ _ c.before.before.loop.invariant c.before.loop-test.true _ c.end-from.ensures).0)
 
 part-named-in-start : tie.Need-slice-bounds-named-in-start invariant-loop decreases-loop
 part-named-in-start c =
-    omega (arith, (type-in _ _ _ _ _ _ c.before.before.loop.invariant c.before.loop-test.true _ c.end-from.ensures).0)
+    omega (arith, (type_in _ _ _ _ _ _ c.before.before.loop.invariant c.before.loop-test.true _ c.end-from.ensures).0)
 
 part-named-in-end : tie.Need-slice-bounds-named-in-end invariant-loop decreases-loop
 part-named-in-end c =
-    omega (arith, (type-in _ _ _ _ _ _ c.before.before.loop.invariant c.before.loop-test.true _ c.end-from.ensures).1)
+    omega (arith, (type_in _ _ _ _ _ _ c.before.before.loop.invariant c.before.loop-test.true _ c.end-from.ensures).1)
 
 named_in_requires : tie.Need-named-in-requires invariant-loop decreases-loop
 named_in_requires c κs =
@@ -52,7 +52,7 @@ add-t15 c =
 
 returns : tie.Need-returns invariant-loop decreases-loop
 returns c =
-    type-unnamed _ _ _ _ _ _ c.before.before.before.before.before.loop.invariant c.before.before.before.before.loop-test.true _ c.before.before.before.end-from.ensures _ c.before.named_in.ensures c.if1.true
+    type_unnamed _ _ _ _ _ _ c.before.before.before.before.before.loop.invariant c.before.before.before.before.loop-test.true _ c.before.before.before.end-from.ensures _ c.before.named_in.ensures c.if1.true
 
 element-write-types : tie.Need-element-write-types invariant-loop decreases-loop
 element-write-types c =
@@ -68,7 +68,7 @@ loop-less c =
 
 loop-again : tie.Need-loop-preserved invariant-loop decreases-loop
 loop-again c =
-    type-named _ _ _ _ _ _ c.before.before.before.before.before.loop.invariant c.before.before.before.before.loop-test.true _ c.before.before.before.end-from.ensures _ c.before.named_in.ensures c.if1.false
+    type_named_lem _ _ _ _ _ _ c.before.before.before.before.before.loop.invariant c.before.before.before.before.loop-test.true _ c.before.before.before.end-from.ensures _ c.before.named_in.ensures c.if1.false
 
 add-t18 : tie.Need-overflow-add-t18 invariant-loop decreases-loop
 add-t18 c =

@@ -4,7 +4,7 @@ use borrow.Author.Rules.{rules}
 use Rattle.tsv8_cells.proofs.cells.typed_cell.Statement.{statement}
 use Rattle.tsv8_cells.proofs.cells.typed_cell.Tie as tie
 use native.Mathlib.Omega.{arith}
-use Rattle.tsv8_cells.proofs.CellTexts.{fault_inside, typed_got, unfit-bare, unfit-plain, unfit-slashed, any_faulty}
+use Rattle.tsv8_cells.proofs.CellTexts.{fault_inside, typed_got, unfit_bare, unfit_plain, unfit_slashed, any_faulty}
 
 typed-kind-requires : tie.Need-typed-kind-requires
 typed-kind-requires c κs = search rules
@@ -34,15 +34,15 @@ add-t13 c =
 
 returns-2 : tie.Need-returns-2
 returns-2 c =
-    λ m. unfit-bare _ c.before.before.before.before.before.before.requires.1 _ _ _ m c.before.before.before.before.before.before.requires.2 _ c.before.before.any-text.ensures _ c.before.before.before.before.typed-kind.ensures (omega arith) c.enum_told.given.1
+    λ m. unfit_bare _ c.before.before.before.before.before.before.requires.1 _ _ _ m c.before.before.before.before.before.before.requires.2 _ c.before.before.any-text.ensures _ c.before.before.before.before.typed-kind.ensures (omega arith) c.enum_told.given.1
 
 returns-3 : tie.Need-returns-3
 returns-3 c =
-    λ m. unfit-plain _ c.before.before.before.before.before.before.requires.1 _ _ _ m c.before.before.before.before.before.before.requires.2 _ c.before.before.any-text.ensures _ c.before.before.before.before.typed-kind.ensures (omega arith) _ c.enum-told2.given.1
+    λ m. unfit_plain _ c.before.before.before.before.before.before.requires.1 _ _ _ m c.before.before.before.before.before.before.requires.2 _ c.before.before.any-text.ensures _ c.before.before.before.before.typed-kind.ensures (omega arith) _ c.enum-told2.given.1
 
 returns-4 : tie.Need-returns-4
 returns-4 c =
-    λ m. unfit-slashed _ c.before.before.before.before.before.before.requires.1 _ _ _ m c.before.before.before.before.before.before.requires.2 _ c.before.before.any-text.ensures _ c.before.before.before.before.typed-kind.ensures (omega arith) _ c.enum-told3.given.1
+    λ m. unfit_slashed _ c.before.before.before.before.before.before.requires.1 _ _ _ m c.before.before.before.before.before.before.requires.2 _ c.before.before.any-text.ensures _ c.before.before.before.before.typed-kind.ensures (omega arith) _ c.enum-told3.given.1
 
 returns-5 : tie.Need-returns-5
 returns-5 c =

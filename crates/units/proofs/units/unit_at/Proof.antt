@@ -3,7 +3,7 @@
 use borrow.Author.Rules.{rules}
 use Rattle.units.proofs.units.unit_at.Statement.{statement}
 use Rattle.units.proofs.units.unit_at.Tie as tie
-use Rattle.units.proofs.UnitLaws.{unit_end, unit_close, unit-escape, unit-control, unit-literal}
+use Rattle.units.proofs.UnitLaws.{unit_end, unit_close, unit_escape, unit_control, unit_literal}
 
 returns : tie.Need-returns
 returns c =
@@ -27,18 +27,18 @@ escape-at-requires c κs = search rules
 
 returns-3 : tie.Need-returns-3
 returns-3 c =
-    (search unit-escape, search rules)
+    (search unit_escape, search rules)
 
 returns-4 : tie.Need-returns-4
 returns-4 c =
-    (search unit-control, tt)
+    (search unit_control, tt)
 
 literal-at-requires : tie.Need-literal-at-requires
 literal-at-requires c κs = search rules
 
 returns-5 : tie.Need-returns-5
 returns-5 c =
-    (search unit-literal, search rules)
+    (search unit_literal, search rules)
 
 pub unit-at-spec : {M : Type 1} → statement M
 unit-at-spec =

@@ -7,7 +7,7 @@ use mathlib.Core.Path.{sym}
 use native.Mathlib.Omega.{arith}
 use lib.ListN.{length-take}
 use lib.Seq.{length-take-le}
-use Rattle.upload.proofs.Values.{byte_kept, byte_over, byte-long, byte-stored, byte-lf, byte-lf-refused, added_fits}
+use Rattle.upload.proofs.Values.{byte_kept, byte_over, byte_long, byte_stored, byte_lf, byte_lf_refused, added_fits}
 
 -- Each way through the tests is a way through `feed_byte`.
 
@@ -44,7 +44,7 @@ same-length-2 c = search rules
 
 returns-3 : tie.Need-returns-3
 returns-3 c =
-    byte-lf-refused _ _ _ _ c.before.before.before.before.before.before.before.before.before.before.before.if1.false c.before.before.before.before.before.before.before.before.before.if2.false c.before.before.before.before.before.before.before.before.if3.true _ c.before.before.before.before.before.append-line.ensures c.before.if4.true _ c.with-refusal2.ensures
+    byte_lf_refused _ _ _ _ c.before.before.before.before.before.before.before.before.before.before.before.if1.false c.before.before.before.before.before.before.before.before.before.if2.false c.before.before.before.before.before.before.before.before.if3.true _ c.before.before.before.before.before.append-line.ensures c.before.if4.true _ c.with-refusal2.ensures
 
 add-t13 : tie.Need-overflow-add-t13
 add-t13 c = search rules
@@ -64,14 +64,14 @@ same-length-4 c = search rules
 
 returns-4 : tie.Need-returns-4
 returns-4 c =
-    byte-lf _ _ _ _ c.before.before.before.before.before.before.before.before.before.before.before.before.before.before.if1.false c.before.before.before.before.before.before.before.before.before.before.before.before.if2.false c.before.before.before.before.before.before.before.before.before.before.before.if3.true _ c.before.before.before.before.before.before.before.before.append-line.ensures c.before.before.before.before.if4.false
+    byte_lf _ _ _ _ c.before.before.before.before.before.before.before.before.before.before.before.before.before.before.if1.false c.before.before.before.before.before.before.before.before.before.before.before.before.if2.false c.before.before.before.before.before.before.before.before.before.before.before.if3.true _ c.before.before.before.before.before.before.before.before.append-line.ensures c.before.before.before.before.if4.false
 
 with-refusal-requires-3 : tie.Need-with-refusal-requires-3
 with-refusal-requires-3 c κs = search rules
 
 returns-5 : tie.Need-returns-5
 returns-5 c =
-    byte-long _ _ _ _ c.before.before.before.before.before.if1.false c.before.before.before.if2.false _ c.with-refusal3.ensures c.before.before.if3.false c.before.if5.true
+    byte_long _ _ _ _ c.before.before.before.before.before.if1.false c.before.before.before.if2.false _ c.with-refusal3.ensures c.before.before.if3.false c.before.if5.true
 
 slice-write-line : tie.Need-slice-write-line
 slice-write-line c = search rules
@@ -87,7 +87,7 @@ same-length-5 c = search rules
 
 returns-6 : tie.Need-returns-6
 returns-6 c =
-    byte-stored _ _ _ _ c.before.before.before.before.before.if1.false c.before.before.before.if2.false c.before.before.if3.false c.before.if5.false
+    byte_stored _ _ _ _ c.before.before.before.before.before.if1.false c.before.before.before.if2.false c.before.before.if3.false c.before.if5.false
 
 pub take-byte-spec : {M : Type 1} → statement M
 take-byte-spec =
