@@ -51,6 +51,9 @@ lead_two : (low_of 6 ≡ 0x80) × (high_of 6 ≡ 0xbf)
 unfolding low_of high_of pick
 lead_two = (refl, refl)
 
+tails_two : (r : List ℕ) → ◌≡◌ {A = ℕ} (pick (tails (low_of 6) (high_of 6) 1 r) 2 0) (pick (tails 0x80 0xbf 1 r) 2 0)
+tails_two r = rw (lead_two.0, lead_two.1)
+
 -- the length by the class k of the first byte, and r behind it
 len_is : (k : ℕ) (r : List ℕ) → len_by k (get_or r 0 0) (get_or r 1 0) (get_or r 2 0) ≡ pick (tails (low_of k) (high_of k) (pred (size_of k)) r) (size_of k) 0
 unfolding len_by long_len size_of two_bytes three_bytes four_bytes tails pick
@@ -59,7 +62,7 @@ len_is k r =
     (λ a. split (ltb k 6) (λ b. simp (a, b))
     (λ b. split (ltb k 7)
     (λ c. let e : k ≡ 6 = omega (arith, ltb-false k 6 b, ltb-true k 7 c) in
-    rw e (rw (lead_two.0, lead_two.1) (sym (tails_first 0x80 0xbf 0 2 r (lit≤ tt)))))
+    rw e (sym (tails_two r ∙ tails_first 0x80 0xbf 0 2 r (lit≤ tt))))
     (λ c. split (ltb k 10)
     (λ d. simp (a, b, c, d) (sym (tails_first (low_of k) (high_of k) 1 3 r (low_bound k) ∙ rw (tails_next 0 3 1 r))))
     (λ d. split (ltb k 13)
