@@ -1,0 +1,14 @@
+-- The invariant: nothing was found exactly if the first k bytes stand for themselves.
+use Prim.Native.Nat.{◌-◌, ◌≤◌}
+use mathlib.Core.Bool.{false}
+use mathlib.Core.Path.{◌≡◌}
+use Rattle.runs.specs.inner.Blocks.{AllAlone}
+use Rattle.runs.proofs.blocks.any_odd.Given as goal
+
+abbrev pub invariant-loop-k : goal.invariant-loop-k
+invariant-loop-k l =
+    (l.k ≤ l.n) × (l.found ≡ false → AllAlone l.q l.s l.at l.k) × (AllAlone l.q l.s l.at l.k → l.found ≡ false)
+
+abbrev pub decreases-loop-k : goal.decreases-loop-k
+decreases-loop-k l =
+    l.n - l.k

@@ -1,0 +1,13 @@
+-- As for `literal_run`; a byte that is no part of a literal character ends the run.
+use Prim.Native.Nat.{◌-◌}
+use lib.ListN.{length}
+use Rattle.runs.specs.inner.Blocks.{Running}
+use Rattle.runs.proofs.literals.run_on.Given as goal
+
+abbrev pub invariant-loop-at : goal.invariant-loop-at
+invariant-loop-at l =
+    Running l.style l.s l.from l.at
+
+abbrev pub decreases-loop-at : goal.decreases-loop-at
+decreases-loop-at l =
+    length l.s - l.at
