@@ -1,0 +1,85 @@
+use mathlib.Core.Path.{sym, ◌∙◌}
+use Prim.Native.Nat.{◌-◌}
+use native.Mathlib.Omega.{arith}
+use Rattle.tokens.proofs.Skipping.{begun, ended, comment_end, comment_char, comment_plain, comment_ill, comment_further, space_on, mark_on, token_here}
+use Rattle.tokens.proofs.blanks.skip.Goals as goal
+
+pub loop-at-init : goal.loop-at-init
+loop-at-init c = begun _ _ c.requires.1
+
+pub bounds-s-at : goal.bounds-s-at
+bounds-s-at c = omega arith
+
+pub overflow_add-at : goal.overflow_add-at
+overflow_add-at c = omega arith
+
+pub loop-at-smaller-then-x-eq10 : goal.loop-at-smaller-then-x-eq10
+loop-at-smaller-then-x-eq10 c = omega arith
+
+pub loop-at-preserved-then-x-eq10 : goal.loop-at-preserved-then-x-eq10
+loop-at-preserved-then-x-eq10 c = comment_end _ _ _ _ c.loop-at.invariant (omega arith) c.if-inside.true c.if-x-eq10.true
+
+pub class_in-requires : goal.class_in-requires
+class_in-requires c = c.requires.0
+
+pub overflow_add-at-then-class_in-eq0 : goal.overflow_add-at-then-class_in-eq0
+overflow_add-at-then-class_in-eq0 c = omega arith
+
+pub loop-at-smaller-then-class_in-eq0 : goal.loop-at-smaller-then-class_in-eq0
+loop-at-smaller-then-class_in-eq0 c = omega arith
+
+pub loop-at-preserved-then-class_in-eq0 : goal.loop-at-preserved-then-class_in-eq0
+loop-at-preserved-then-class_in-eq0 c = comment_plain _ _ _ _ c.loop-at.invariant (omega arith) c.if-inside.true c.if-x-eq10.false _ c.class_in.ensures c.if-class_in-eq0.true
+
+pub char_at-c-requires : goal.char_at-c-requires
+char_at-c-requires c = c.requires.0
+
+pub overflow_add-at-in-Good : goal.overflow_add-at-in-Good
+overflow_add-at-in-Good c =
+    let g = comment_char _ _ _ _ c.loop-at.invariant (omega arith) c.if-inside.true c.if-x-eq10.false _ (sym c.char_at-c.ensures ∙ c.in-Good.is) in record { fits = omega (arith, g.inside) }
+
+pub overflow_sub-result : goal.overflow_sub-result
+overflow_sub-result c = omega (arith, c.loop-at.invariant.onward)
+
+pub returns-in-Bad : goal.returns-in-Bad
+returns-in-Bad c = comment_ill _ _ _ _ c.loop-at.invariant (omega arith) c.if-inside.true c.if-x-eq10.false _ (sym c.char_at-c.ensures ∙ c.in-Bad.is)
+
+pub loop-at-smaller-then-inside : goal.loop-at-smaller-then-inside
+loop-at-smaller-then-inside c =
+    let g = comment_char _ _ _ _ c.loop-at.invariant (omega arith) c.if-inside.true c.if-x-eq10.false _ (sym c.char_at-c.ensures ∙ c.in-Good.is) in omega (arith, g.inside, comment_further c.args.s.now c.loop-at.at _ (sym c.char_at-c.ensures ∙ c.in-Good.is))
+
+pub loop-at-preserved-then-inside : goal.loop-at-preserved-then-inside
+loop-at-preserved-then-inside c = comment_char _ _ _ _ c.loop-at.invariant (omega arith) c.if-inside.true c.if-x-eq10.false _ (sym c.char_at-c.ensures ∙ c.in-Good.is)
+
+pub is_space-requires : goal.is_space-requires
+is_space-requires c = tt
+
+pub overflow_add-at-then-is_space : goal.overflow_add-at-then-is_space
+overflow_add-at-then-is_space c = omega arith
+
+pub loop-at-smaller-then-is_space : goal.loop-at-smaller-then-is_space
+loop-at-smaller-then-is_space c = omega arith
+
+pub loop-at-preserved-then-is_space : goal.loop-at-preserved-then-is_space
+loop-at-preserved-then-is_space c = space_on _ _ _ _ c.loop-at.invariant (omega arith) c.if-inside.false (sym c.is_space.ensures ∙ c.if-is_space.true)
+
+pub overflow_sub-result-then-x-ne35 : goal.overflow_sub-result-then-x-ne35
+overflow_sub-result-then-x-ne35 c = omega (arith, c.loop-at.invariant.onward)
+
+pub returns-then-x-ne35 : goal.returns-then-x-ne35
+returns-then-x-ne35 c = token_here _ _ _ _ c.loop-at.invariant (omega arith) c.if-inside.false (sym c.is_space.ensures ∙ c.if-is_space.false) c.if-x-ne35.true
+
+pub overflow_add-at-in-loop-at : goal.overflow_add-at-in-loop-at
+overflow_add-at-in-loop-at c = omega arith
+
+pub loop-at-smaller : goal.loop-at-smaller
+loop-at-smaller c = omega arith
+
+pub loop-at-preserved : goal.loop-at-preserved
+loop-at-preserved c = mark_on _ _ _ _ c.loop-at.invariant (omega arith) c.if-inside.false (sym c.is_space.ensures ∙ c.if-is_space.false) c.if-x-ne35.false
+
+pub overflow_sub-result-2 : goal.overflow_sub-result-2
+overflow_sub-result-2 c = omega (arith, c.loop-at.invariant.onward)
+
+pub returns : goal.returns
+returns c = ended _ _ _ _ c.loop-at.invariant (omega arith)

@@ -1,0 +1,21 @@
+-- By the byte that stands here: a digit leads on, anything else fails (Grammar).
+use Prim.Native.Nat.{◌+◌, ◌≤◌}
+use lib.ListN.{length}
+use Rattle.tokens.specs.declared.numbers.Number.TheVariants.{Malformed}
+use mathlib.Core.Path.{sym, ◌∙◌}
+use native.Mathlib.Omega.{arith}
+use Rattle.tokens.proofs.Grammar.{point_digit, point_none, next_inside, digit_number}
+use Rattle.tokens.proofs.numbers.behind_point.Goals as goal
+
+pub overflow_add-at : goal.overflow_add-at
+overflow_add-at c =
+    let h : c.args.at + 1 ≤ length c.args.s.now = next_inside _ _ _ c.byte_at.ensures (digit_number _ (sym c.is_digit.ensures ∙ c.if-is_digit.true)) in omega arith
+
+pub in_frac-requires : goal.in_frac-requires
+in_frac-requires c = next_inside _ _ _ c.byte_at.ensures (digit_number _ (sym c.is_digit.ensures ∙ c.if-is_digit.true))
+
+pub returns-then-is_digit : goal.returns-then-is_digit
+returns-then-is_digit c = point_digit _ _ _ _ c.byte_at.ensures (sym c.is_digit.ensures ∙ c.if-is_digit.true) c.in_frac.ensures
+
+pub returns : goal.returns
+returns c = point_none _ _ _ Malformed c.byte_at.ensures (sym c.is_digit.ensures ∙ c.if-is_digit.false)

@@ -1,0 +1,31 @@
+-- Letter by letter, and no word goes on behind the last (Shorts).
+use mathlib.Core.Path.{sym, ap, ◌∙◌}
+use Rattle.tokens.specs.Words.{is_word}
+use mathlib.Core.Bool.{true, false}
+use mathlib.Core.Path.{◌≡◌}
+use borrow.Author.Tests.{not-true}
+use native.Mathlib.Omega.{arith}
+use Rattle.prelude.proofs.Cases.{never}
+use Rattle.tokens.proofs.words.spells.Goals as goal
+
+pub returns-then-byte_at-a : goal.returns-then-byte_at-a
+returns-then-byte_at-a c = λ e. never (let z : false ≡ true = e in cc)
+
+pub overflow_add-k : goal.overflow_add-k
+overflow_add-k c = omega arith
+
+pub returns-then-byte_at-b : goal.returns-then-byte_at-b
+returns-then-byte_at-b c = λ e. never (let z : false ≡ true = e in cc)
+
+pub overflow_add-k-2 : goal.overflow_add-k-2
+overflow_add-k-2 c = omega arith
+
+pub returns-then-byte_at-c : goal.returns-then-byte_at-c
+returns-then-byte_at-c c = λ e. never (let z : false ≡ true = e in cc)
+
+pub overflow_add-k-3 : goal.overflow_add-k-3
+overflow_add-k-3 c = omega arith
+
+pub returns : goal.returns
+returns c =
+    λ e. record { first = sym c.byte_at.ensures ∙ c.if-byte_at-a.false; second = sym c.byte_at-2.ensures ∙ c.if-byte_at-b.false; third = sym c.byte_at-3.ensures ∙ c.if-byte_at-c.false; over = ap is_word (sym c.byte_at-4.ensures) ∙ sym c.is_word.ensures ∙ not-true _ e }

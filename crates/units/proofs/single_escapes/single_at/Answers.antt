@@ -1,0 +1,9 @@
+-- The byte of a letter, or what `special` tells of the rest (SingleLaws).
+use Rattle.units.proofs.SingleLaws.{letter_at, special_at}
+use Rattle.units.proofs.single_escapes.single_at.Goals as goal
+
+pub returns-then-byte-ne0 : goal.returns-then-byte-ne0
+returns-then-byte-ne0 c = λ h. search letter_at
+
+pub returns : goal.returns
+returns c = search special_at
