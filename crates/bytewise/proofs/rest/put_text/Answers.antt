@@ -1,0 +1,16 @@
+-- A control or another byte, by its class (ByteTexts).
+use native.Mathlib.Omega.{arith}
+use Rattle.bytewise.proofs.ByteTexts.{is_control, no_control}
+use Rattle.bytewise.proofs.rest.put_text.Goals as goal
+
+pub put_control-requires : goal.put_control-requires
+put_control-requires c = (is_control _ _ c.class_in.ensures c.if-class_in-eq1.true, omega arith)
+
+pub returns-then-class_in-eq1 : goal.returns-then-class_in-eq1
+returns-then-class_in-eq1 c = c.put_control.ensures
+
+pub put_slashed-requires : goal.put_slashed-requires
+put_slashed-requires c = (c.requires.0, no_control _ _ c.class_in.ensures c.if-class_in-eq1.false, omega arith)
+
+pub returns : goal.returns
+returns c = c.put_slashed.ensures
