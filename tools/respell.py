@@ -12,9 +12,10 @@ import os
 import re
 import sys
 
-# A name's characters, in antt and in clauses; the path of a module is left as it is.
+# A name's characters, in antt and in clauses; the path of a module is left as it is, and in a function's proof a step of its code.
 TOKEN = re.compile(r"(?<![\w'-])[^\W\d][\w'-]*")
-PART = re.compile(r"Rattle(?:\.[\w+'-]+)*|(?<![\w'.-])c(?:\.before)*\.[\w'-]+|(?<![\w'-])[^\W\d][\w'-]*")
+PART = re.compile(r"Rattle(?:\.[\w+'-]+)*|(?<![\w'-])[^\W\d][\w'-]*")
+STEP = re.compile(r"Rattle(?:\.[\w+'-]+)*|(?<![\w'.-])c(?:\.before)*\.[\w'-]+|(?<![\w'-])[^\W\d][\w'-]*")
 HEAD = re.compile(r"^(?:(?:abbrev|unfoldable)\s+)*(?:pub\s+)?(?:(?:data|record|ruleset)\s+)?(?P<name>[^\s:(){},=.]+)\s*(?::|\(|\{|=|where|$)")
 INNER = re.compile(r"^ {2,}(?:pub )?(?P<name>[^\s:(){},=.]+)\s+:(?:\s|$)")
 
@@ -106,12 +107,12 @@ def table(root):
     return names, {n: t for n, t in spelled.items() if t != n}
 
 
-def swap(text, turned):
+def swap(text, turned, parts=PART):
     def part(m):
         word = m.group(0)
         return word if word.startswith(("Rattle", "c.")) else turned.get(word, word)
 
-    return PART.sub(part, text)
+    return parts.sub(part, text)
 
 
 GHOST = re.compile(r"^\s*ghost\b")
@@ -168,7 +169,7 @@ def main(argv):
     count = 0
     for p in antt(root):
         text = read(p)
-        new = swap(text, turned)
+        new = swap(text, turned, STEP if p.endswith("/Proof.antt") else PART)
         if new != text:
             open(p, "w", encoding="utf-8").write(new)
             count += 1

@@ -16,10 +16,10 @@ use Rattle.j8_lines.specs.Lines.{Cut, headed, cut, count_lf, records, fault_of_b
 
 -- the last byte is an LF, or not
 abbrev pub shut : Cut → Cut
-shut c = record { closed = c.closed ++ (c.openLine ∷ []); open_line = [] }
+shut c = record { closed = c.closed ++ (c.open_line ∷ []); open_line = [] }
 
 abbrev pub longer : ℕ → Cut → Cut
-longer b c = record { closed = c.closed; open_line = c.openLine ++ (b ∷ []) }
+longer b c = record { closed = c.closed; open_line = c.open_line ++ (b ∷ []) }
 
 front_shut : (k : Bool) (x : ℕ) (cl : List (List ℕ)) (o : List ℕ) →
     pick k (record { closed = [] ∷ (cl ++ (o ∷ [])); open_line = [] }) (headed x (cl ++ (o ∷ [])) [])
