@@ -109,10 +109,9 @@ unfolding line_buffer pick
 buffer_held ls p [] i line e h = refl
 buffer_held ls p (x ∷ q) i [] e h = absurd (not-suc-le-zero h)
 buffer_held ls p (x ∷ q) i (d ∷ ds) e h =
-    rw (get_or_at p x q (last_at i d ls) i e, ← append_snoc' p x q, buffer_held ls (p ++ (x ∷ [])) q (suc i) ds (omega (arith, length-append p (x ∷ []))) (le_of_suc-le-suc h))
-  where
-    append_snoc' : (p : List ℕ) (x : ℕ) (q : List ℕ) → p ++ (x ∷ []) ++ q ≡ p ++ (x ∷ q)
-    append_snoc' p x q = append_assoc p (x ∷ []) q
+    rw (get_or_at p x q (last_at i d ls) i e)
+    (ap (λ (o : List ℕ). x ∷ take (length q) (line_buffer ls o (suc i) ds)) (sym (append_assoc p (x ∷ []) q))
+    ∙ ap (λ (r : List ℕ). x ∷ r) (buffer_held ls (p ++ (x ∷ [])) q (suc i) ds (omega (arith, length-append p (x ∷ []))) (le_of_suc-le-suc h)))
 
 -- the first refused byte
 abbrev pub next_by : Fault → ℕ → List ℕ → FirstFault → FirstFault
