@@ -1,0 +1,9 @@
+-- A part of the number.
+use Rattle.json8_read.specs.inner.Spread.{node_of}
+use mathlib.Core.Path.{refl}
+use native.Mathlib.Omega.{arith}
+use Rattle.json8_read.proofs.spread.size_of.Goals as goal
+
+pub returns : goal.returns
+unfolding node_of
+returns c = (refl, omega arith)
