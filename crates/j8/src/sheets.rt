@@ -5,8 +5,7 @@ ghost use Rattle.j8.specs.Runs.{tsv8_read};
 use structs::sheets;
 use structs::sheets::J8Sheet;
 
-#[unsafe(no_mangle)]
-pub extern "C" fn j8_tsv8_read(
+pub fn j8_tsv8_read(
     text: &[u8],
     names: &mut [u32],
     types: &mut [u32],

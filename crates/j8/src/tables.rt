@@ -7,8 +7,7 @@ use structs::results::J8Result;
 use structs::tables::{J8Nodes, J8Shown};
 use structs::{results, tables};
 
-#[unsafe(no_mangle)]
-pub extern "C" fn j8_json8_read(text: &[u8], table: &mut [u32], store: &mut [u8]) -> J8Nodes
+pub fn j8_json8_read(text: &[u8], table: &mut [u32], store: &mut [u8]) -> J8Nodes
     ensures answer { result ≡ (json8_read text.now table.old store.old).result }
     ensures nodes { table.new ≡ (json8_read text.now table.old store.old).table }
     ensures bytes { store.new ≡ (json8_read text.now table.old store.old).store }
@@ -16,20 +15,13 @@ pub extern "C" fn j8_json8_read(text: &[u8], table: &mut [u32], store: &mut [u8]
     tables::of_parsed(json8_read::read::read(text, table, store))
 }
 
-#[unsafe(no_mangle)]
-pub extern "C" fn j8_json8_show(table: &[u32], text: &[u8], store: &[u8], node: usize) -> J8Shown
+pub fn j8_json8_show(table: &[u32], text: &[u8], store: &[u8], node: usize) -> J8Shown
     ensures { result ≡ json8_show table.now text.now store.now node }
 {
     tables::of_shown(show::shown_at(table, text.len(), store.len(), node))
 }
 
-#[unsafe(no_mangle)]
-pub extern "C" fn j8_json8_write(
-    table: &[u32],
-    text: &[u8],
-    store: &[u8],
-    out: &mut [u8],
-) -> J8Result
+pub fn j8_json8_write(table: &[u32], text: &[u8], store: &[u8], out: &mut [u8]) -> J8Result
     ensures answer { result ≡ (json8_write table.now text.now store.now out.old).result }
     ensures stored { out.new ≡ (json8_write table.now text.now store.now out.old).out }
 {

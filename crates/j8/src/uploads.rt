@@ -6,20 +6,13 @@ use structs::uploads;
 use structs::uploads::{J8Fed, J8Upload};
 use upload::uploads::Upload;
 
-#[unsafe(no_mangle)]
-pub extern "C" fn j8_upload_fresh() -> J8Upload
+pub fn j8_upload_fresh() -> J8Upload
     ensures { result ≡ upload_fresh }
 {
     uploads::upload_of(Upload::fresh())
 }
 
-#[unsafe(no_mangle)]
-pub extern "C" fn j8_upload_feed(
-    upload: J8Upload,
-    piece: &[u8],
-    line: &mut [u8],
-    out: &mut [u8],
-) -> J8Fed
+pub fn j8_upload_feed(upload: J8Upload, piece: &[u8], line: &mut [u8], out: &mut [u8]) -> J8Fed
     ensures answer { result ≡ (upload_feed upload piece.now line.old out.old).fed }
     ensures held { line.new ≡ (upload_feed upload piece.now line.old out.old).line }
     ensures stored { out.new ≡ (upload_feed upload piece.now line.old out.old).out }
@@ -29,8 +22,7 @@ pub extern "C" fn j8_upload_feed(
     uploads::fed_from(f)
 }
 
-#[unsafe(no_mangle)]
-pub extern "C" fn j8_upload_finish(upload: J8Upload, line: &[u8], out: &mut [u8]) -> J8Fed
+pub fn j8_upload_finish(upload: J8Upload, line: &[u8], out: &mut [u8]) -> J8Fed
     ensures answer { result ≡ (upload_finish upload line.now out.old).fed }
     ensures held { line.now ≡ (upload_finish upload line.now out.old).line }
     ensures stored { out.new ≡ (upload_finish upload line.now out.old).out }
