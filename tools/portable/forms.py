@@ -1,7 +1,7 @@
 """The C of each form of the MIR, one table entry or one function a form, with why it means the same.
 
-The meaning of a form is what the machine of logic/Prog/Machine.antt does with it: walkM of places, evalOpdM of operands, evalRvM of right-hand sides, execIn of
-statements; operations are op2Val and op1Val of logic/Mir/Val.antt, and op2Chk and op1Chk are what the proofs have shown of their operands. A form that isn't
+The meaning of a form is what the machine of logic/Prog/Machine.antt does with it: walk of places, eval_opd of operands, eval_rv of right-hand sides, code of
+statements; operations are op2_val and op1_val of logic/Mir/Val.antt, and op2_chk and op1_chk are what the proofs have shown of their operands. A form that isn't
 here ends the translation.
 
 A `Value` is an operand or a place in C. Its checks are C conditions that hold by the proofs; J8_CHECKED tests them. `room`, of a pointer, is how many bytes
@@ -47,11 +47,11 @@ def same(want, got, what):
         need(want == got, what, "is", got, "and not", want)
 
 
-# ---- places: walkM
+# ---- places: walk
 
 
 def place(w, term):
-    """resolveM: the local, and then step by step."""
+    """resolve: the local, and then step by step."""
     at, steps = parts(term, "place", 2)
     at = number(at)
     need(at < len(w.locals), "no local", at)
@@ -63,7 +63,7 @@ def place(w, term):
 
 
 def field_step(w, spot, k):
-    """fieldOf: the k-th field in the order written; of a slice the pointer and the count, of a variant the tag and then its fields."""
+    """field_of: the k-th field in the order written; of a slice the pointer and the count, of a variant the tag and then its fields."""
     k = number(k)
     if isinstance(spot.type, Slice):
         need(k < 2, "a slice has no field", k)
@@ -79,15 +79,18 @@ def field_step(w, spot, k):
 
 
 def variant_step(w, spot, k):
-    """variantOf: the same place, seen as one variant; nothing is read."""
+    """variant_of: the same place, seen as one variant; nothing is read."""
     need(w.shapes.is_enum(spot.type), "a variant of", spot.type)
     return Value(spot.text, Variant(spot.type, number(k)), "", spot.checks)
 
 
 def deref_step(w, spot, to):
-    """walkM's deref: the place that the pointer is, at the type that the step names; the pointer in C points to just that type."""
+    """walk's deref: the place that the pointer is, at the type that the step names. The pointer in C points to just that type, or to an array and so to its first
+    element, which is the step's."""
     to = w.type_of(to)
-    need(isinstance(spot.type, Ref) and spot.type.to == to, "a deref of", spot.type, "at", to)
+    need(isinstance(spot.type, Ref), "a deref of", spot.type)
+    first = pointee(spot.type.to) if isinstance(spot.type.to, Array) else None
+    need(to in (spot.type.to, first), "a deref of", spot.type, "at", to)
     return Value(spot.text, Behind(spot.type.mutable, to), spot.room, spot.checks)
 
 
@@ -98,10 +101,10 @@ def times(text, factor):
     return text if factor == 1 else "%s * %d" % (text, factor)
 
 
-# ---- operands: evalOpdM
+# ---- operands: eval_opd
 
 
-WORDS = {"true": Value("1", Bool()), "false": Value("0", Bool()), "unit": Value("", Unit())}
+WORDS = {"opd_true": Value("1", Bool()), "opd_false": Value("0", Bool()), "opd_unit": Value("", Unit())}
 
 
 def operand(w, term):
@@ -114,14 +117,14 @@ def operand(w, term):
 
 def int_operand(w, term):
     """int: the number, of its width, which it fits."""
-    width, value = map(number, parts(term, "int", 2))
-    ty = w.type_of(["tyInt", str(width)])
-    need(value < 2**width, "a number over its width", term)
-    return Value("UINT%d_C(%d)" % (width, value), ty)
+    width, value = parts(term, "int", 2)
+    ty, value = w.type_of(["ty_int", width]), number(value)
+    need(value < 2**ty.width, "a number over its width", term)
+    return Value("UINT%d_C(%d)" % (ty.width, value), ty)
 
 
 def copy_operand(w, term):
-    """copy: what the place holds. Behind a pointer only integers are read; readM asks that they lie in the block."""
+    """copy: what the place holds. Behind a pointer only integers are read; load asks that they lie in the block."""
     spot = place(w, parts(term, "copy", 1)[0])
     need(not isinstance(spot.type, Variant), "a copy of a variant")
     if not isinstance(spot.type, Behind):
@@ -149,19 +152,19 @@ def asked(condition):
     return () if found or not condition or condition.startswith("UINT64_C(0) <= ") else (condition,)
 
 
-# ---- right-hand sides: evalRvM. Each is handed the place that its value is stored to, and gives the value, or None if it has stored it itself.
+# ---- right-hand sides: eval_rv. Each is handed the place that its value is stored to, and gives the value, or None if it has stored it itself.
 
 
 def opd_right(w, term, target):
-    """rvOpd: the operand's value."""
-    value = operand(w, parts(term, "rvOpd", 1)[0])
+    """rv_opd: the operand's value."""
+    value = operand(w, parts(term, "rv_opd", 1)[0])
     same(target.type, value.type, value.text)
     return value
 
 
 @dataclass
 class Operator:
-    """c: the C expression of the operands a and b. kind: see `result`. check: what op2Chk asks, in C. why: why both mean the same."""
+    """c: the C expression of the operands a and b. kind: see `result`. check: what op2_chk asks, in C. why: why both mean the same."""
 
     c: str
     kind: str
@@ -169,7 +172,7 @@ class Operator:
     why: str
 
 
-FITS = "C's own operation on unsigned numbers; op2Chk's fact says that nothing wraps, and narrow numbers, which C widens to int, are cut back to their width"
+FITS = "C's own operation on unsigned numbers; op2_chk's fact says that nothing wraps, and narrow numbers, which C widens to int, are cut back to their width"
 OPERATORS = {
     "add unsigned": Operator("{a} + {b}", "number", "{a} <= {max} - {b}", "a + b where Fits w (a + b). " + FITS),
     "sub unsigned": Operator("{a} - {b}", "number", "{b} <= {a}", "a - b where b ≤ a. " + FITS),
@@ -178,9 +181,9 @@ OPERATORS = {
     "rem unsigned": Operator("{a} % {b}", "number", "{b} != 0", "a % b of natural numbers where 0 < b. " + FITS),
     "shl": Operator("({wide}){a} << {b}", "number", "{b} < {bits}", "(a * 2 ^ b) % 2 ^ w where b < w: an unsigned shift drops what is over C's type, and the cut the rest"),
     "shr unsigned": Operator("{a} >> {b}", "number", "{b} < {bits}", "a / 2 ^ b where b < w, which is C's shift of an unsigned number"),
-    "and": Operator("{a} & {b}", "bits", "", "bit by bit, or && of two truth values, which are 0 or 1 in C; both are values already"),
-    "or": Operator("{a} | {b}", "bits", "", "as and"),
-    "xor": Operator("{a} ^ {b}", "bits", "", "bit by bit, or whether two truth values differ"),
+    "bit_and": Operator("{a} & {b}", "bits", "", "bit by bit, or && of two truth values, which are 0 or 1 in C; both are values already"),
+    "bit_or": Operator("{a} | {b}", "bits", "", "as bit_and"),
+    "bit_xor": Operator("{a} ^ {b}", "bits", "", "bit by bit, or whether two truth values differ"),
     "eq": Operator("{a} == {b}", "equal", "", "whether both are the same number or truth value"),
     "ne": Operator("{a} != {b}", "equal", "", "whether they are not"),
     "lt unsigned": Operator("{a} < {b}", "order", "", "ltb: both have one width and are unsigned; where C widens them to int, they keep their values"),
@@ -239,7 +242,7 @@ def op1_right(w, term, target):
 
 
 def not_one(w, op, value, target):
-    """bitNot: of a truth value the other one, of a number (2 ^ w - 1) - a: every bit turned, C's ~ cut back to the width."""
+    """bit_not: of a truth value the other one, of a number (2 ^ w - 1) - a: every bit turned, C's ~ cut back to the width."""
     need(isinstance(value.type, (Bool, Int)), "not of", value.type)
     same(target.type, value.type, "not")
     sign = "!" if value.type == Bool() else "~"
@@ -247,8 +250,8 @@ def not_one(w, op, value, target):
 
 
 def cast_one(w, op, value, target):
-    """cast unsigned unsigned w: the same number in another width, which op1Chk says it fits (a truth value is 0 or 1): C's conversion keeps it."""
-    ty = w.type_of(["tyInt", op[-1]])
+    """cast unsigned unsigned w: the same number in another width, which op1_chk says it fits (a truth value is 0 or 1): C's conversion keeps it."""
+    ty = w.type_of(["ty_int", op[-1]])
     need(isinstance(value.type, (Bool, Int)), "a cast of", value.type)
     same(target.type, ty, "cast")
     narrow = isinstance(value.type, Int) and value.type.width > ty.width
@@ -257,14 +260,14 @@ def cast_one(w, op, value, target):
 
 
 def zeros_one(w, op, value, target):
-    """trailingZeros (logic/Lib/Count.antt): the zeros below the lowest digit that is set, all 64 of 0; a number of 32 bits. HELPERS has it in C."""
-    need(value.type == Int(64), "trailingZeros of", value.type)
-    same(target.type, Int(32), "trailingZeros")
+    """count_trailing_zeros (logic/Lib/Count.antt): the zeros below the lowest digit that is set, all 64 of 0; a number of 32 bits. HELPERS has it in C."""
+    need(value.type == Int(64), "count_trailing_zeros of", value.type)
+    same(target.type, Int(32), "count_trailing_zeros")
     w.files.helpers.add("trailing_zeros")
     return Value("trailing_zeros(%s)" % value.text, Int(32), "", value.checks)
 
 
-ONE = {"not": not_one, "cast unsigned unsigned": cast_one, "trailingZeros": zeros_one}
+ONE = {"bit_not": not_one, "cast unsigned unsigned": cast_one, "count_trailing_zeros": zeros_one}
 
 HELPERS = {
     "trailing_zeros": """\
@@ -286,8 +289,8 @@ static uint32_t trailing_zeros(uint64_t x)
 
 
 def addr_right(w, term, target):
-    """addrOf: the place itself, nothing is read. Behind a pointer it is that pointer; a local array that lies in memory is pointed to at its first element."""
-    spot = place(w, parts(term, "addrOf", 1)[0])
+    """addr_of: the place itself, nothing is read. Behind a pointer it is that pointer; a local array that lies in memory is pointed to at its first element."""
+    spot = place(w, parts(term, "addr_of", 1)[0])
     if isinstance(spot.type, Behind):
         got = Value(spot.text, Ref(spot.type.mutable, spot.type.to), spot.room, spot.checks)
     else:
@@ -321,7 +324,7 @@ def aggregate_parts(w, ty, terms):
     if isinstance(ty, Array):
         return [""] * ty.count, [ty.of] * ty.count
     if w.shapes.is_enum(ty):
-        need(terms and terms[0][:2] == ["int", "8"], "an enum's tag is no number")
+        need(terms and terms[0][:2] == ["int", "w8"], "an enum's tag is no number")
         variant = number(terms[0][2])
         found = [w.shapes.variant_field(ty, variant, k) for k in range(len(w.shapes.shape(ty, "variants")[variant]) + 1)]
     else:
@@ -341,10 +344,10 @@ def repeat_right(w, term, target):
     return None
 
 
-RIGHT = {"rvOpd": opd_right, "op2": op2_right, "op1": op1_right, "addrOf": addr_right, "aggregate": aggregate_right, "repeat": repeat_right}
+RIGHT = {"rv_opd": opd_right, "op2": op2_right, "op1": op1_right, "addr_of": addr_right, "aggregate": aggregate_right, "repeat": repeat_right}
 
 
-# ---- statements: execIn
+# ---- statements: code
 
 
 def statement(w, term):
@@ -361,7 +364,7 @@ def skip(w, term):
 
 
 def return_(w, term):
-    """return: the function's value is what local 0 holds (atReturnM)."""
+    """return: the function's value is what local 0 holds (at_return)."""
     w.line("return;" if w.locals[0] == Unit() else "return v0;")
 
 
@@ -376,7 +379,7 @@ def assign(w, term):
         checks += (within(target, size(target.type.to)),)
         target = Value("*" + target.text, target.type.to)
     if target.type == Unit():
-        need(right == ["rvOpd", "unit"], "a unit's value", right)
+        need(right == ["rv_opd", "opd_unit"], "a unit's value", right)
         return
     need(not isinstance(target.type, Variant), "a store to a variant")
     value = RIGHT[right[0]](w, right, target)
@@ -387,10 +390,27 @@ def assign(w, term):
             w.keep_room(to, value.room)
 
 
+def lend_static(w, term):
+    """lend_static: a reference to a constant in memory that is never written or freed, a block for each run of it. In C it is one constant for all runs: what
+    tells two blocks apart is only a comparison of pointers, which isn't a form here."""
+    to, ty, held = parts(term, "lend_static", 3)
+    target, ty = place(w, to), w.type_of(ty)
+    need(items(to[2]) == [], "a constant lent to a part")
+    same(target.type, Ref(False, ty), "a constant")
+    need(isinstance(ty, Array), "a constant of", ty)
+    width, numbers = parts(held, "c_ints", 2)
+    numbers = items(numbers)
+    need(w.type_of(["ty_int", width]) == ty.of and len(numbers) == ty.count, "a constant", held, "for", ty)
+    need(all(number(one) < 2**ty.of.width for one in numbers), "a number over its width", held)
+    w.line("%s = %s.e;" % (target.text, w.constant(ty, numbers)))
+
+
 def call(w, term):
     """call: the values of the operands are handed over, and the result is stored to the place, which here is a whole local."""
     how, given, to = parts(term, "call", 3)
-    symbol = str(parts(parts(how, "direct", 1)[0], "fnRef", 1)[0])
+    symbol, given_types = parts(how, "fn", 2)
+    need(given_types == "no_args", "a call at types:", how)
+    symbol = str(symbol)
     types = w.signature(symbol)
     values = [operand(w, one) for one in items(given)]
     need(len(values) == len(types) - 1, "a call of", symbol, "with", len(values), "values")
@@ -406,10 +426,10 @@ def call(w, term):
 
 
 def if_(w, term):
-    """cond (printed as if): the first body if the operand is true, else the second."""
-    asked, then, other = parts(term, "if", 3)
+    """cond: the first body if the operand is true, else the second."""
+    asked, then, other = parts(term, "cond", 3)
     value = operand(w, asked)
-    need(value.type == Bool(), "if of", value.type)
+    need(value.type == Bool(), "cond of", value.type)
     w.check(value.checks)
     if then == "skip" and other != "skip":
         w.line("if (!%s) {" % value.text)
@@ -425,14 +445,14 @@ def if_(w, term):
 
 def switch(w, term):
     """switch: the first arm that has the number among its keys. No key stands twice, so C may take them in any order. Without a default no other number comes
-    (execArms is stuck there), and the last arm takes its place, so that C sees every way out."""
+    (cases is stuck there), and the last arm takes its place, so that C sees every way out."""
     asked, arms = parts(term, "switch", 2)
     value = operand(w, asked)
-    need(isinstance(value.type, Int) and arms != "noDefault", "switch of", value.type)
+    need(isinstance(value.type, Int) and arms != "no_default", "switch of", value.type)
     w.check(value.checks)
     w.line("switch (%s) {" % value.text)
     seen = set()
-    while arms != "noDefault":
+    while arms != "no_default":
         if arms[0] == "default":
             w.line("default:")
             w.inside(parts(arms, "default", 1)[0])
@@ -443,7 +463,7 @@ def switch(w, term):
         seen.update(keys)
         for key in keys:
             w.line("case %d:" % key)
-        if arms == "noDefault":
+        if arms == "no_default":
             w.line("default:")
             w.check((" || ".join("%s == %d" % (value.text, key) for key in keys),), 1)
         w.inside(body)
@@ -452,14 +472,14 @@ def switch(w, term):
 
 
 def block(w, term):
-    """block: its body; an exit of 0 in it goes on behind it (afterBlockM)."""
+    """block: its body; an exit of 0 in it goes on behind it (after_block_m)."""
     target = w.open_target()
     statement(w, parts(term, "block", 1)[0])
     w.close_target(target)
 
 
 def loop(w, term):
-    """loop: its body again and again; an exit of 0 in it begins the next turn (afterTurnM)."""
+    """loop: its body again and again; an exit of 0 in it begins the next turn (after_turn)."""
     w.line("for (;;) {")
     w.depth += 1
     target = w.open_target()
@@ -474,4 +494,4 @@ def exit_(w, term):
     w.line("goto %s;" % w.target(number(parts(term, "exit", 1)[0])))
 
 
-STATEMENTS = {"skip": skip, "return": return_, "assign": assign, "call": call, "if": if_, "switch": switch, "block": block, "loop": loop, "exit": exit_}
+STATEMENTS = {"skip": skip, "return": return_, "assign": assign, "lend_static": lend_static, "call": call, "cond": if_, "switch": switch, "block": block, "loop": loop, "exit": exit_}

@@ -1,4 +1,5 @@
-"""The MIR that `rt mir` prints, read. Its constructors are those of logic/Mir/Syntax.antt: a term is a word, a text in quotes, or terms in brackets.
+"""The MIR as libraries.py prints it, read. Its constructors are those of logic/Mir/Syntax.antt: a term is a word, a text in quotes, or terms in brackets; a list
+has the head `list`.
 
 Whatever isn't known here ends the translation: `need` raises Stop.
 """
@@ -42,6 +43,13 @@ def parse(source):
     return open_lists[0]
 
 
+def printed(term):
+    """A term as `parse` reads it."""
+    if isinstance(term, Text):
+        return '"%s"' % term
+    return term if isinstance(term, str) else "(%s)" % " ".join(printed(part) for part in term)
+
+
 def shown(term):
     """A term as it was printed, cut short."""
     text = "(%s)" % " ".join(shown(part) for part in term) if isinstance(term, list) else str(term)
@@ -54,13 +62,10 @@ def parts(term, head, count):
     return term[1:]
 
 
-def items(term, kind="l"):
-    """A list's members: lcons and lnil, of types tcons and tnil, of lists of types ttcons and ttnil."""
-    found = []
-    while term != kind + "nil":
-        first, term = parts(term, kind + "cons", 2)
-        found.append(first)
-    return found
+def items(term):
+    """A list's members."""
+    need(isinstance(term, list) and term and term[0] == "list", "no list:", term)
+    return term[1:]
 
 
 def number(word):
@@ -73,29 +78,29 @@ def number(word):
 
 @dataclass(frozen=True)
 class Int:
-    """tyInt: of so many bits. usize is 64 bits wide wherever the C is compiled."""
+    """ty_int: of so many bits. usize is 64 bits wide wherever the C is compiled."""
 
     width: int
 
 
 @dataclass(frozen=True)
 class Bool:
-    """tyBool"""
+    """ty_bool"""
 
 
 @dataclass(frozen=True)
 class Unit:
-    """tyUnit"""
+    """ty_unit"""
 
 
 @dataclass(frozen=True)
 class Raw:
-    """tyPtr: it says nothing of what it points to."""
+    """ty_ptr: it says nothing of what it points to."""
 
 
 @dataclass(frozen=True)
 class Ref:
-    """tyRef; its lifetime is left off, which the machine doesn't read."""
+    """ty_ref; its lifetime is left off, which the machine doesn't read."""
 
     mutable: bool
     to: object
@@ -103,7 +108,7 @@ class Ref:
 
 @dataclass(frozen=True)
 class Array:
-    """tyArray"""
+    """ty_array"""
 
     of: object
     count: int
@@ -111,7 +116,7 @@ class Array:
 
 @dataclass(frozen=True)
 class Slice:
-    """tyStruct "&[]": a reference to the first element, and how many there are."""
+    """ty_struct "&[]": a reference to the first element, and how many there are."""
 
     mutable: bool
     of: object
@@ -119,13 +124,13 @@ class Slice:
 
 @dataclass(frozen=True)
 class Named:
-    """tyNamed: a declared struct or enum, by its path."""
+    """ty_named: a declared struct or enum, by its path."""
 
     symbol: str
 
 
-WIDTHS = (8, 16, 32, 64)
-BARE = {"tyBool": Bool(), "tyUnit": Unit(), "tyPtr": Raw()}
+WIDTHS = {"w8": 8, "w16": 16, "w32": 32, "w64": 64}
+BARE = {"ty_bool": Bool(), "ty_unit": Unit(), "ty_ptr": Raw()}
 
 
 def type_of(term):
@@ -137,36 +142,36 @@ def type_of(term):
 
 
 def int_type(term):
-    width = number(parts(term, "tyInt", 1)[0])
+    width = parts(term, "ty_int", 1)[0]
     need(width in WIDTHS, "unknown width", width)
-    return Int(width)
+    return Int(WIDTHS[width])
 
 
 def ref_type(term):
-    _, kind, to = parts(term, "tyRef", 3)
+    _, kind, to = parts(term, "ty_ref", 3)
     need(kind in ("mut", "imm"), "unknown reference", term)
     return Ref(kind == "mut", type_of(to))
 
 
 def array_type(term):
-    of, count = parts(term, "tyArray", 2)
-    return Array(type_of(of), number(parts(count, "lenLit", 1)[0]))
+    of, count = parts(term, "ty_array", 2)
+    return Array(type_of(of), number(count))
 
 
 def slice_type(term):
-    name, fields = parts(term, "tyStruct", 2)
-    fields = [type_of(one) for one in items(fields, "t")]
+    name, fields = parts(term, "ty_struct", 2)
+    fields = [type_of(one) for one in items(fields)]
     need(name == "&[]" and len(fields) == 2 and isinstance(fields[0], Ref) and fields[1] == Int(64), "unknown struct", term)
     return Slice(fields[0].mutable, fields[0].to)
 
 
 def named_type(term):
-    symbol, lifetimes = parts(parts(term, "tyNamed", 1)[0], "pair", 2)
-    need(lifetimes == "lnil", "a declared type with lifetimes", term)
+    symbol, lifetimes, types = parts(term, "ty_named", 3)
+    need(items(lifetimes) == [] and items(types) == [], "a declared type with lifetimes or types:", term)
     return Named(str(symbol))
 
 
-TYPES = {"tyInt": int_type, "tyRef": ref_type, "tyArray": array_type, "tyStruct": slice_type, "tyNamed": named_type}
+TYPES = {"ty_int": int_type, "ty_ref": ref_type, "ty_array": array_type, "ty_struct": slice_type, "ty_named": named_type}
 
 
 # ---- programs
@@ -174,7 +179,7 @@ TYPES = {"tyInt": int_type, "tyRef": ref_type, "tyArray": array_type, "tyStruct"
 
 @dataclass
 class Function:
-    """fnItem: local 0 is the result, then come the parameters, then the rest. in_memory: the locals whose address may be taken."""
+    """Fn: local 0 is the result, then come the parameters, then the rest. in_memory: the locals whose address may be taken."""
 
     symbol: str
     params: int
@@ -185,13 +190,14 @@ class Function:
 
 
 def function_of(symbol, term):
-    _, _, params, local_terms, body = parts(term, "fnItem", 5)
+    _, outlives, ty_params, givens, params, local_terms, body = parts(term, "function", 7)
+    need(outlives == ty_params == ["list"] and givens == "0", "a function of types or with bounds:", outlives, ty_params, givens)
     types, homes = [], []
     for one in items(local_terms):
         ty, home = parts(one, "local", 2)
-        need(home in ("valueLocal", "memorySlot"), "unknown home", home)
+        need(home in ("value_local", "memory_slot"), "unknown home", home)
         types.append(type_of(ty))
-        homes.append(home == "memorySlot")
+        homes.append(home == "memory_slot")
     return Function(symbol, number(params), types, homes, body, term)
 
 
@@ -207,24 +213,23 @@ class Program:
 def shape_of(term):
     need(isinstance(term, list) and len(term) == 2 and term[0] in ("fields", "variants"), "unknown shape", term)
     if term[0] == "fields":
-        return ("fields", [type_of(one) for one in items(term[1], "t")])
-    return ("variants", [[type_of(one) for one in items(variant, "t")] for variant in items(term[1], "tt")])
+        return ("fields", [type_of(one) for one in items(term[1])])
+    return ("variants", [[type_of(one) for one in items(variant)] for variant in items(term[1])])
 
 
 def program_of(source, wanted):
     """The program that a source prints, with the shapes of those functions' types that `wanted` reach."""
-    term = parse(source)
-    functions, _ = parts(term, "program", 2)
     terms = {}
-    for one in items(functions):
-        need(isinstance(one, list) and len(one) in (3, 4) and one[0] == "fn-def", "no function:", one)
-        need(str(one[1]) not in terms, "two functions are named", one[1])
-        terms[str(one[1])] = one
+    for one in parse(source):
+        symbol = str(parts(one, "fn_def", 3)[0])
+        need(symbol not in terms, "two functions are named", symbol)
+        terms[symbol] = one
     program = Program({}, {})
     for symbol in reached(terms, wanted):
         program.terms[symbol] = terms[symbol][2]
-        for pair in items(terms[symbol][3]) if len(terms[symbol]) == 4 else []:
-            name, shape = parts(pair, "pair", 2)
+        for entry in items(terms[symbol][3]):
+            name, kinds, shape = parts(entry, "entry", 3)
+            need(kinds == ["list"], "a declared type of types:", entry)
             need(program.shapes.setdefault(str(name), shape_of(shape)) == shape_of(shape), "two shapes of", name)
     return program
 
@@ -235,7 +240,7 @@ def calls_in(term):
     while left:
         one = left.pop()
         if isinstance(one, list):
-            if one and one[0] == "fnRef":
+            if one and one[0] == "fn":
                 found.append(str(one[1]))
             left += one
     return found

@@ -55,7 +55,7 @@ class Shapes:
         return self.fields[ty.symbol][k], held[k]
 
     def variant_field(self, ty, variant, k):
-        """The C name and the type of a variant's field; field 0 is the tag (logic/Prog/Memory.antt, withTag)."""
+        """The C name and the type of a variant's field; field 0 is the tag (logic/Prog/Memory.antt, with_tag)."""
         held = self.shape(ty, "variants")
         need(variant < len(held) and k <= len(held[variant]), ty.symbol, "has no field", k, "of variant", variant)
         self.name(ty)

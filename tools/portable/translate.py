@@ -3,7 +3,7 @@
 
     translate.py MIR HEADER ROOT >j8.c
 
-MIR: what `rt mir j8` prints. HEADER: include/j8.h, whose functions are exported; what they reach is static. ROOT: the folder that holds crates/, for names.
+MIR: what libraries.py prints. HEADER: include/j8.h, whose functions are exported; what they reach is static. ROOT: the folder that holds crates/, for names.
 mir.py reads the MIR, forms.py has each form's C and why it means the same, shapes.py each type's, header.py the functions of j8.h, sources.py the names.
 A form or a type that these don't know ends the translation with what it is and where.
 """
@@ -142,7 +142,8 @@ class Writer:
             return
         for part in term:
             if isinstance(part, list) and part[:1] == ["place"]:
-                whole = part[2] == "lnil" and (term[0] == "assign" and part is term[1] or term[0] == "call" and part is term[3])
+                stored = {"assign": 1, "lend_static": 1, "call": 3}.get(term[0])
+                whole = part[2] == ["list"] and stored is not None and part is term[stored]
                 (self.stored if whole else self.read).add(number(part[1]))
             else:
                 self.note_uses(part)
@@ -153,7 +154,7 @@ class Writer:
 
         def walk(term):
             if isinstance(term, list):
-                if term[:1] == ["assign"] and term[1][2] == "lnil" and self.function.locals[number(term[1][1])] == Raw():
+                if term[:1] == ["assign"] and term[1][2] == ["list"] and self.function.locals[number(term[1][1])] == Raw():
                     found.append((number(term[1][1]), term[2]))
                 for part in term:
                     walk(part)
@@ -164,9 +165,9 @@ class Writer:
                 made = operand(self, right[2]).type
                 made = made if made == Raw() or not isinstance(made.to, Array) else Ref(made.mutable, made.to.of)
             else:
-                need(right[0] == "addrOf", "a raw pointer made by", right[0])
+                need(right[0] == "addr_of", "a raw pointer made by", right[0])
                 spot = place(self, right[1])
-                made = Ref(spot.type.mutable, spot.type.to)
+                made = Ref(True, spot.type) if isinstance(spot.type, Array) else Ref(spot.type.mutable, spot.type.to)
             need(self.locals[at] in (Raw(), made), "a raw pointer to two types:", self.locals[at], made)
             self.locals[at] = made
         need(Raw() not in self.locals, "a raw pointer that was made of nothing")
