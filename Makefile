@@ -1,6 +1,6 @@
 # `make` alone prints what there is to make.
 .PHONY: help test demo archive command examples portable portable-all fuzz install uninstall stack size axioms compare load faults limits bench before clean
-# Two runs of rt would share target/.
+# Two runs of rt would share the crates' out/.
 .NOTPARALLEL:
 
 # Where `make install` puts things; a folder that stands for / while a package is put together.
@@ -8,6 +8,8 @@ PREFIX = /usr/local
 DESTDIR =
 export PREFIX DESTDIR
 STRICT = -O2 -Wall -Wextra -Werror -pedantic -Iinclude
+# What the crates are made of; out/ is rt's.
+SOURCES = crates.txt $(shell find crates -name out -prune -o -type f -print)
 
 help:
 	@echo "make demo        the main job, on samples"
@@ -30,13 +32,13 @@ test:
 
 archive: target/staticlib/libj8.a
 
-target/staticlib/libj8.a: crates.txt $(shell find crates -type f)
-	@bash tools/prove.sh target/archive.log rt staticlib j8
+target/staticlib/libj8.a: $(SOURCES) tools/archive.sh tools/prove.sh
+	@bash tools/archive.sh j8 j8_c
 
 # The library as one C file, made from the proved MIR.
 portable: target/portable/j8.c
 
-target/portable/j8.c: crates.txt include/j8.h $(wildcard tools/portable/*) $(shell find crates -type f)
+target/portable/j8.c: $(SOURCES) include/j8.h $(wildcard tools/portable/*)
 	@bash tools/portable/make.sh
 
 # The C file's tests, those of the gate and on rarer processors.
@@ -51,8 +53,8 @@ fuzz: portable archive
 
 command: target/bin/j8
 
-target/bin/j8: crates.txt command/main.c tools/link.sh $(shell find crates -type f)
-	@bash tools/prove.sh target/command.log rt staticlib command
+target/bin/j8: $(SOURCES) command/main.c tools/link.sh tools/archive.sh tools/prove.sh
+	@bash tools/archive.sh command command_c
 	@bash tools/link.sh
 
 demo: command
@@ -87,9 +89,10 @@ size: archive
 	  [ $$group = NONE ] && none=$$bytes || echo "$$group: $$((bytes - none)) bytes of code and constants"; \
 	done
 
-# Proves what has changed, and prints what each crate's proof rests on.
+# Proves what has changed, and prints what the proofs of both static libraries rest on.
 axioms:
-	@bash tools/prove.sh target/check.log rt check
+	@bash tools/archive.sh j8 j8_c
+	@bash tools/archive.sh command command_c
 	@bash .ci/axioms
 
 # Every function beside the reference, J8_SECONDS for each entry (20), from J8_SEED (1), J8_JOBS at once (the cores).
@@ -120,4 +123,4 @@ before: archive
 	bash bench/before.sh "$(BEFORE)"
 
 clean:
-	rm -rf target rust/target bench/target
+	rm -rf target rust/target bench/target crates/*/out

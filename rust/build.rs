@@ -61,14 +61,14 @@ pub fn archiver(compiler: &str) -> String {
 }
 
 /// A crate of the library and all that it stands on, by the lines of crates.txt:
-/// a name, a colon, and the names of those.
+/// a name, the word of a static library, a colon, and the names of those.
 pub fn crates_below(lines: &str, name: &str) -> BTreeSet<String> {
     let mut found = BTreeSet::new();
     let mut open = vec![name];
     while let Some(name) = open.pop() {
         let line = lines.lines().find_map(|line| {
             let (crate_name, below) = line.split_once(':')?;
-            (crate_name == name).then_some(below)
+            (crate_name.split_whitespace().next() == Some(name)).then_some(below)
         });
         // The toolchain's own crates have no line.
         if let Some(below) = line {
@@ -87,7 +87,10 @@ pub fn sources(repository: &Path) -> Vec<PathBuf> {
     };
     let crates = repository.join("crates");
     let parts = |name: String| ["src", "specs", "proofs"].map(|part| crates.join(&name).join(part));
-    let mut paths: Vec<PathBuf> = crates_below(&lines, "j8")
+    let mut paths: Vec<PathBuf> = ["j8", "j8_c"]
+        .into_iter()
+        .flat_map(|name| crates_below(&lines, name))
+        .collect::<BTreeSet<String>>()
         .into_iter()
         .flat_map(parts)
         .collect();
@@ -247,8 +250,8 @@ fn folder(home: &Path) -> PathBuf {
         let archive = made(
             &repository,
             "target/staticlib/libj8.a",
-            &[],
-            &["rt", "staticlib", "j8"],
+            &["tools/archive.sh", "tools/prove.sh"],
+            &["bash", "tools/archive.sh", "j8", "j8_c"],
         );
         return archive.parent().expect("a folder").to_path_buf();
     }

@@ -58,6 +58,13 @@ fn crates_that_the_archive_is_made_of() {
     let lines = "# a: z\nprelude:\nunits: prelude\nj8: units io\nj8_claims: j8\n";
     let below = build::crates_below(lines, "j8");
     assert_eq!(below.iter().collect::<Vec<_>>(), ["j8", "prelude", "units"]);
+    // A static library's name has a word behind it.
+    let lines = format!("{lines}j8_c staticlib: j8\n");
+    let below = build::crates_below(&lines, "j8_c");
+    assert_eq!(
+        below.iter().collect::<Vec<_>>(),
+        ["j8", "j8_c", "prelude", "units"]
+    );
     // The repository's own list has the C interface and leaves the command out.
     let list = concat!(env!("CARGO_MANIFEST_DIR"), "/../crates.txt");
     let below = build::crates_below(&std::fs::read_to_string(list).unwrap(), "j8");
