@@ -1,175 +1,238 @@
 #!/usr/bin/env python3
-"""Holds the MIR that `rt mir` prints to the MIR in the proved libraries, which the archive was linked from: every function that the header's reach must stand
-in one library and be the same there, types, locals and body.
+"""Holds the MIR of the proved libraries, as libraries.py prints it, to the MIR that the proofs are about, as rt writes it out for a person to read: types, locals and
+body of every function, and the declared types that it names.
 
-    same.py MIR HEADER RLIBS
+    same.py MIR STATED
 
-RLIBS: the folder of the proved libraries, target/rlib; each has its functions in toolchain/mir.json.
+STATED: the folder of `rt check --generated`, of every crate that MIR has functions of. A function's MIR is there as terms of antt, cut into definitions that
+name one another. What isn't known here ends the run.
 """
-import glob
-import json
 import os
+import re
 import sys
 
-from header import Header
-from mir import Stop, items, need, parse, parts, reached
+from mir import WIDTHS, Stop, Text, need, number, parse, parts, shown
 
-WORDS = {
-    "Bool": "tyBool", "Unit": "tyUnit", "Ptr": "tyPtr", "Erased": "erased", "Static": "static", "Mut": "mut", "Imm": "imm",
-    "ValueLocal": "valueLocal", "MemorySlot": "memorySlot",
-}
-
-
-def only(held):
-    """The one name of an object, and what stands there."""
-    need(isinstance(held, dict) and len(held) == 1, "no form of one name:", held)
-    return next(iter(held.items()))
+DEFINITION = re.compile(r"^(?:abbrev|unfoldable) pub (\S+) :\s(?:.*?)^\1 =\s(.*?)(?=\n\n|\Z)", re.M | re.S)
+USE = re.compile(r"^use (\S+)(?: as (\S+))?$", re.M)
+TOKEN = re.compile(r'\s*(?:([(){},;=])|"([^"\\]*)"|([^\s(){},;="\\]+))')
+NAMES = ("Syntax", "MapTy", "Table")
+CONS = {"List.◌∷◌", "Syntax.tcons", "Syntax.ttcons", "Syntax.ccons"}
+NIL = {"List.[]", "Syntax.tnil", "Syntax.ttnil", "Syntax.cnil"}
+FIELDS = ("lifetimes", "outlives", "ty_params", "givens", "params", "locals", "body")
 
 
-def word(held):
-    need(held in WORDS, "unknown word", held)
-    return WORDS[held]
+class Tuple(list):
+    """A tuple's parts."""
 
 
-def listed(terms, kind="l"):
-    term = kind + "nil"
-    for one in reversed(terms):
-        term = [kind + "cons", one, term]
-    return term
+class Record(dict):
+    """A record's fields."""
 
 
-def lifetime(held):
-    return word(held) if isinstance(held, str) else ["named", str(held["Named"])]
-
-
-def type_term(held):
-    if isinstance(held, str):
-        return word(held)
-    name, of = only(held)
-    if name == "Int":
-        return ["tyInt", str(of)]
-    if name == "Ref":
-        return ["tyRef", lifetime(of[0]), word(of[1]), type_term(of[2])]
-    if name == "Array":
-        return ["tyArray", type_term(of[0]), ["lenLit", str(of[1]["Lit"])]]
-    if name == "Struct":
-        return ["tyStruct", of[0], listed([type_term(one) for one in of[1]], "t")]
-    need(name == "Named", "unknown type", name)
-    return ["tyNamed", ["pair", of["name"], listed([lifetime(one) for one in of["lifetimes"]])]]
-
-
-def place(held):
-    steps = []
-    for name, of in map(only, held["steps"]):
-        steps.append([name.lower(), type_term(of) if name == "Deref" else str(of)])
-    return ["place", str(held["local"]), listed(steps)]
-
-
-def operand(held):
-    if isinstance(held, str):
-        return held.lower()
-    name, of = only(held)
-    if name == "Copy":
-        return ["copy", place(of)]
-    need(name == "Int", "unknown operand", name)
-    return ["int", str(of["width"]), str(of["value"])]
-
-
-def operation(held):
-    if isinstance(held, str):
-        return held[0].lower() + held[1:]
-    name, of = only(held)
-    return [name.lower()] + [str(one).lower() for one in (of if isinstance(of, list) else [of])]
-
-
-def right(held):
-    name, of = only(held)
-    if name == "Opd":
-        return ["rvOpd", operand(of)]
-    if name in ("Op1", "Op2"):
-        return [name.lower(), operation(of[0])] + [operand(one) for one in of[1:]]
-    if name == "AddrOf":
-        return ["addrOf", place(of)]
-    if name == "Aggregate":
-        return ["aggregate", listed([operand(one) for one in of])]
-    need(name == "Repeat", "unknown right-hand side", name)
-    return ["repeat", operand(of[0]), str(of[1])]
-
-
-def body(held):
-    """The next statement of a list in which each stands before those inside it."""
-    one = next(held)
-    name, of = (one, None) if isinstance(one, str) else only(one)
-    if name in ("Skip", "Return"):
-        return name.lower()
-    if name in ("Block", "Loop"):
-        return [name.lower(), body(held)]
-    if name == "Seq":
-        return ["seq", body(held), body(held)]
-    if name == "Assign":
-        return ["assign", place(of[0]), right(of[1])]
-    if name == "If":
-        return ["if", operand(of), body(held), body(held)]
-    if name == "Exit":
-        return ["exit", str(of)]
-    if name == "Call":
-        return ["call", ["direct", ["fnRef", of[0]["Direct"]]], listed([operand(one) for one in of[1]]), place(of[2])]
-    need(name == "Switch", "unknown statement", name)
-    return ["switch", operand(of[0]), arms(of[1], of[2], held)]
-
-
-def arms(keys, has_default, held):
-    if not keys:
-        return ["default", body(held)] if has_default else "noDefault"
-    return ["arm", listed([str(key) for key in keys[0]]), body(held), arms(keys[1:], has_default, held)]
-
-
-def shape(held):
-    name, of = only(held)
-    if name == "Fields":
-        return ["fields", listed([type_term(one) for one in of], "t")]
-    need(name == "Variants", "unknown shape", name)
-    return ["variants", listed([listed([type_term(one) for one in variant], "t") for variant in of], "tt")]
-
-
-def definition(symbol, held):
-    """A function of a library as `rt mir` prints it."""
-    need(held["outlives"] == [], symbol, "has bounds of lifetimes")
-    local_terms = listed([["local", type_term(one["ty"]), word(one["home"])] for one in held["locals"]])
-    statements = iter(held["body"])
-    item = ["fnItem", str(held["lifetimes"]), "lnil", str(held["params"]), local_terms, body(statements)]
-    need(next(statements, None) is None, symbol, "has statements behind its body")
-    types = [["pair", one["name"], shape(one["shape"])] for one in held["types"]]
-    return ["fn-def", symbol, item] + ([listed(types)] if types else [])
-
-
-def libraries(folder):
-    """Every function of the proved libraries, with its library's name."""
-    found = {}
-    for path in sorted(glob.glob(os.path.join(folder, "*.rlib", "toolchain", "mir.json"))):
-        name = os.path.basename(os.path.dirname(os.path.dirname(path)))
-        with open(path, encoding="utf-8") as file:
-            for symbol, held in json.load(file):
-                need(symbol not in found, symbol, "stands in", name, "and", found.get(symbol, " ")[0])
-                found[symbol] = (name, held)
+def tokens(text):
+    found, at, end = [], 0, len(text.rstrip())
+    while at < end:
+        one = TOKEN.match(text, at)
+        need(one, "no token in", text[at : at + 40])
+        found.append(Text(one.group(2)) if one.group(2) is not None else one.group(1) or one.group(3))
+        at = one.end()
     return found
 
 
+class Reader:
+    """An expression of antt: a word, a text, an application as a list, a tuple or a record."""
+
+    def __init__(self, text):
+        self.tokens, self.at = tokens(text), 0
+
+    def whole(self):
+        made = self.applied()
+        need(self.at == len(self.tokens), "more behind an expression:", self.tokens[self.at : self.at + 5])
+        return made
+
+    def peek(self):
+        return self.tokens[self.at] if self.at < len(self.tokens) else ")"
+
+    def take(self, *wanted):
+        one = self.peek()
+        need(not wanted or not isinstance(one, Text) and one in wanted, "no", wanted, "but", one)
+        self.at += 1
+        return one
+
+    def applied(self):
+        """A word, or one that is applied to others."""
+        found = []
+        while isinstance(self.peek(), Text) or self.peek() not in (")", "}", ",", ";"):
+            found.append(self.single())
+        need(found, "no expression")
+        return found[0] if len(found) == 1 else found
+
+    def single(self):
+        if isinstance(self.peek(), Text):
+            return self.take()
+        one = self.take()
+        if one == "record":
+            return self.record()
+        if one != "(":
+            need(one not in ("=", "{"), "no expression but", one)
+            return one
+        made = [self.applied()]
+        while self.take(",", ")") == ",":
+            if self.peek() == ")":
+                self.take(")")
+                break
+            made.append(self.applied())
+        return made[0] if len(made) == 1 else Tuple(made)
+
+    def record(self):
+        made = Record()
+        self.take("{")
+        while self.peek() != "}":
+            name = self.take()
+            self.take("=")
+            made[name] = self.applied()
+            self.take(";")
+        self.take("}")
+        return made
+
+
+class Module:
+    """A module's definitions, as text until they are asked for, and what its words for other modules stand for."""
+
+    def __init__(self, path):
+        with open(path, encoding="utf-8") as file:
+            text = file.read()
+        self.path = path
+        self.texts = dict(DEFINITION.findall(text))
+        self.uses = {short or whole.split(".")[-1]: whole for whole, short in USE.findall(text)}
+
+    def get(self, name):
+        need(name in self.texts, self.path, "has no", name)
+        return Reader(self.texts[name]).whole()
+
+
+def symbol_of(numbers):
+    """The text of a list of bytes."""
+    need(numbers[0] == "list", "no text:", numbers)
+    return Text(bytes(map(number, numbers[1:])).decode())
+
+
+class Stated:
+    """folder: what `rt check --generated` wrote."""
+
+    def __init__(self, folder):
+        self.folder, self.modules, self.cycles = folder, {}, {}
+
+    def module(self, *names):
+        path = os.path.join(self.folder, *names) + ".antt"
+        need(os.path.isfile(path), "there is no", path)
+        if path not in self.modules:
+            self.modules[path] = Module(path)
+        return self.modules[path]
+
+    def callee(self, module, word):
+        """The symbol of a function that another module names: its Key states it."""
+        alias, _, name = word.partition(".")
+        need(name == "name" and alias in module.uses, "unknown word", word, "in", module.path)
+        found = re.fullmatch(r"Rattle\.(\w+)\.(?:proofs\.(.*)\.Symbol|specs\.contracts\.(.*)\.Key)", module.uses[alias])
+        need(found, "no function:", module.uses[alias])
+        crate, place = found.group(1), (found.group(2) or found.group(3)).split(".")
+        key = self.module("Rattle-%s-specs" % crate, "contracts", *place, "Key")
+        need(key.get("name") == ["Syntax.fn₀", "symbol"], key.path, "has another name")
+        symbol = key.get("symbol")
+        need(isinstance(symbol, Text) and symbol == "::".join([crate] + place), key.path, "is of", symbol)
+        return ["fn", symbol, "no_args"]
+
+    def term(self, module, held):
+        """A term of libraries.py."""
+        if isinstance(held, Text):
+            return held
+        if isinstance(held, Tuple):
+            return ["tuple"] + [self.term(module, one) for one in held]
+        if isinstance(held, list):
+            return self.applied(module, held)
+        need(isinstance(held, str), "a record in a term")
+        if held in NIL:
+            return ["list"]
+        if held in module.texts:
+            return self.term(module, module.get(held))
+        alias, _, name = held.partition(".")
+        if alias in NAMES and name:
+            return name
+        return held if held.isdigit() else self.callee(module, held)
+
+    def applied(self, module, held):
+        head, rest = held[0], held[1:]
+        if head in CONS:
+            need(len(rest) == 2, "a list of", len(rest), "parts")
+            made = ["list"]
+            while isinstance(held, list) and not isinstance(held, Tuple) and held[0] == head:
+                made.append(self.term(module, held[1]))
+                held = held[2]
+            need(held in NIL, "a list that ends in", held)
+            return made
+        need(isinstance(head, str) and head.partition(".")[0] in NAMES, "unknown head", head, "in", module.path)
+        name, given = head.partition(".")[2], [self.term(module, one) for one in rest]
+        if name == "ty_struct":
+            return ["ty_struct", symbol_of(given[0])] + given[1:]
+        if name == "ty_named":
+            _, symbol, lifetimes = given[0]
+            return ["ty_named", symbol_of(symbol), lifetimes] + given[1:]
+        if name in ("int_big", "int_neg"):
+            # The same number as `int`, by a bound that a proof has, or counted from 2 ^ w down.
+            wide, count = given
+            return ["int", wide, count if name == "int_big" else str(2 ** WIDTHS[wide] - number(count))]
+        return [name] + given
+
+    def code(self, symbol):
+        """The module that a function's MIR stands in, and the words for the function and the table there."""
+        crate, *place = symbol.split("::")
+        top = "Rattle-%s-proofs" % crate
+        if os.path.isfile(os.path.join(self.folder, top, *place, "Code", "Mir.antt")):
+            return self.module(top, *place, "Code", "Mir")
+        # A function of a ring of calls stands with the others of it.
+        above = os.path.join(self.folder, top, *place[:-1])
+        need(os.path.isdir(above), "there is no", above)
+        found = [one for one in sorted(os.listdir(above)) if os.path.isfile(os.path.join(above, one, "Code", "+%s.antt" % place[-1]))]
+        need(len(found) == 1, symbol, "stands in", len(found), "places of", above)
+        return self.module(top, *place[:-1], found[0], "Code", "+" + place[-1])
+
+    def definition(self, symbol):
+        module = self.code(symbol)
+        by_name = "by_name" in module.texts
+        if "function" in module.texts and by_name:
+            need(module.get("function") == ["MapTy.spell_fn", "table", "by_name"], module.path, "has a function of another form")
+        held = module.get("by_name" if by_name else "function")
+        need(isinstance(held, Record) and tuple(held) == FIELDS, module.path, "has a function of other fields")
+        entries = []
+        for one in parts(["table"] + self.term(module, "table")[1:], "table", len(self.term(module, "table")) - 1) if by_name else []:
+            _, name, kinds, shape = one
+            entries.append(["entry", symbol_of(name), kinds, shape])
+        return ["fn_def", Text(symbol), ["function"] + [self.term(module, held[name]) for name in FIELDS], ["list"] + entries]
+
+
+def difference(one, other):
+    """Where two terms differ first, as words."""
+    if isinstance(one, list) and isinstance(other, list) and len(one) == len(other):
+        for a, b in zip(one, other):
+            if a != b:
+                return difference(a, b)
+    return "%s and %s" % (shown(one), shown(other))
+
+
 def main():
-    need(len(sys.argv) == 4, "usage: same.py MIR HEADER RLIBS")
+    need(len(sys.argv) == 3, "usage: same.py MIR STATED")
     sys.setrecursionlimit(100000)
-    with open(sys.argv[1], encoding="utf-8") as mir, open(sys.argv[2], encoding="utf-8") as header:
-        functions, _ = parts(parse(mir.read()), "program", 2)
-        wanted = Header(header.read()).functions
-    terms = {str(one[1]): one for one in items(functions)}
-    proved, used = libraries(sys.argv[3]), set()
-    for symbol in reached(terms, wanted):
-        need(symbol in proved, symbol, "is in no proved library")
-        library, held = proved[symbol]
-        need(library == symbol.split("::")[0] + ".rlib", symbol, "is in", library)
-        used.add(library)
-        need(terms[symbol] == definition(symbol, held), symbol, "isn't the same in", library)
-    print("portable: %d functions are those of %d proved libraries" % (len(reached(terms, wanted)), len(used)))
+    stated = Stated(sys.argv[2])
+    with open(sys.argv[1], encoding="utf-8") as file:
+        printed = parse(file.read())
+    need(printed, "no functions")
+    for one in printed:
+        symbol = str(parts(one, "fn_def", 3)[0])
+        other = stated.definition(symbol)
+        need(one == other, symbol, "isn't what is proved:", difference(one, other))
+    print("portable: %d functions are what the proofs are about" % len(printed))
 
 
 if __name__ == "__main__":
