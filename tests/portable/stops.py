@@ -1,9 +1,11 @@
 #!/usr/bin/env python3
 """The translator stops, with a word on what and where, at what it doesn't know and at what doesn't fit: each case below damages the MIR that `make portable`
-printed, the header or a source in one place. So does the comparison with the proved libraries, at one other number.
+printed, the header or a source in one place. So does the reader of the proved libraries, at a form that it doesn't know; and at one other number the comparison
+with them and, where `make stated` has run, that with what the proofs are about.
 
     stops.py                    run in the repository, after make portable
 """
+import json
 import os
 import re
 import shutil
@@ -14,18 +16,13 @@ ROOT = os.path.join(os.path.dirname(os.path.abspath(__file__)), "..", "..")
 sys.path.insert(0, os.path.join(ROOT, "tools", "portable"))
 sys.setrecursionlimit(100000)
 # The translator's own modules, which the line above makes known.
+import libraries  # noqa: E402
 import mir  # noqa: E402
 import same  # noqa: E402
 import translate  # noqa: E402
 
 # Enough functions to have every form, and few enough to be quick.
 WANTED = ("j8_string_read", "j8_json8_show", "j8_upload_fresh")
-
-
-def printed(term):
-    if isinstance(term, mir.Text):
-        return '"%s"' % term
-    return term if isinstance(term, str) else "(%s)" % " ".join(printed(part) for part in term)
 
 
 def read(path):
@@ -35,10 +32,8 @@ def read(path):
 
 def some(text):
     """The program of the functions wanted alone."""
-    functions, last = mir.parts(mir.parse(text), "program", 2)
-    terms = {str(one[1]): one for one in mir.items(functions)}
-    kept = [terms[symbol] for symbol in mir.reached(terms, WANTED)]
-    return "program " + printed(same.listed(kept)) + " " + printed(last)
+    terms = {str(one[1]): one for one in mir.parse(text)}
+    return "\n".join(mir.printed(terms[symbol]) for symbol in mir.reached(terms, WANTED))
 
 
 def some_of_header(text):
@@ -52,23 +47,23 @@ def some_of_header(text):
 # What, the pattern that is replaced once, what stands there then, and words of the message.
 MIR = [
     ("a signed sum", r"\(add unsigned\)", "(add signed)", "unknown operation add signed"),
-    ("a float", r"\(tyInt 64\)", "(tyFloat 64)", "unknown type (tyFloat 64)"),
-    ("a number of 128 bits", r"\(tyInt 64\)", "(tyInt 128)", "unknown width 128"),
+    ("a float", r"\(ty_int w64\)", "(ty_float w64)", "unknown type (ty_float w64)"),
+    ("a number of 128 bits", r"\(ty_int w64\)", "(ty_int w128)", "unknown width w128"),
     ("an unknown statement", r"\(exit 1\)", "(drop 1)", "unknown statement (drop 1)"),
     ("an exit of nothing", r"\(exit 1\)", "(exit 9)", "exit 9 of"),
     ("an unknown step", r"\(field 0\)", "(index 0)", "unknown step (index 0)"),
-    ("a field that isn't there", r"\(variant 0\) \(lcons \(field 1\)", "(variant 0) (lcons (field 7)", "has no field 7"),
-    ("an unknown operand", r"\(int 64 8\)", "(global 64 8)", "unknown operand (global 64 8)"),
-    ("a number over its width", r"\(int 8 92\)", "(int 8 256)", "a number over its width"),
-    ("operands of two widths", r"\(int 8 92\)", "(int 32 92)", "of Int(width=8) and Int(width=32)"),
+    ("a field that isn't there", r"\(variant 0\) \(field 1\)", "(variant 0) (field 7)", "has no field 7"),
+    ("an unknown operand", r"\(int w64 8\)", "(global w64 8)", "unknown operand (global w64 8)"),
+    ("a number over its width", r"\(int w8 92\)", "(int w8 256)", "a number over its width"),
+    ("operands of two widths", r"\(int w8 92\)", "(int w32 92)", "of Int(width=8) and Int(width=32)"),
     ("an unknown right-hand side", r"\(aggregate ", "(discriminant ", "unknown right-hand side (discriminant"),
-    ("a cast by sign", r"\(cast unsigned unsigned 64\)", "(cast signed unsigned 64)", "unknown operation (cast signed unsigned 64)"),
-    ("a division by 0", r"(\(div unsigned\) \(copy \(place \d+ lnil\)\)) \(int 64 \d+\)", r"\1 (int 64 0)", "this doesn't hold"),
-    ("a key twice", r"\(arm \(lcons 1 lnil\)", "(arm (lcons 0 lnil)", "keys of a switch"),
-    ("a call of what isn't there", r'\(fnRef "strings::read::\w+"\)', '(fnRef "strings::read::nothing")', "no function is named strings::read::nothing"),
-    ("a call by a pointer", r"\(direct \(fnRef", "(indirect (fnRef", "no direct of 1 parts"),
+    ("a cast by sign", r"\(cast unsigned unsigned w64\)", "(cast signed unsigned w64)", "unknown operation (cast signed unsigned w64)"),
+    ("a division by 0", r"(\(div unsigned\) \(copy \(place \d+ \(list\)\)\)) \(int w64 \d+\)", r"\1 (int w64 0)", "this doesn't hold"),
+    ("a key twice", r"\(arm \(list 1\)", "(arm (list 0)", "keys of a switch"),
+    ("a call of what isn't there", r'\(fn "strings::read::\w+"', '(fn "strings::read::nothing"', "no function is named strings::read::nothing"),
+    ("a call by a pointer", r"\(call \(fn ", "(call (method ", "no fn of 2 parts"),
     ("a bracket less", r"\(exit 1\)", "(exit 1", "bracket"),
-    ("a store through a shared reference", r'(tyRef \(named \d+\)) mut \(tyInt 8\)', r"\1 imm (tyInt 8)", "mutable"),
+    ("a store through a shared reference", r'(ty_ref \(named \d+\)) mut \(ty_int w8\)', r"\1 imm (ty_int w8)", "mutable"),
 ]
 HEADER = [
     ("two fields swapped", r"(    size_t place;\n)(    size_t length;\n)(\} j8_result;)", r"\2\1\3", "j8.h"),
@@ -112,19 +107,40 @@ def source_stops(program, header, folder):
         shutil.rmtree(folder)
 
 
-def library_stops():
-    """A number that differs from the proved library's."""
-    held = same.libraries(os.path.join(ROOT, "target", "rlib"))["strings::read::read"][1]
-    whole = mir.parse(read("target/portable/j8.mir"))
-    terms = {str(one[1]): one for one in mir.items(mir.parts(whole, "program", 2)[0])}
-    printed_one = printed(terms["strings::read::read"])
-    other = damaged(printed_one, r"\(int 64 (\d+)\)", r"(int 64 1\1)")
-    if mir.parse(other)[0] == same.definition("strings::read::read", held) or mir.parse(printed_one)[0] != same.definition("strings::read::read", held):
-        sys.exit("not told apart: a number of strings::read::read")
+# What, the pattern that is replaced once in a library's function, what stands there then, and words of the message.
+LIBRARY = [
+    ("a constant of another form", r'"Copy"', '"Global"', "unknown operand Global"),
+    ("a statement of another form", r'"Return"', '"Drop"', "unknown statement Drop"),
+    ("a call of a bound's method", r'"Fn"', '"Method"', "a call of no function"),
+    ("a call at types", r'"types": \[\], "dicts"', '"types": ["Bool"], "dicts"', "a call of no function"),
+    ("a type of another form", r'\{"Int": 64\}', '{"Float": 64}', "unknown type Float"),
+    ("a field more", r'"params":', '"inline": true, "params":', "not the fields"),
+    ("a function of types", r'"type_params": 0', '"type_params": 1', "isn't plain"),
+]
+
+
+def library_stops(text):
+    """A form that a library can't have, and a number that differs from the library's, and from what the proofs are about."""
+    name = "strings::read::read"
+    proved = libraries.Libraries(os.path.join(ROOT, "crates"))
+    held = json.dumps(proved.held[name])
+    for what, pattern, new, words in LIBRARY:
+        stops(what, words, lambda: libraries.definition(name, json.loads(damaged(held, pattern, new))))
+    terms = {str(one[1]): one for one in mir.parse(text)}
+    others = [("the proved library", proved[name])]
+    stated = os.path.join(ROOT, "target", "portable", "stated")
+    if os.path.isdir(os.path.join(stated, "Rattle-strings-proofs")):
+        others.append(("what the proofs are about", same.Stated(stated).definition(name)))
+    other = mir.parse(damaged(mir.printed(terms[name]), r"\(int w64 (\d+)\)", r"(int w64 1\1)"))[0]
+    for what, one in others:
+        if one == other or one != terms[name]:
+            sys.exit("not told apart from %s: a number of %s" % (what, name))
+    return len(LIBRARY) + len(others)
 
 
 def main():
-    program, header = some(read("target/portable/j8.mir")), some_of_header(read("include/j8.h"))
+    whole = read("target/portable/j8.mir")
+    program, header = some(whole), some_of_header(read("include/j8.h"))
     translate.File(program, header, ROOT).text()
     for what, pattern, new, words in MIR:
         stops(what, words, lambda: translate.File(damaged(program, pattern, new), header, ROOT).text())
@@ -132,8 +148,8 @@ def main():
         stops(what, words, lambda: translate.File(program, damaged(header, pattern, new), ROOT).text())
     with tempfile.TemporaryDirectory() as folder:
         source_stops(program, header, os.path.join(folder, "copy"))
-    library_stops()
-    print("the translator stopped at each of %d damages" % (len(MIR) + len(HEADER) + len(SOURCE) + 1))
+    count = len(MIR) + len(HEADER) + len(SOURCE) + library_stops(whole)
+    print("the translator stopped at each of %d damages" % count)
 
 
 main()
