@@ -1,5 +1,5 @@
 # `make` alone prints what there is to make.
-.PHONY: help test demo archive command examples portable portable-all fuzz install uninstall stack size axioms compare load faults limits bench before clean
+.PHONY: help test demo archive command examples portable portable-all stated fuzz install uninstall stack size axioms compare load faults limits bench before clean
 # Two runs of rt would share the crates' out/.
 .NOTPARALLEL:
 
@@ -24,7 +24,7 @@ help:
 	@echo "make bench       their speed beside others: docs/BENCHMARKS.md"
 	@echo "make before BEFORE=FILE   their speed beside that of an earlier archive"
 	@echo "make axioms      what the proofs rest on"
-	@echo "make compare load faults fuzz limits portable-all   longer tests: docs/TESTING.md"
+	@echo "make compare load faults fuzz limits stated portable-all   longer tests: docs/TESTING.md"
 	@echo "make clean       removes all that was built"
 
 test:
@@ -41,8 +41,12 @@ portable: target/portable/j8.c
 target/portable/j8.c: $(SOURCES) include/j8.h $(wildcard tools/portable/*)
 	@bash tools/portable/make.sh
 
+# Holds the MIR that the C file is made from to the MIR that the proofs are about.
+stated: portable
+	bash tools/portable/stated.sh
+
 # The C file's tests, those of the gate and on rarer processors.
-portable-all: portable archive
+portable-all: portable archive stated
 	bash tests/portable/install.sh
 	bash tests/portable/check.sh stops warnings host checked sanitizers others stack rust rarer rarer_stack cortex
 

@@ -1,7 +1,6 @@
 #!/usr/bin/env python3
 """The translator stops, with a word on what and where, at what it doesn't know and at what doesn't fit: each case below damages the MIR that `make portable`
-printed, the header or a source in one place. So does the reader of the proved libraries, at a form that it doesn't know; and at one other number the comparison
-with them and, where `make stated` has run, that with what the proofs are about.
+printed, the header or a source in one place. So does the reader of the proved libraries, at a form that it doesn't know.
 
     stops.py                    run in the repository, after make portable
 """
@@ -18,7 +17,6 @@ sys.setrecursionlimit(100000)
 # The translator's own modules, which the line above makes known.
 import libraries  # noqa: E402
 import mir  # noqa: E402
-import same  # noqa: E402
 import translate  # noqa: E402
 
 # Enough functions to have every form, and few enough to be quick.
@@ -120,22 +118,17 @@ LIBRARY = [
 
 
 def library_stops(text):
-    """A form that a library can't have, and a number that differs from the library's, and from what the proofs are about."""
+    """A form that the reader doesn't know, and a number that differs from the library's."""
     name = "strings::read::read"
     proved = libraries.Libraries(os.path.join(ROOT, "crates"))
     held = json.dumps(proved.held[name])
     for what, pattern, new, words in LIBRARY:
         stops(what, words, lambda: libraries.definition(name, json.loads(damaged(held, pattern, new))))
-    terms = {str(one[1]): one for one in mir.parse(text)}
-    others = [("the proved library", proved[name])]
-    stated = os.path.join(ROOT, "target", "portable", "stated")
-    if os.path.isdir(os.path.join(stated, "Rattle-strings-proofs")):
-        others.append(("what the proofs are about", same.Stated(stated).definition(name)))
-    other = mir.parse(damaged(mir.printed(terms[name]), r"\(int w64 (\d+)\)", r"(int w64 1\1)"))[0]
-    for what, one in others:
-        if one == other or one != terms[name]:
-            sys.exit("not told apart from %s: a number of %s" % (what, name))
-    return len(LIBRARY) + len(others)
+    printed_one = mir.printed({str(one[1]): one for one in mir.parse(text)}[name])
+    other = damaged(printed_one, r"\(int w64 (\d+)\)", r"(int w64 1\1)")
+    if mir.parse(other)[0] == proved[name] or mir.parse(printed_one)[0] != proved[name]:
+        sys.exit("not told apart: a number of " + name)
+    return len(LIBRARY) + 1
 
 
 def main():
