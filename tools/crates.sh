@@ -1,5 +1,8 @@
 # Read by prove.sh and portable/stated.sh, in the repository's folder: what crates.txt says, and how rattle is called over what `rt ci` left in out/.
 
+# The first of the kind: a static library doesn't ask the processor what it has.
+CPU=x86-64
+
 # The crate and all that it stands on, each behind those that it stands on.
 crates_of() {
   awk -v wanted="$1" '
@@ -38,5 +41,5 @@ over_ci() {
 
 # The static library over them.
 build_over_ci() {
-  over_ci "$1" build --jobs 2 --crate-type staticlib --toolchain "$(dirname "$(rt doc)")/toolchain" --backend llvm -o "out/lib$1.a"
+  over_ci "$1" build --jobs 2 --cpu "$CPU" --crate-type staticlib --toolchain "$(dirname "$(rt doc)")/toolchain" --backend llvm -o "out/lib$1.a"
 }

@@ -16,17 +16,16 @@ mapfile -t all < <(crates_of "$crate")
 total=${#all[@]}
 [ "$total" -gt 0 ] || { echo "make: crates.txt has no $crate"; exit 1; }
 below=("${all[@]}")
+static=
 if grep -q "^$crate staticlib:" crates.txt; then
+  static=yes
   unset 'below[-1]'
-  again() { build_over_ci "$crate"; }
-else
-  again() { :; }
 fi
 build() {
   if [ "${J8_PROVED:-}" = 1 ] && left_by_ci "${below[@]}"; then
-    again
+    [ -z "$static" ] || build_over_ci "$crate"
   else
-    cd "crates/$crate" && rt lib
+    cd "crates/$crate" && rt lib ${static:+--cpu "$CPU"}
   fi
 }
 echo "Proving $total crates; some minutes the first time. What rt prints is in $log."
