@@ -2,11 +2,12 @@
 use command_outputs::outcomes::Outcome;
 use command_outputs::outputs;
 use command_words::arguments::Command;
-use libc::{STDERR_FILENO, STDOUT_FILENO};
+use std::io::Print;
+use std::rt::{Stderr, Stdout};
 
-fn lines(fd: i32) -> bool {
-    io::write_all(
-        fd,
+fn lines<P: Print>(to: &P) -> Result<(), i32> {
+    outputs::send(
+        to,
         b"  lines [--pieces N] [FILE]
       prints each record of a J8 Lines backup: its line, a tab, a J8 string;
       reads N bytes at a time, 1 to 4096
@@ -14,9 +15,9 @@ fn lines(fd: i32) -> bool {
     )
 }
 
-fn quote(fd: i32) -> bool {
-    io::write_all(
-        fd,
+fn quote<P: Print>(to: &P) -> Result<(), i32> {
+    outputs::send(
+        to,
         b"  quote [--line | --lines | -0] [FILE]
       prints the input, any bytes, as one J8 string
       --line   leaves off one LF at the end of the input
@@ -26,9 +27,9 @@ fn quote(fd: i32) -> bool {
     )
 }
 
-fn unquote(fd: i32) -> bool {
-    io::write_all(
-        fd,
+fn unquote<P: Print>(to: &P) -> Result<(), i32> {
+    outputs::send(
+        to,
         b"  unquote [--lines | -0] [FILE]
       prints the bytes of one J8 string; a line's end behind it is ignored
       --lines  each record of a J8 Lines backup as it is, with LF behind it
@@ -37,27 +38,27 @@ fn unquote(fd: i32) -> bool {
     )
 }
 
-fn json8(fd: i32) -> bool {
-    io::write_all(
-        fd,
+fn json8<P: Print>(to: &P) -> Result<(), i32> {
+    outputs::send(
+        to,
         b"  json8 [FILE]
       checks a JSON8 backup and prints it in its one written form
 ",
     )
 }
 
-fn strings(fd: i32) -> bool {
-    io::write_all(
-        fd,
+fn strings<P: Print>(to: &P) -> Result<(), i32> {
+    outputs::send(
+        to,
         b"  strings [FILE]
       prints each string of a JSON8 backup: its node, a tab, a J8 string
 ",
     )
 }
 
-fn tsv8(fd: i32) -> bool {
-    io::write_all(
-        fd,
+fn tsv8<P: Print>(to: &P) -> Result<(), i32> {
+    outputs::send(
+        to,
         b"  tsv8 [FILE]
       prints each cell of a TSV8 log: its row, a tab, the name of its column as
       a J8 string, a tab, its value
@@ -65,21 +66,22 @@ fn tsv8(fd: i32) -> bool {
     )
 }
 
-fn whole(fd: i32) -> bool {
-    io::write_all(
-        fd,
+fn whole<P: Print>(to: &P) -> Result<(), i32> {
+    outputs::send(
+        to,
         b"\
 j8 COMMAND [OPTION..] [FILE]: J8 Notation backups, from FILE or standard input
 ",
-    ) && lines(fd)
-        && quote(fd)
-        && unquote(fd)
-        && json8(fd)
-        && strings(fd)
-        && tsv8(fd)
-        && io::write_all(
-            fd,
-            b"  help [COMMAND], --help, -h    prints this
+    )?;
+    lines(to)?;
+    quote(to)?;
+    unquote(to)?;
+    json8(to)?;
+    strings(to)?;
+    tsv8(to)?;
+    outputs::send(
+        to,
+        b"  help [COMMAND], --help, -h    prints this
   --version                     prints the version
 With --json what is said on standard error is a JSON object a line. - is
 standard input, and -- ends the options.
@@ -88,32 +90,32 @@ A refusal has a number, line (from 1), column (characters, from 1), place
 Exit status: 0 done, 1 refused, 2 used wrongly, 3 the input can't be read or
 the output written.
 ",
-        )
+    )
 }
 
-fn print_to(fd: i32, command: Command) -> bool {
+fn print_to<P: Print>(to: &P, command: Command) -> Result<(), i32> {
     match command {
-        Command::Lines => lines(fd),
-        Command::Quote => quote(fd),
-        Command::Unquote => unquote(fd),
-        Command::Json8 => json8(fd),
-        Command::Strings => strings(fd),
-        Command::Tsv8 => tsv8(fd),
-        _ => whole(fd),
+        Command::Lines => lines(to),
+        Command::Quote => quote(to),
+        Command::Unquote => unquote(to),
+        Command::Json8 => json8(to),
+        Command::Strings => strings(to),
+        Command::Tsv8 => tsv8(to),
+        _ => whole(to),
     }
 }
 
 // The help of a command, or all of it.
-pub(crate) fn print(command: Command) -> Outcome {
-    outputs::ended(print_to(STDOUT_FILENO, command))
+pub(crate) fn print(output: Stdout, command: Command) -> Outcome {
+    outputs::ended(print_to(&output, command))
 }
 
 // No word at all: the help, where it doesn't mix with an output.
-pub(crate) fn missing() -> Outcome {
-    whole(STDERR_FILENO);
+pub(crate) fn missing(errors: Stderr) -> Outcome {
+    let _ = whole(&errors);
     Outcome::Misused(0, 0)
 }
 
-pub(crate) fn version() -> Outcome {
-    outputs::ended(io::write_all(STDOUT_FILENO, b"j8 0.3.0\n"))
+pub(crate) fn version(output: Stdout) -> Outcome {
+    outputs::ended(outputs::send(&output, b"j8 0.3.0\n"))
 }

@@ -2,50 +2,55 @@
 ghost use Rattle.std.specs.Prelude.{length, ◌≤◌};
 
 use check::same;
+use command_outputs::outputs;
 use command_words::arguments;
-use libc::{PATH_MAX, STDIN_FILENO};
+use std::io::Read;
+use std::rt::Env;
+
+// The most bytes of a file's name.
+pub(crate) const NAME_MAX: usize = 4095;
 
 #[derive(Clone, Copy)]
-pub(crate) enum Opened {
-    At(i32),
+pub(crate) enum Input {
+    Standard,
+    // The bytes of its name.
+    File(usize),
     Misused(usize),
-    Failed(i32),
 }
 
-// A descriptor of the input that an argument names.
-pub(crate) fn open(i: usize, path: &mut [u8]) -> Opened {
+// The input that an argument names; the buffer is for the file's name.
+pub(crate) fn input_at<E: Env>(words: &E, i: usize, path: &mut [u8]) -> Input {
     if i == 0 {
-        return Opened::At(STDIN_FILENO);
+        return Input::Standard;
     }
-    let n = os::arg(i, path);
-    if os::errno() != 0 {
-        return Opened::Misused(arguments::LONG_NAME);
+    match words.arg(i, path) {
+        Ok(n) => input_named(&path[..n]),
+        Err(_) => Input::Misused(arguments::LONG_NAME),
     }
+}
+
+fn input_named(path: &[u8]) -> Input {
+    let n = path.len();
     if n == 0 {
-        return Opened::Misused(arguments::EMPTY_NAME);
+        return Input::Misused(arguments::EMPTY_NAME);
     }
-    if n >= PATH_MAX {
-        return Opened::Misused(arguments::LONG_NAME);
+    if n > NAME_MAX {
+        return Input::Misused(arguments::LONG_NAME);
     }
-    open_named(&path[..n])
-}
-
-fn open_named(path: &[u8]) -> Opened {
     if same(path, b"-") {
-        return Opened::At(STDIN_FILENO);
+        return Input::Standard;
     }
-    let fd = os::open_read(path);
-    if fd < 0 {
-        return Opened::Failed(os::errno());
-    }
-    Opened::At(fd)
+    Input::File(n)
 }
 
-// One read into a buffer from a place on: what libc::read answers.
-fn read_from(fd: i32, buf: &mut [u8], from: usize) -> isize
+// One read into a buffer from a place on: how many bytes there were, or what the system says.
+fn read_from<R: Read>(input: &mut R, buf: &mut [u8], from: usize) -> Result<usize, i32>
     requires { from ≤ length buf.old }
 {
-    libc::read(fd, &mut buf[from..])
+    match input.read(&mut buf[from..]) {
+        Ok(got) => Ok(got),
+        Err(error) => Err(outputs::number_of(error)),
+    }
 }
 
 #[derive(Clone, Copy)]
@@ -55,14 +60,13 @@ pub(crate) enum Filled {
 }
 
 // Reads until buf is full or the input ends.
-pub(crate) fn fill(fd: i32, buf: &mut [u8]) -> Filled {
+pub(crate) fn fill<R: Read>(input: &mut R, buf: &mut [u8]) -> Filled {
     let mut n = 0;
     while n < buf.len() {
-        let got = read_from(fd, buf, n);
-        if got < 0 {
-            return Filled::Failed(os::errno());
-        }
-        let k = io::count(got, &buf[n..]);
+        let k = match read_from(input, buf, n) {
+            Ok(got) => command_texts::within(got, &buf[n..]),
+            Err(error) => return Filled::Failed(error),
+        };
         if k == 0 {
             return Filled::With(n);
         }

@@ -1,7 +1,7 @@
 // The command `j8`: prints what a backup holds, or says why it is refused, and answers a status.
 #![tactic(auto)]
 
-ghost use Rattle.std.specs.Prelude.{◌≤◌};
+ghost use Rattle.std.specs.Prelude.{length, ◌≤◌};
 
 mod help;
 mod inputs;
@@ -14,7 +14,10 @@ use command_outputs::outcomes::{Outcome, Run};
 use command_reports::reports;
 use command_words::arguments;
 use command_words::arguments::{Command, Options};
-use inputs::{Filled, Opened};
+use inputs::{Filled, Input};
+use prelude::slices;
+use std::io::Read;
+use std::rt::{Env, Stderr, Stdout};
 
 // A run with nothing besides its outcome.
 fn ended(outcome: Outcome) -> Run {
@@ -28,6 +31,7 @@ fn ended(outcome: Outcome) -> Run {
 
 // A command on its whole input.
 fn run_text(
+    output: Stdout,
     command: Command,
     o: Options,
     text: &[u8],
@@ -44,12 +48,14 @@ fn run_text(
                 n = quoting::without_lf(text);
             }
             let n = command_texts::within(n, text);
-            quoting::quote(&text[..n], terminal, page, shown)
+            quoting::quote(output, &text[..n], terminal, page, shown)
         }
-        Command::Unquote => quoting::unquote(text, store),
-        Command::Json8 => command_tables::rewrite(text, terminal, table, store, page, shown),
-        Command::Tsv8 => command_sheets::list(text, terminal, table, store, page, shown),
-        _ => command_tables::list(text, terminal, table, store, page, shown),
+        Command::Unquote => quoting::unquote(output, text, store),
+        Command::Json8 => command_tables::rewrite(
+            output, text, terminal, table, store, page, shown,
+        ),
+        Command::Tsv8 => command_sheets::list(output, text, terminal, table, store, page, shown),
+        _ => command_tables::list(output, text, terminal, table, store, page, shown),
     }
 }
 
@@ -62,10 +68,11 @@ fn mark_of(outcome: Outcome, text: &[u8]) -> usize {
 }
 
 // A command that reads its input whole.
-fn run_whole(
+fn run_whole<R: Read>(
+    input: &mut R,
+    output: Stdout,
     command: Command,
     o: Options,
-    fd: i32,
     terminal: bool,
     text: &mut [u8],
     table: &mut [u32],
@@ -73,11 +80,12 @@ fn run_whole(
     page: &mut [u8],
     shown: &mut [u8],
 ) -> Run {
-    let filled = inputs::fill(fd, text);
+    let filled = inputs::fill(input, text);
     match filled {
         Filled::With(n) => {
             let size = command_texts::within(n, text);
             let outcome = run_text(
+                output,
                 command,
                 o,
                 &text[..size],
@@ -110,69 +118,90 @@ fn end_of(o: Options) -> u8 {
 #[derive(Clone, Copy)]
 enum Plan {
     Ended(Outcome),
-    Whole(i32),
-    Pieces(i32, Job),
+    Whole,
+    Pieces(Job),
 }
 
 fn in_names(o: Options) -> bool {
     o.flags & (arguments::LINES | arguments::NUL) != 0
 }
 
-fn plan_input(command: Command, o: Options, fd: i32) -> Plan {
+fn plan_input(command: Command, o: Options) -> Plan {
     match command {
-        Command::Lines => Plan::Pieces(fd, Job::List),
+        Command::Lines => Plan::Pieces(Job::List),
         Command::Quote => {
             if in_names(o) {
-                return Plan::Pieces(fd, Job::Quote(end_of(o)));
+                return Plan::Pieces(Job::Quote(end_of(o)));
             }
-            Plan::Whole(fd)
+            Plan::Whole
         }
         Command::Unquote => {
             if in_names(o) {
-                return Plan::Pieces(fd, Job::Give(end_of(o)));
+                return Plan::Pieces(Job::Give(end_of(o)));
             }
-            Plan::Whole(fd)
+            Plan::Whole
         }
-        _ => Plan::Whole(fd),
+        _ => Plan::Whole,
     }
 }
 
-// A command that reads; the buffer is for the file's name.
-fn plan_file(command: Command, o: Options, path: &mut [u8]) -> Plan {
+// A command that reads; the buffer is for the file's name. The number is what the system says of a file that it doesn't open, else 0.
+fn plan_file<E: Env>(
+    words: &E,
+    output: Stdout,
+    error: i32,
+    command: Command,
+    o: Options,
+    path: &mut [u8],
+) -> Plan {
     if o.flags & arguments::HELP != 0 {
-        return Plan::Ended(help::print(command));
+        return Plan::Ended(help::print(output, command));
     }
     if o.fault != 0 {
         return Plan::Ended(Outcome::Misused(o.fault, o.wrong));
     }
-    let opened = inputs::open(o.file, path);
-    match opened {
-        Opened::At(fd) => plan_input(command, o, fd),
-        Opened::Misused(fault) => Plan::Ended(Outcome::Misused(fault, 0)),
-        Opened::Failed(error) => Plan::Ended(Outcome::Unread(error)),
+    if let Input::Misused(fault) = inputs::input_at(words, o.file, path) {
+        return Plan::Ended(Outcome::Misused(fault, 0));
     }
+    if error != 0 {
+        return Plan::Ended(Outcome::Unread(error));
+    }
+    plan_input(command, o)
 }
 
 // The help, for all commands or the one that is named.
-fn run_help() -> Outcome {
-    let command = words::command_at(2);
+fn run_help<E: Env>(words: &E, output: Stdout) -> Outcome {
+    let command = words::command_at(words, 2);
     match command {
         Command::Unknown => Outcome::Misused(arguments::NO_COMMAND, 2),
-        _ => help::print(command),
+        _ => help::print(output, command),
     }
 }
 
-fn plan_command(command: Command, o: Options, path: &mut [u8]) -> Plan {
+fn plan_command<E: Env>(
+    words: &E,
+    output: Stdout,
+    errors: Stderr,
+    error: i32,
+    command: Command,
+    o: Options,
+    path: &mut [u8],
+) -> Plan {
     match command {
-        Command::Help => Plan::Ended(run_help()),
-        Command::Version => Plan::Ended(help::version()),
-        Command::Missing => Plan::Ended(help::missing()),
+        Command::Help => Plan::Ended(run_help(words, output)),
+        Command::Version => Plan::Ended(help::version(output)),
+        Command::Missing => Plan::Ended(help::missing(errors)),
         Command::Unknown => Plan::Ended(Outcome::Misused(arguments::NO_COMMAND, 1)),
-        _ => plan_file(command, o, path),
+        _ => plan_file(words, output, error, command, o, path),
     }
 }
 
-fn run(
+fn run<E: Env, R: Read>(
+    words: &E,
+    input: &mut R,
+    output: Stdout,
+    errors: Stderr,
+    error: i32,
     command: Command,
     o: Options,
     terminal: bool,
@@ -183,20 +212,54 @@ fn run(
     page: &mut [u8],
     shown: &mut [u8],
 ) -> Run {
-    let made = plan_command(command, o, text);
+    let made = plan_command(words, output, errors, error, command, o, text);
     match made {
         Plan::Ended(outcome) => ended(outcome),
-        Plan::Whole(fd) => run_whole(command, o, fd, terminal, text, table, store, page, shown),
-        Plan::Pieces(fd, job) => uploads::run(
-            fd, o.size, terminal, job, text, store, out, page, shown,
+        Plan::Whole => run_whole(
+            input, output, command, o, terminal, text, table, store, page, shown,
+        ),
+        Plan::Pieces(job) => uploads::run(
+            input, output, o.size, terminal, job, text, store, out, page, shown,
         ),
     }
 }
 
-// The command, with the words that the program was called with: the status, 0 to 3. It is told whether standard output is a terminal, and is
-// lent its large buffers, so that it takes little of the stack.
-#[unsafe(no_mangle)]
-pub extern "C" fn j8_run(
+// Whether a command reads an input.
+fn is_reader(command: Command) -> bool {
+    match command {
+        Command::Help => false,
+        Command::Version => false,
+        Command::Missing => false,
+        Command::Unknown => false,
+        _ => true,
+    }
+}
+
+// The bytes of the name of the file that `j8_run` is to read, put at the start of a buffer; 0 where it reads standard input, or nothing.
+pub fn j8_file<E: Env>(words: &E, path: &mut [u8]) -> usize
+    ensures prefix { result ≤ length path.new }
+    ensures short { result ≤ 4095 }
+{
+    let command = words::command_at(words, 1);
+    let o = words::options_from(words, 2, arguments::options_of(command));
+    if !is_reader(command) || o.flags & arguments::HELP != 0 || o.fault != 0 {
+        return 0;
+    }
+    match inputs::input_at(words, o.file, path) {
+        Input::File(n) => slices::least(command_texts::within(n, path), inputs::NAME_MAX),
+        _ => 0,
+    }
+}
+
+// The command, with the words that the program was called with: the status, 0 to 3. It is given the input, which is the file of `j8_file` where
+// there is one, and what the system says if it doesn't open that, else 0. It is told whether standard output is a terminal, and is lent its large
+// buffers, so that it takes little of the stack.
+pub fn j8_run<E: Env, R: Read>(
+    words: &E,
+    input: &mut R,
+    output: Stdout,
+    errors: Stderr,
+    error: i32,
     terminal: bool,
     text: &mut [u8],
     table: &mut [u32],
@@ -207,8 +270,13 @@ pub extern "C" fn j8_run(
 ) -> u32
     ensures { result ≤ 3 }
 {
-    let command = words::command_at(1);
-    let o = words::options_from(2, arguments::options_of(command));
-    let ended = run(command, o, terminal, text, table, store, out, page, shown);
-    reports::report(ended, command, o, text, table, store, page, shown)
+    let command = words::command_at(words, 1);
+    let o = words::options_from(words, 2, arguments::options_of(command));
+    let ended = run(
+        words, input, output, errors, error, command, o, terminal, text, table, store, out, page,
+        shown,
+    );
+    reports::report(
+        words, errors, ended, command, o, text, table, store, page, shown,
+    )
 }

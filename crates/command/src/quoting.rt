@@ -1,27 +1,39 @@
 // Any bytes to a J8 string and back, whole.
 use command_outputs::outcomes::Outcome;
 use command_outputs::outputs;
-use libc::STDOUT_FILENO;
 use messages::Spot;
 use prelude::answers::Written;
 use prelude::limits::TEXT_MAX;
 use prelude::slices;
+use std::rt::Stdout;
 use strings::answers::Decoded;
 use strings::read;
 use strings_write::write;
 
 // Prints the first n bytes of the page and LF.
-fn print_string(n: usize, terminal: bool, page: &mut [u8], shown: &mut [u8]) -> Outcome {
+fn print_string(
+    output: Stdout,
+    n: usize,
+    terminal: bool,
+    page: &mut [u8],
+    shown: &mut [u8],
+) -> Outcome {
     let e = command_texts::put(b"\n", n, page);
     let e = command_texts::within(e, page);
-    outputs::ended(outputs::print(&page[..e], terminal, shown))
+    outputs::ended(outputs::print(output, &page[..e], terminal, shown))
 }
 
-pub(crate) fn quote(data: &[u8], terminal: bool, page: &mut [u8], shown: &mut [u8]) -> Outcome {
+pub(crate) fn quote(
+    output: Stdout,
+    data: &[u8],
+    terminal: bool,
+    page: &mut [u8],
+    shown: &mut [u8],
+) -> Outcome {
     let room = command_texts::within(TEXT_MAX, page);
     let written = write::write(data, &mut page[..room]);
     match written {
-        Written::Wrote(n) => print_string(n, terminal, page, shown),
+        Written::Wrote(n) => print_string(output, n, terminal, page, shown),
         Written::Refused(number) => Outcome::Refused(number, Spot::Quoted, 0),
     }
 }
@@ -51,18 +63,18 @@ fn without_end(text: &[u8]) -> usize {
     without(b'\r', text, n)
 }
 
-fn unquote_text(text: &[u8], out: &mut [u8]) -> Outcome {
+fn unquote_text(output: Stdout, text: &[u8], out: &mut [u8]) -> Outcome {
     let decoded = read::read(text, out);
     match decoded {
         Decoded::Done(n) => {
             let n = command_texts::within(n, out);
-            outputs::ended(io::write_all(STDOUT_FILENO, &out[..n]))
+            outputs::ended(outputs::send(&output, &out[..n]))
         }
         Decoded::Refused(number, place) => Outcome::Refused(number, Spot::Quoted, place),
     }
 }
 
-pub(crate) fn unquote(text: &[u8], out: &mut [u8]) -> Outcome {
+pub(crate) fn unquote(output: Stdout, text: &[u8], out: &mut [u8]) -> Outcome {
     let n = command_texts::within(without_end(text), text);
-    unquote_text(&text[..n], out)
+    unquote_text(output, &text[..n], out)
 }

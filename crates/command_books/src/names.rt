@@ -5,6 +5,7 @@ use crate::{ends, uploads};
 use prelude::answers::Written;
 use prelude::limits::{LINE_MAX, UPLOAD_MAX};
 use prelude::{refusals, slices};
+use std::rt::Stdout;
 use strings_write::write;
 
 fn refused(l: Listing, number: u32, place: usize) -> Listing {
@@ -25,7 +26,14 @@ fn place_over(taken: usize) -> usize {
 }
 
 // A string and LF, put on the page.
-fn put_string(l: Listing, job: Job, string: &[u8], page: &mut [u8], shown: &mut [u8]) -> Listing {
+fn put_string(
+    output: Stdout,
+    l: Listing,
+    job: Job,
+    string: &[u8],
+    page: &mut [u8],
+    shown: &mut [u8],
+) -> Listing {
     let mut l = l;
     let mut state = l.state;
     let n = string.len();
@@ -40,11 +48,12 @@ fn put_string(l: Listing, job: Job, string: &[u8], page: &mut [u8], shown: &mut 
     state.held = 0;
     let line = state.lfs;
     l.state = state;
-    uploads::put_on(l, job, line, string, page, shown)
+    uploads::put_on(output, l, job, line, string, page, shown)
 }
 
 // The name that is held, quoted.
 fn put_name(
+    output: Stdout,
     l: Listing,
     job: Job,
     line: &[u8],
@@ -58,7 +67,7 @@ fn put_name(
     match written {
         Written::Wrote(n) => {
             let n = command_texts::within(n, out);
-            put_string(l, job, &out[..n], page, shown)
+            put_string(output, l, job, &out[..n], page, shown)
         }
         Written::Refused(_) => refused(l, refusals::TOO_LONG, LINE_MAX),
     }
@@ -80,6 +89,7 @@ fn hold(l: Listing, part: &[u8], line: &mut [u8]) -> Listing {
 
 // A part of the names, with at most one end, its last byte.
 pub(crate) fn take(
+    output: Stdout,
     l: Listing,
     job: Job,
     end: u8,
@@ -97,11 +107,12 @@ pub(crate) fn take(
     if !l.open {
         return l;
     }
-    put_name(l, job, line, out, page, shown)
+    put_name(output, l, job, line, out, page, shown)
 }
 
 // The last name, which may have no end, unless it is empty.
 pub(crate) fn finish(
+    output: Stdout,
     l: Listing,
     job: Job,
     line: &[u8],
@@ -116,5 +127,5 @@ pub(crate) fn finish(
     if state.held == 0 {
         return l;
     }
-    put_name(l, job, line, out, page, shown)
+    put_name(output, l, job, line, out, page, shown)
 }

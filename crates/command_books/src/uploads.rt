@@ -5,11 +5,13 @@ ghost use Rattle.command_books.specs.Runs.{is_of_lines};
 
 use crate::{ends, marks, names};
 use command_outputs::outcomes::{Outcome, Run};
-use command_outputs::pages;
 use command_outputs::pages::{Form, Page};
+use command_outputs::{outputs, pages};
 use messages::Spot;
 use prelude::limits::UPLOAD_MAX;
 use records::HEAD;
+use std::io::Read;
+use std::rt::Stdout;
 use upload::uploads::{Answer, Upload};
 
 // No backup gives more pieces: one byte at least is taken of each, or it is refused.
@@ -74,6 +76,7 @@ fn is_mixed(job: Job, payload: &[u8]) -> bool {
 
 // A text put on the page under its line.
 pub(crate) fn put_on(
+    output: Stdout,
     l: Listing,
     job: Job,
     n: usize,
@@ -88,7 +91,7 @@ pub(crate) fn put_on(
         return l;
     }
     let p = l.page;
-    let p = pages::add(p, form_of(job), n, s, page, shown);
+    let p = pages::add(output, p, form_of(job), n, s, page, shown);
     l.open = l.open && !p.failed;
     l.page = p;
     l
@@ -96,6 +99,7 @@ pub(crate) fn put_on(
 
 // The record that a call left in the output, if any, put on the page.
 fn hand_on(
+    output: Stdout,
     l: Listing,
     job: Job,
     n: usize,
@@ -118,11 +122,12 @@ fn hand_on(
     if l.mark == 0 {
         l.mark = marks::line_of(line, n);
     }
-    put_on(l, job, n, &out[HEAD..used], page, shown)
+    put_on(output, l, job, n, &out[HEAD..used], page, shown)
 }
 
 // A part of a book, with at most one LF, its last byte.
 fn feed_part(
+    output: Stdout,
     l: Listing,
     job: Job,
     part: &[u8],
@@ -138,10 +143,11 @@ fn feed_part(
     l.open = l.open && state.refusal == 0;
     let n = state.lfs;
     l.state = state;
-    hand_on(l, job, n, line, out, page, shown)
+    hand_on(output, l, job, n, line, out, page, shown)
 }
 
 fn take_part(
+    output: Stdout,
     l: Listing,
     job: Job,
     part: &[u8],
@@ -151,8 +157,8 @@ fn take_part(
     shown: &mut [u8],
 ) -> Listing {
     match job {
-        Job::Quote(end) => names::take(l, job, end, part, line, out, page, shown),
-        _ => feed_part(l, job, part, line, out, page, shown),
+        Job::Quote(end) => names::take(output, l, job, end, part, line, out, page, shown),
+        _ => feed_part(output, l, job, part, line, out, page, shown),
     }
 }
 
@@ -165,6 +171,7 @@ fn end_of(job: Job) -> u8 {
 }
 
 fn take_piece(
+    output: Stdout,
     l: Listing,
     job: Job,
     piece: &[u8],
@@ -181,29 +188,33 @@ fn take_piece(
             return l;
         }
         let to = ends::behind_next(piece, from, end);
-        l = take_part(l, job, &piece[from..to], line, out, page, shown);
+        l = take_part(output, l, job, &piece[from..to], line, out, page, shown);
         from = to;
     }
     l
 }
 
-fn unread(l: Listing) -> Listing {
+fn unread(l: Listing, error: i32) -> Listing {
     let mut l = l;
     l.open = false;
     l.failed = true;
-    l.error = os::errno();
+    l.error = error;
     l
 }
 
-// One read of at most so many bytes: what libc::read answers.
-fn read_some(fd: i32, size: usize, buf: &mut [u8]) -> isize {
+// One read of at most so many bytes: how many there were, or what the system says.
+fn read_some<R: Read>(input: &mut R, size: usize, buf: &mut [u8]) -> Result<usize, i32> {
     let n = command_texts::within(size, buf);
-    libc::read(fd, &mut buf[..n])
+    match input.read(&mut buf[..n]) {
+        Ok(got) => Ok(got),
+        Err(error) => Err(outputs::number_of(error)),
+    }
 }
 
 // Reads a piece of at most so many bytes, and takes it.
-fn read_piece(
-    fd: i32,
+fn read_piece<R: Read>(
+    input: &mut R,
+    output: Stdout,
     size: usize,
     l: Listing,
     job: Job,
@@ -213,22 +224,24 @@ fn read_piece(
     page: &mut [u8],
     shown: &mut [u8],
 ) -> Listing {
-    let got = read_some(fd, size, piece);
-    if got < 0 {
-        return unread(l);
+    match read_some(input, size, piece) {
+        Ok(got) => {
+            let n = command_texts::within(got, piece);
+            if n == 0 {
+                let mut l = l;
+                l.open = false;
+                return l;
+            }
+            take_piece(output, l, job, &piece[..n], line, out, page, shown)
+        }
+        Err(error) => unread(l, error),
     }
-    let n = io::count(got, piece);
-    if n == 0 {
-        let mut l = l;
-        l.open = false;
-        return l;
-    }
-    take_piece(l, job, &piece[..n], line, out, page, shown)
 }
 
 // All pieces up to the input's end or what stops the job.
-fn take_all(
-    fd: i32,
+fn take_all<R: Read>(
+    input: &mut R,
+    output: Stdout,
     size: usize,
     l: Listing,
     job: Job,
@@ -244,7 +257,7 @@ fn take_all(
         if !l.open {
             return l;
         }
-        l = read_piece(fd, size, l, job, piece, line, out, page, shown);
+        l = read_piece(input, output, size, l, job, piece, line, out, page, shown);
         left -= 1;
     }
     l
@@ -252,6 +265,7 @@ fn take_all(
 
 // The end of a book, whose last line may have no LF; the state then keeps every answer.
 fn finish_book(
+    output: Stdout,
     l: Listing,
     job: Job,
     line: &[u8],
@@ -270,7 +284,7 @@ fn finish_book(
     // No more than 1,048,576 LFs are counted, so nothing wraps.
     let n = std::num::wrapping_add_usize(state.lfs, 1);
     l.state = state;
-    hand_on(l, job, n, line, out, page, shown)
+    hand_on(output, l, job, n, line, out, page, shown)
 }
 
 // Whether something else than the input's end or a refusal stopped the job.
@@ -287,6 +301,7 @@ fn is_cut(l: Listing) -> bool {
 
 // The end of the input, unless something else stopped the job.
 fn finish(
+    output: Stdout,
     l: Listing,
     job: Job,
     line: &mut [u8],
@@ -298,8 +313,8 @@ fn finish(
         return l;
     }
     match job {
-        Job::Quote(_) => names::finish(l, job, line, out, page, shown),
-        _ => finish_book(l, job, line, out, page, shown),
+        Job::Quote(_) => names::finish(output, l, job, line, out, page, shown),
+        _ => finish_book(output, l, job, line, out, page, shown),
     }
 }
 
@@ -349,14 +364,15 @@ fn run_of(l: Listing, line: &[u8]) -> Run
 }
 
 // Prints what is left on the page.
-fn flushed(l: Listing, page: &[u8], shown: &mut [u8]) -> Listing {
+fn flushed(output: Stdout, l: Listing, page: &[u8], shown: &mut [u8]) -> Listing {
     let mut l = l;
     let p = l.page;
-    l.page = pages::flush(p, page, shown);
+    l.page = pages::flush(output, p, page, shown);
     l
 }
 
 fn close(
+    output: Stdout,
     l: Listing,
     job: Job,
     line: &mut [u8],
@@ -366,14 +382,15 @@ fn close(
 ) -> Run
     ensures { (is_of_lines result.outcome ≡ true) × (result.size ≡ 0) }
 {
-    let l = finish(l, job, line, out, page, shown);
-    let l = flushed(l, page, shown);
+    let l = finish(output, l, job, line, out, page, shown);
+    let l = flushed(output, l, page, shown);
     run_of(l, line)
 }
 
 // Does the job, on pieces of at most so many bytes.
-pub fn run(
-    fd: i32,
+pub fn run<R: Read>(
+    input: &mut R,
+    output: Stdout,
     size: usize,
     terminal: bool,
     job: Job,
@@ -386,6 +403,6 @@ pub fn run(
     ensures { (is_of_lines result.outcome ≡ true) × (result.size ≡ 0) }
 {
     let l = fresh(is_shown(job, terminal));
-    let l = take_all(fd, size, l, job, piece, line, out, page, shown);
-    close(l, job, line, out, page, shown)
+    let l = take_all(input, output, size, l, job, piece, line, out, page, shown);
+    close(output, l, job, line, out, page, shown)
 }

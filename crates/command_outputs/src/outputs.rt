@@ -1,38 +1,56 @@
 // What is printed: a J8 text as it is, or as a terminal is shown it.
-ghost use Rattle.std.specs.Prelude.{true, false, ◌≡◌, length};
+ghost use Rattle.std.specs.Prelude.{true, false, ◌≡◌, length, IsOk, IsErr};
 ghost use Rattle.command_outputs.specs.declared.outcomes.Outcome.TheVariants.{Done};
 ghost use Rattle.command_outputs.specs.Outcomes.{is_unwritten};
 ghost use Rattle.command_outputs.specs.Outputs.{shown_in, is_showable};
 
 use crate::outcomes::Outcome;
-use libc::STDOUT_FILENO;
 use prelude::answers::Written;
+use std::io;
+use std::io::Print;
+use std::rt::Stdout;
+
+// The system's number of an error, 0 where it gave none.
+pub fn number_of(error: io::Error) -> i32 {
+    match error.raw_os_error() {
+        Some(number) => number,
+        None => 0,
+    }
+}
+
+// Writes bytes, or answers what the system says.
+pub fn send<P: Print>(to: &P, bytes: &[u8]) -> Result<(), i32> {
+    match to.write_all(bytes) {
+        Ok(()) => Ok(()),
+        Err(error) => Err(number_of(error)),
+    }
+}
 
 // A J8 text, with what would drive a terminal escaped where one shows it. Whether it is printed is the system's to say, but where there is no
 // room to show it.
-pub fn print(bytes: &[u8], terminal: bool, shown: &mut [u8]) -> bool
-    ensures value { is_showable terminal bytes.now (length shown.old) ≡ false → result ≡ false }
+pub fn print(output: Stdout, bytes: &[u8], terminal: bool, shown: &mut [u8]) -> Result<(), i32>
+    ensures value { is_showable terminal bytes.now (length shown.old) ≡ false → IsErr result }
     ensures stored { shown.new ≡ shown_in terminal bytes.now shown.old }
 {
     if !terminal {
-        return io::write_all(STDOUT_FILENO, bytes);
+        return send(&output, bytes);
     }
     let written = terminals::write(bytes, shown);
     match written {
         Written::Wrote(n) => {
             let k = command_texts::within(n, shown);
-            io::write_all(STDOUT_FILENO, &shown[..k])
+            send(&output, &shown[..k])
         }
-        Written::Refused(_) => false,
+        Written::Refused(_) => Err(0),
     }
 }
 
 // How a run ends that printed, or couldn't.
-pub fn ended(printed: bool) -> Outcome
-    ensures { (printed ≡ true → result ≡ Done) × (printed ≡ false → is_unwritten result ≡ true) }
+pub fn ended(printed: Result<(), i32>) -> Outcome
+    ensures { (IsOk printed → result ≡ Done) × (IsErr printed → is_unwritten result ≡ true) }
 {
-    if printed {
-        return Outcome::Done;
+    match printed {
+        Ok(()) => Outcome::Done,
+        Err(error) => Outcome::Unwritten(error),
     }
-    Outcome::Unwritten(os::errno())
 }

@@ -6,6 +6,7 @@ ghost use Rattle.command_outputs.specs.Pages.{fresh_page, form_text, page_outcom
 
 use crate::outcomes::Outcome;
 use crate::outputs;
+use std::rt::Stdout;
 
 // The bytes that wait to be printed, whether a terminal shows them, and whether something before them couldn't be printed, with what the
 // system says.
@@ -36,18 +37,20 @@ pub enum Form {
 }
 
 // Prints the page, which is empty then.
-pub fn flush(p: Page, page: &[u8], shown: &mut [u8]) -> Page
+pub fn flush(output: Stdout, p: Page, page: &[u8], shown: &mut [u8]) -> Page
     ensures { (result.at ≡ 0) × Printed p page.now shown.old result shown.new }
 {
     let mut p = p;
     let n = command_texts::within(p.at, page);
     p.at = 0;
-    if outputs::print(&page[..n], p.terminal, shown) {
-        return p;
+    match outputs::print(output, &page[..n], p.terminal, shown) {
+        Ok(()) => p,
+        Err(error) => {
+            p.failed = true;
+            p.error = error;
+            p
+        }
     }
-    p.failed = true;
-    p.error = os::errno();
-    p
 }
 
 // The bytes and one behind them.
@@ -85,7 +88,15 @@ fn put_form(form: Form, n: usize, s: &[u8], at: usize, page: &mut [u8]) -> usize
 }
 
 // The same, on an empty page if this one is full.
-pub fn add(p: Page, form: Form, n: usize, s: &[u8], page: &mut [u8], shown: &mut [u8]) -> Page
+pub fn add(
+    output: Stdout,
+    p: Page,
+    form: Form,
+    n: usize,
+    s: &[u8],
+    page: &mut [u8],
+    shown: &mut [u8],
+) -> Page
     ensures { Added p (form_text form n s.now) page.old shown.old result page.new shown.new }
 {
     let mut p = p;
@@ -94,7 +105,7 @@ pub fn add(p: Page, form: Form, n: usize, s: &[u8], page: &mut [u8], shown: &mut
         p.at = at;
         return p;
     }
-    p = flush(p, page, shown);
+    p = flush(output, p, page, shown);
     p.at = put_form(form, n, s, 0, page);
     p
 }
@@ -118,6 +129,7 @@ fn put_cell(
 
 // The same of a cell of a log.
 pub fn add_cell(
+    output: Stdout,
     p: Page,
     row: usize,
     name: &[u8],
@@ -134,7 +146,7 @@ pub fn add_cell(
         p.at = at;
         return p;
     }
-    p = flush(p, page, shown);
+    p = flush(output, p, page, shown);
     p.at = put_cell(row, name, quoted, value, 0, page);
     p
 }

@@ -4,23 +4,29 @@ ghost use Rattle.command_outputs.specs.Outcomes.{status_of};
 
 use crate::misplaced;
 use check::same;
-use command_outputs::outcomes;
 use command_outputs::outcomes::{Outcome, Run};
+use command_outputs::{outcomes, outputs};
 use command_words::arguments;
 use command_words::arguments::{Command, Options};
-use libc::STDERR_FILENO;
 use messages::Head;
 use prelude::answers::Written;
 use prelude::limits::TEXT_MAX;
 use prelude::refusals;
+use std::rt::{Env, Stderr};
 
 // An argument, quoted.
-fn put_argument(i: usize, at: usize, store: &mut [u8], said: &mut [u8], line: &mut [u8]) -> usize {
-    let n = os::arg(i, store);
-    if os::errno() != 0 {
-        return at;
+fn put_argument<E: Env>(
+    words: &E,
+    i: usize,
+    at: usize,
+    store: &mut [u8],
+    said: &mut [u8],
+    line: &mut [u8],
+) -> usize {
+    match words.arg(i, store) {
+        Ok(n) => command_texts::put_quoted(&store[..n], at, line, said),
+        Err(_) => at,
     }
-    command_texts::put_quoted(&store[..n], at, line, said)
 }
 
 // What can be wrong with the words, in the order of the numbers in `arguments`.
@@ -43,50 +49,99 @@ a file's name may have 4,095 bytes
 }
 
 // The argument that it is about, if any.
-fn put_wrong(i: usize, at: usize, store: &mut [u8], said: &mut [u8], line: &mut [u8]) -> usize {
+fn put_wrong<E: Env>(
+    words: &E,
+    i: usize,
+    at: usize,
+    store: &mut [u8],
+    said: &mut [u8],
+    line: &mut [u8],
+) -> usize {
     if i == 0 {
         return at;
     }
     let e = command_texts::put(b": ", at, said);
-    put_argument(i, e, store, said, line)
+    put_argument(words, i, e, store, said, line)
 }
 
-fn put_misuse(fault: usize, i: usize, store: &mut [u8], said: &mut [u8], line: &mut [u8]) -> usize {
+fn put_misuse<E: Env>(
+    words: &E,
+    fault: usize,
+    i: usize,
+    store: &mut [u8],
+    said: &mut [u8],
+    line: &mut [u8],
+) -> usize {
     if fault == 0 {
         return 0;
     }
     let a = put_fault(fault, said);
-    let b = put_wrong(i, a, store, said, line);
+    let b = put_wrong(words, i, a, store, said, line);
     command_texts::put(b" (see 'j8 help')", b, said)
 }
 
+// What Linux calls some errors.
+const EPERM: i32 = 1;
+
+const ENOENT: i32 = 2;
+
+const EINTR: i32 = 4;
+
+const EIO: i32 = 5;
+
+const EBADF: i32 = 9;
+
+const EAGAIN: i32 = 11;
+
+const ENOMEM: i32 = 12;
+
+const EACCES: i32 = 13;
+
+const ENOTDIR: i32 = 20;
+
+const EISDIR: i32 = 21;
+
+const EINVAL: i32 = 22;
+
+const EMFILE: i32 = 24;
+
+const EFBIG: i32 = 27;
+
+const ENOSPC: i32 = 28;
+
+const EPIPE: i32 = 32;
+
+const ENAMETOOLONG: i32 = 36;
+
+const ELOOP: i32 = 40;
+
 // The line of an error of reading or writing in `put_reason`, or 0 for any other.
 fn moving_reason(error: i32) -> usize {
-    if error == libc::ENOSPC {
+    if error == ENOSPC {
         return 9;
     }
-    if error == libc::EPIPE {
+    if error == EPIPE {
         return 10;
     }
-    if error == libc::EIO {
+    if error == EIO {
         return 11;
     }
-    if error == libc::EBADF {
+    if error == EBADF {
         return 12;
     }
-    if error == libc::EFBIG {
+    if error == EFBIG {
         return 13;
     }
-    if error == libc::EINVAL {
+    if error == EINVAL {
         return 14;
     }
-    if error == libc::EINTR {
+    if error == EINTR {
         return 15;
     }
-    if error == libc::EAGAIN {
+    if error == EAGAIN {
         return 16;
     }
-    if error == libc::ENOMEM {
+    if error == ENOMEM {
         return 17;
     }
     0
@@ -94,28 +149,28 @@ fn moving_reason(error: i32) -> usize {
 
 // The same of an error of opening or of any other.
 fn reason_of(error: i32) -> usize {
-    if error == libc::ENOENT {
+    if error == ENOENT {
         return 1;
     }
-    if error == libc::EACCES {
+    if error == EACCES {
         return 2;
     }
-    if error == libc::EISDIR {
+    if error == EISDIR {
         return 3;
     }
-    if error == libc::ENOTDIR {
+    if error == ENOTDIR {
         return 4;
     }
-    if error == libc::EPERM {
+    if error == EPERM {
         return 5;
     }
-    if error == libc::EMFILE {
+    if error == EMFILE {
         return 6;
     }
-    if error == libc::ELOOP {
+    if error == ELOOP {
         return 7;
     }
-    if error == libc::ENAMETOOLONG {
+    if error == ENAMETOOLONG {
         return 8;
     }
     moving_reason(error)
@@ -151,25 +206,32 @@ Cannot allocate memory
 }
 
 // The input: standard input, or the file's name, quoted.
-fn put_input(file: usize, store: &mut [u8], said: &mut [u8], line: &mut [u8]) -> usize {
+fn put_input<E: Env>(
+    words: &E,
+    file: usize,
+    store: &mut [u8],
+    said: &mut [u8],
+    line: &mut [u8],
+) -> usize {
     if file == 0 {
         return command_texts::put(b"standard input", 0, said);
     }
-    let n = os::arg(file, store);
+    let n = command_texts::within(words.arg(file, store).unwrap_or(0), store);
     if same(&store[..n], b"-") {
         return command_texts::put(b"standard input", 0, said);
     }
     command_texts::put_quoted(&store[..n], 0, line, said)
 }
 
-fn put_unread(
+fn put_unread<E: Env>(
+    words: &E,
     file: usize,
     error: i32,
     store: &mut [u8],
     said: &mut [u8],
     line: &mut [u8],
 ) -> usize {
-    let a = put_input(file, store, said, line);
+    let a = put_input(words, file, store, said, line);
     let b = command_texts::put(b" can't be read: ", a, said);
     put_reason(error, b, said)
 }
@@ -220,7 +282,8 @@ fn put_refused(number: u32, command: Command, said: &mut [u8]) -> usize {
     put_beside(number, command, a, said)
 }
 
-fn put_outcome(
+fn put_outcome<E: Env>(
+    words: &E,
     outcome: Outcome,
     command: Command,
     o: Options,
@@ -233,8 +296,8 @@ fn put_outcome(
         Outcome::Refused(number, _, _) => put_refused(number, command, said),
         Outcome::Long(n) => put_long(n, said),
         Outcome::Mixed(n) => put_mixed(n, o, said),
-        Outcome::Misused(fault, i) => put_misuse(fault, i, store, said, line),
-        Outcome::Unread(error) => put_unread(o.file, error, store, said, line),
+        Outcome::Misused(fault, i) => put_misuse(words, fault, i, store, said, line),
+        Outcome::Unread(error) => put_unread(words, o.file, error, store, said, line),
         Outcome::Unwritten(error) => put_unwritten(error, said),
     }
 }
@@ -247,35 +310,41 @@ fn head_of(outcome: Outcome) -> Head {
 }
 
 // A line on standard error. If that can't be written there is nobody to tell.
-fn say_line(head: Head, sentence: &[u8], json: bool, line: &mut [u8]) {
+fn say_line(errors: Stderr, head: Head, sentence: &[u8], json: bool, line: &mut [u8]) {
     let written = messages_write::write(head, sentence, json, line);
     match written {
         Written::Wrote(n) => {
             let k = command_texts::within(n, line);
-            io::write_all(STDERR_FILENO, &line[..k]);
+            let _ = outputs::send(&errors, &line[..k]);
         }
         Written::Refused(_) => {}
     }
 }
 
 // The first n bytes of what was put together, as a line.
-fn say(head: Head, n: usize, o: Options, said: &[u8], line: &mut [u8]) {
+fn say(errors: Stderr, head: Head, n: usize, o: Options, said: &[u8], line: &mut [u8]) {
     if n == 0 {
         return;
     }
     let n = command_texts::within(n, said);
-    say_line(head, &said[..n], o.flags & arguments::JSON != 0, line)
+    say_line(
+        errors,
+        head,
+        &said[..n],
+        o.flags & arguments::JSON != 0,
+        line,
+    )
 }
 
-fn say_empty(empty: bool, o: Options, said: &mut [u8], line: &mut [u8]) {
+fn say_empty(errors: Stderr, empty: bool, o: Options, said: &mut [u8], line: &mut [u8]) {
     if !empty {
         return;
     }
     let n = command_texts::put(b"the input is empty", 0, said);
-    say(Head::Note, n, o, said, line)
+    say(errors, Head::Note, n, o, said, line)
 }
 
-fn say_mark(mark: usize, o: Options, said: &mut [u8], line: &mut [u8]) {
+fn say_mark(errors: Stderr, mark: usize, o: Options, said: &mut [u8], line: &mut [u8]) {
     if mark == 0 {
         return;
     }
@@ -286,7 +355,7 @@ fn say_mark(mark: usize, o: Options, said: &mut [u8], line: &mut [u8]) {
         b,
         said,
     );
-    say(Head::Note, c, o, said, line)
+    say(errors, Head::Note, c, o, said, line)
 }
 
 // The place of a refusal 13, or a place that no text has.
@@ -302,7 +371,8 @@ fn misplaced_at(outcome: Outcome) -> usize {
     }
 }
 
-fn put_all(
+fn put_all<E: Env>(
+    words: &E,
     run: Run,
     command: Command,
     o: Options,
@@ -317,17 +387,27 @@ fn put_all(
     if place < TEXT_MAX {
         return misplaced::put(place, run.size, text, table, store, said, line);
     }
-    put_outcome(outcome, command, o, store, said, line)
+    put_outcome(words, outcome, command, o, store, said, line)
 }
 
 // What was put together, and a note behind it.
-fn say_last(outcome: Outcome, n: usize, mark: usize, o: Options, said: &mut [u8], line: &mut [u8]) {
-    say(head_of(outcome), n, o, said, line);
-    say_mark(mark, o, said, line)
+fn say_last(
+    errors: Stderr,
+    outcome: Outcome,
+    n: usize,
+    mark: usize,
+    o: Options,
+    said: &mut [u8],
+    line: &mut [u8],
+) {
+    say(errors, head_of(outcome), n, o, said, line);
+    say_mark(errors, mark, o, said, line)
 }
 
 // Says what there is to say, and answers the status.
-pub fn report(
+pub fn report<E: Env>(
+    words: &E,
+    errors: Stderr,
     run: Run,
     command: Command,
     o: Options,
@@ -339,9 +419,9 @@ pub fn report(
 ) -> u32
     ensures { result ≡ status_of run.outcome }
 {
-    say_empty(run.empty, o, said, line);
-    let n = put_all(run, command, o, text, table, store, said, line);
+    say_empty(errors, run.empty, o, said, line);
+    let n = put_all(words, run, command, o, text, table, store, said, line);
     let outcome = run.outcome;
-    say_last(outcome, n, run.mark, o, said, line);
+    say_last(errors, outcome, n, run.mark, o, said, line);
     outcomes::status_of(outcome)
 }

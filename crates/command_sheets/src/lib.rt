@@ -14,6 +14,7 @@ use command_outputs::outcomes::Outcome;
 use command_outputs::pages::Page;
 use command_outputs::{outcomes, pages};
 use prelude::slices;
+use std::rt::Stdout;
 use tsv8::answers::Sheet;
 use tsv8::read;
 
@@ -77,6 +78,7 @@ fn column_of(k: usize, columns: usize) -> usize
 
 // The line of cell k.
 fn list_cell<'a>(
+    output: Stdout,
     p: Page,
     k: usize,
     columns: usize,
@@ -95,11 +97,12 @@ fn list_cell<'a>(
     let name = bytes_from(names, 3 * column, text, store);
     let value = bytes_from(cells, 3 * k, text, store);
     let quoted = is_string(cells, 3 * k);
-    pages::add_cell(p, row, name, quoted, value, page, shown)
+    pages::add_cell(output, p, row, name, quoted, value, page, shown)
 }
 
 // The lines of so many cells.
 fn list_cells<'a>(
+    output: Stdout,
     count: usize,
     columns: usize,
     text: &'a [u8],
@@ -116,14 +119,17 @@ fn list_cells<'a>(
     let mut p = pages::fresh(terminal);
     let mut k = 0;
     while k < count {
-        p = list_cell(p, k, columns, text, names, cells, store, page, shown);
+        p = list_cell(
+            output, p, k, columns, text, names, cells, store, page, shown,
+        );
         k += 1;
     }
-    pages::outcome_of(pages::flush(p, page, shown))
+    pages::outcome_of(pages::flush(output, p, page, shown))
 }
 
 // Prints each cell of a log, row by row.
 pub fn list(
+    output: Stdout,
     text: &[u8],
     terminal: bool,
     table: &mut [u32],
@@ -140,7 +146,7 @@ pub fn list(
     let sheet = read::read(text, &mut names, &mut types, table, store);
     match sheet {
         Sheet::Done(columns, count, _) => list_cells(
-            count, columns, text, terminal, &names, table, store, page, shown,
+            output, count, columns, text, terminal, &names, table, store, page, shown,
         ),
         Sheet::Refused(number, place) => outcomes::refused_at(text, number, place),
     }

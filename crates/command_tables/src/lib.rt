@@ -20,6 +20,7 @@ use json8_show::show::Shown;
 use json8_write::write;
 use prelude::answers::Written;
 use prelude::limits::TEXT_MAX;
+use std::rt::Stdout;
 
 // Puts LF behind a text, unless that would be too long with it.
 fn put_end(n: usize, page: &mut [u8]) -> usize {
@@ -30,7 +31,13 @@ fn put_end(n: usize, page: &mut [u8]) -> usize {
 }
 
 // Prints the written form in the first n bytes of the page.
-fn print_written(n: usize, terminal: bool, page: &mut [u8], shown: &mut [u8]) -> Outcome
+fn print_written(
+    output: Stdout,
+    n: usize,
+    terminal: bool,
+    page: &mut [u8],
+    shown: &mut [u8],
+) -> Outcome
     ensures { (text_max < n → result ≡ Long n) × (n ≤ text_max → is_printed result ≡ true) }
 {
     if n > TEXT_MAX {
@@ -38,10 +45,11 @@ fn print_written(n: usize, terminal: bool, page: &mut [u8], shown: &mut [u8]) ->
     }
     let e = put_end(n, page);
     let e = command_texts::within(e, page);
-    outputs::ended(outputs::print(&page[..e], terminal, shown))
+    outputs::ended(outputs::print(output, &page[..e], terminal, shown))
 }
 
 fn print_table(
+    output: Stdout,
     text: &[u8],
     table: &[u32],
     store: &[u8],
@@ -53,13 +61,14 @@ fn print_table(
 {
     let written = write::write(table, text, store, page);
     match written {
-        Written::Wrote(n) => print_written(n, terminal, page, shown),
+        Written::Wrote(n) => print_written(output, n, terminal, page, shown),
         Written::Refused(number) => outcomes::refused_at(text, number, 0),
     }
 }
 
 // Prints a backup in its one written form.
 pub fn rewrite(
+    output: Stdout,
     text: &[u8],
     terminal: bool,
     table: &mut [u32],
@@ -73,13 +82,14 @@ pub fn rewrite(
 {
     let parsed = read::read(text, table, store);
     match parsed {
-        Parsed::Done(_, _) => print_table(text, table, store, terminal, page, shown),
+        Parsed::Done(_, _) => print_table(output, text, table, store, terminal, page, shown),
         Parsed::Refused(number, place) => outcomes::refused_at(text, number, place),
     }
 }
 
 // The part of a buffer that a node shows.
 fn list_part(
+    output: Stdout,
     p: Page,
     node: usize,
     buf: &[u8],
@@ -95,10 +105,11 @@ fn list_part(
         return p;
     }
     let end = place + size;
-    pages::add(p, Form::Entry, node, &buf[place..end], page, shown)
+    pages::add(output, p, Form::Entry, node, &buf[place..end], page, shown)
 }
 
 fn list_node(
+    output: Stdout,
     p: Page,
     text: &[u8],
     table: &[u32],
@@ -109,13 +120,14 @@ fn list_node(
 ) -> Page {
     let what = show::shown_at(table, text.len(), store.len(), node);
     match what {
-        Shown::InText(place, size) => list_part(p, node, text, place, size, page, shown),
-        Shown::InStore(place, size) => list_part(p, node, store, place, size, page, shown),
+        Shown::InText(place, size) => list_part(output, p, node, text, place, size, page, shown),
+        Shown::InStore(place, size) => list_part(output, p, node, store, place, size, page, shown),
         Shown::Nowhere => p,
     }
 }
 
 fn list_nodes(
+    output: Stdout,
     nodes: usize,
     text: &[u8],
     terminal: bool,
@@ -129,14 +141,15 @@ fn list_nodes(
     let mut p = pages::fresh(terminal);
     let mut node = 0;
     while node < nodes {
-        p = list_node(p, text, table, store, node, page, shown);
+        p = list_node(output, p, text, table, store, node, page, shown);
         node += 1;
     }
-    pages::outcome_of(pages::flush(p, page, shown))
+    pages::outcome_of(pages::flush(output, p, page, shown))
 }
 
 // Prints each string of a backup with its node.
 pub fn list(
+    output: Stdout,
     text: &[u8],
     terminal: bool,
     table: &mut [u32],
@@ -150,7 +163,9 @@ pub fn list(
 {
     let parsed = read::read(text, table, store);
     match parsed {
-        Parsed::Done(nodes, _) => list_nodes(nodes, text, terminal, table, store, page, shown),
+        Parsed::Done(nodes, _) => list_nodes(
+            output, nodes, text, terminal, table, store, page, shown,
+        ),
         Parsed::Refused(number, place) => outcomes::refused_at(text, number, place),
     }
 }

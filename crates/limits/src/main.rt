@@ -10,8 +10,10 @@ mod tables;
 mod texts;
 mod uploads;
 
-use libc::STDIN_FILENO;
 use prelude::slices;
+
+// The descriptor of standard input.
+const STDIN: i32 = 0;
 
 // No input has more bytes.
 const BYTES_MAX: usize = 16777216;
@@ -19,7 +21,7 @@ const BYTES_MAX: usize = 16777216;
 // Reads a byte, 0 at the input's end.
 fn read_byte() -> u8 {
     let mut one = [0u8; 1];
-    io::read_full(STDIN_FILENO, &mut one);
+    io::read_full(STDIN, &mut one);
     one[0]
 }
 

@@ -1,9 +1,11 @@
 // What is printed: numbers joined by commas, and buffers in the notation of the rows.
-use libc::STDOUT_FILENO;
 use prelude::slices;
 
+// The descriptor of standard output.
+const STDOUT: i32 = 1;
+
 pub fn print(s: &[u8]) {
-    io::write_all(STDOUT_FILENO, s);
+    io::write_all(STDOUT, s);
 }
 
 pub fn mark(b: u8) {
@@ -17,7 +19,7 @@ pub fn wrong() {
 }
 
 pub fn number(n: usize) {
-    io::print_decimal(STDOUT_FILENO, n as u64);
+    io::print_decimal(STDOUT, n as u64);
 }
 
 pub fn marked(b: u8, n: usize) {
@@ -43,7 +45,7 @@ pub fn five(a: usize, b: usize, c: usize, d: usize, e: usize) {
 
 // A byte, and how often it stands there in a row.
 fn print_run(b: u8, n: usize) {
-    io::print_hex(STDOUT_FILENO, b as u64, 2);
+    io::print_hex(STDOUT, b as u64, 2);
     if n > 1 {
         marked(b'*', n);
     }

@@ -1,6 +1,12 @@
 // The command as a program of Rattle, for the gate: it has no status, so what is installed is command/main.c.
 #![tactic(auto)]
 
+use std::fs::File;
+use std::{io, str};
+
+// What Linux calls an argument that it can't take.
+const EINVAL: i32 = 22;
+
 // Rooms of what the command is lent, as command/main.c has them.
 const TEXT: usize = 32771;
 
@@ -38,12 +44,48 @@ fn shown() -> [u8; SHOWN] {
     [0u8; SHOWN]
 }
 
-fn main() {
+// What the system says of a file that it doesn't open.
+fn number_of(error: io::Error) -> i32 {
+    error.raw_os_error().unwrap_or(EINVAL)
+}
+
+// The file of such a name. Rattle's names are text: one that isn't is none that can be opened.
+fn open(rt: &HostRuntime, name: &[u8]) -> Result<File, i32> {
+    match str::from_utf8(name) {
+        Ok(name) => File::open(rt, name).map_err(number_of),
+        Err(_) => Err(EINVAL),
+    }
+}
+
+fn main(rt: HostRuntime) {
     let mut a = text();
     let mut b = table();
     let mut c = store();
     let mut d = record();
     let mut e = page();
     let mut f = shown();
-    command::j8_run(false, &mut a, &mut b, &mut c, &mut d, &mut e, &mut f);
+    let n = command::j8_file(&rt, &mut a);
+    let (mut input, output, errors) = (rt.stdin(), rt.stdout(), rt.stderr());
+    if n == 0 {
+        command::j8_run(
+            &rt, &mut input, output, errors, 0, false, &mut a, &mut b, &mut c, &mut d, &mut e,
+            &mut f,
+        );
+        return;
+    }
+    match open(&rt, &a[..n]) {
+        Ok(file) => {
+            let mut file = file;
+            command::j8_run(
+                &rt, &mut file, output, errors, 0, false, &mut a, &mut b, &mut c, &mut d, &mut e,
+                &mut f,
+            );
+        }
+        Err(error) => {
+            command::j8_run(
+                &rt, &mut input, output, errors, error, false, &mut a, &mut b, &mut c, &mut d,
+                &mut e, &mut f,
+            );
+        }
+    }
 }
