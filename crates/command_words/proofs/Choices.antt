@@ -1,24 +1,21 @@
 -- Words are compared one after another, and each choice is the definition's.
 -- Assumes nothing.
-use Prim.Native.Nat.{ℕ, suc, ◌+◌, ◌-◌, ◌*◌, ◌≤◌, ◌<◌}
-use Prim.Native.Char.{code}
-use mathlib.Core.Bool.{Bool, true, false, ◌&&◌}
+use Prim.Native.Nat.{ℕ, ◌+◌, ◌-◌, ◌*◌, ◌≤◌, ◌<◌}
+use mathlib.Core.Bool.{Bool, true, false}
 use mathlib.Core.List.{List, [], ◌∷◌}
 use mathlib.Core.Path.{◌≡◌, refl, sym, ap, subst, ◌∙◌}
 use native.Mathlib.Numerals.{add-one}
 use native.Mathlib.Omega.{arith}
 use borrow.Author.Tests.{lt-ltb, le-ltb, eq-eqb, ne_eqb, eqb-true}
 use lib.Bits.{bit_and, bit_or}
-use lib.Dec.{eqb, ltb}
+use lib.Dec.{eqb}
 use lib.ListN.{length, length-drop, get_or, take, drop, drop_of_length-le}
 use lib.Seq.{drop-cons, take_all}
 use Rattle.prelude.proofs.Cases.{split, never, and_left, and_right}
 use Rattle.prelude.proofs.Picks.{pick_true, pick_false, and_yes}
-use Rattle.prelude.specs.Bytes.{ascii}
-use Rattle.prelude.specs.Pick.{pick}
 use Rattle.tokens.specs.Words.{same_bytes}
 use Rattle.command_words.specs.declared.arguments.Command.{Command}
-use Rattle.command_words.specs.declared.arguments.Command.TheVariants.{Help, Version, Lines, Quote, Unquote, Json8, Strings, Tsv8, Missing, Unknown}
+use Rattle.command_words.specs.declared.arguments.Command.TheVariants.{Help, Version, Lines, Quote, Unquote, Json8, Strings, Tsv8, Unknown}
 use Rattle.command_words.specs.declared.arguments.Options.{Options}
 use Rattle.command_words.specs.Arguments.{is_word, reader_of, command_of, json, help, pieces, line, lines, nul, option_of, piece_max, size_from, size_of, no_option, second_file, bad_size, line_and_lines, with_fault, with_size, with_file, with_option, size_at, has_size, with_sized, is_option, with_end, with_word, unsized, with_argument, with_long, all_checked}
 

@@ -1,0 +1,29 @@
+-- By the words, one after another (Choices).
+use Rattle.command_words.proofs.Choices.{alike, differ, reader_1, reader_2, reader_3, reader_4, reader_5, reader_6, reader_7}
+use Rattle.command_words.proofs.arguments.command_that_reads.Goals as goal
+
+pub returns-then-same : goal.returns-then-same
+returns-then-same c = reader_1 c.args.word.now (alike c.same.ensures c.if-same.true)
+
+pub returns-then-same-2 : goal.returns-then-same-2
+returns-then-same-2 c = reader_2 c.args.word.now (differ c.same.ensures c.if-same.false) (alike c.same-2.ensures c.if-same-2.true)
+
+pub returns-then-same-3 : goal.returns-then-same-3
+returns-then-same-3 c =
+    reader_3 c.args.word.now (differ c.same.ensures c.if-same.false) (differ c.same-2.ensures c.if-same-2.false) (alike c.same-3.ensures c.if-same-3.true)
+
+pub returns-then-same-4 : goal.returns-then-same-4
+returns-then-same-4 c =
+    reader_4 c.args.word.now (differ c.same.ensures c.if-same.false) (differ c.same-2.ensures c.if-same-2.false) (differ c.same-3.ensures c.if-same-3.false) (alike c.same-4.ensures c.if-same-4.true)
+
+pub returns-then-same-5 : goal.returns-then-same-5
+returns-then-same-5 c =
+    reader_5 c.args.word.now (differ c.same.ensures c.if-same.false) (differ c.same-2.ensures c.if-same-2.false) (differ c.same-3.ensures c.if-same-3.false) (differ c.same-4.ensures c.if-same-4.false) (alike c.same-5.ensures c.if-same-5.true)
+
+pub returns-then-same-6 : goal.returns-then-same-6
+returns-then-same-6 c =
+    reader_6 c.args.word.now (differ c.same.ensures c.if-same.false) (differ c.same-2.ensures c.if-same-2.false) (differ c.same-3.ensures c.if-same-3.false) (differ c.same-4.ensures c.if-same-4.false) (differ c.same-5.ensures c.if-same-5.false) (alike c.same-6.ensures c.if-same-6.true)
+
+pub returns : goal.returns
+returns c =
+    reader_7 c.args.word.now (differ c.same.ensures c.if-same.false) (differ c.same-2.ensures c.if-same-2.false) (differ c.same-3.ensures c.if-same-3.false) (differ c.same-4.ensures c.if-same-4.false) (differ c.same-5.ensures c.if-same-5.false) (differ c.same-6.ensures c.if-same-6.false)
