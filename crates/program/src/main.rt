@@ -1,4 +1,5 @@
-// The command as a program of Rattle, for the gate: it has no status, so what is installed is command/main.c.
+// The command as a program of Rattle, for the gate. What is installed is command/main.c: it opens a file of any name, runs in little stack and has a
+// status.
 #![tactic(auto)]
 
 use std::fs::File;
