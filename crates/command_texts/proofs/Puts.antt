@@ -7,15 +7,13 @@ use mathlib.Core.Path.{◌≡◌, refl, sym, ap, subst, ◌∙◌}
 use native.Mathlib.Omega.{arith}
 use borrow.Author.Tests.{lt-ltb, le-ltb, le-leb, lt-leb, leb-true, leb-false}
 use borrow.Rule.Slice.PartMut.{put_mid, put_same}
-use lib.Dec.{leb, ltb}
+use lib.Dec.{leb}
 use lib.ListN.{length, length-append, length-drop, take, drop}
 use lib.Seq.{sets, length-sets, length-take-le, take-append_seam}
 use Rattle.io.specs.Counts.{IsPrefixLen}
 use Rattle.prelude.proofs.Cases.{split, never}
 use Rattle.prelude.proofs.Picks.{pick_true, pick_false}
 use Rattle.prelude.proofs.Stores.{sets_over, sets_part}
-use Rattle.prelude.specs.Pick.{pick}
-use Rattle.prelude.specs.Refusals.{no_room}
 use Rattle.prelude.specs.declared.answers.Written.{Written}
 use Rattle.prelude.specs.declared.answers.Written.TheVariants.{Wrote, Refused}
 use Rattle.strings_write.specs.Write.{write_string, written_in, wrote_into}
