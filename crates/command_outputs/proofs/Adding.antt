@@ -7,13 +7,12 @@ use mathlib.Core.Path.{◌≡◌, refl, sym, ap, subst, ◌∙◌}
 use native.Mathlib.Omega.{arith}
 use borrow.Author.Tests.{le-leb, leb-true, leb-false}
 use lib.Dec.{leb}
-use lib.ListN.{length, length-append, take, drop}
+use lib.ListN.{length, length-append, take}
 use lib.Seq.{sets, length-sets, take_all}
 use Rattle.prelude.proofs.Cases.{split, never}
 use Rattle.prelude.proofs.Picks.{pick_true, pick_false}
 use Rattle.prelude.proofs.Stores.{sets_append}
 use Rattle.prelude.specs.Bytes.{ascii}
-use Rattle.prelude.specs.Pick.{pick}
 use Rattle.strings_write.specs.Write.{write_string}
 use Rattle.decimals.specs.Decimals.{decimal}
 use Rattle.entries.specs.Entries.{entry_text, value_text, cell_text}
@@ -23,7 +22,7 @@ use Rattle.command_outputs.specs.declared.pages.Page.{Page}
 use Rattle.command_outputs.specs.declared.pages.Form.{Form}
 use Rattle.command_outputs.specs.declared.pages.Form.TheVariants.{Entry, Raw}
 use Rattle.command_outputs.specs.declared.outcomes.Outcome.TheVariants.{Done, Unwritten}
-use Rattle.command_outputs.specs.Pages.{form_text, page_outcome, Printed, Behind, Anew, Added}
+use Rattle.command_outputs.specs.Pages.{form_text, page_outcome, Printed, Added}
 use Rattle.command_outputs.proofs.Printing.{Shown}
 
 -- what came of a page
@@ -72,11 +71,11 @@ module _ (p : Page) (page shown : List ℕ) (n : ℕ) (f : p.at ≤ length page 
     told : Shown p.terminal (take p.at page) shown r new
     told = subst (λ (t : List ℕ). Shown p.terminal t shown r new) front s
 
-    pub printed : r ≡ true → Printed p page shown (record { at = 0; terminal = p.terminal; failed = p.failed; error = p.error }) new
+    pub printed : r ≡ false → Printed p page shown (record { at = 0; terminal = p.terminal; failed = p.failed; error = p.error }) new
     printed e = record {
       terminal = refl;
       kept = λ k. k;
-      unshown = λ u. never (let z : true ≡ false = sym e ∙ told.0 u in cc);
+      unshown = λ u. never (let z : true ≡ false = sym (told.0 u) ∙ e in cc);
       error = λ k. refl;
       stored = told.1;
     }

@@ -6,18 +6,17 @@ use mathlib.Core.List.{List}
 use mathlib.Core.Path.{◌≡◌, refl, sym, ap, ◌∙◌}
 use lib.Dec.{leb}
 use lib.ListN.{length}
-use Rattle.prelude.proofs.Cases.{split, never}
+use Rattle.prelude.proofs.Cases.{never}
 use Rattle.prelude.proofs.Picks.{pick_true, pick_false}
-use Rattle.prelude.specs.Pick.{pick}
 use Rattle.prelude.specs.declared.answers.Written.{Written}
 use Rattle.prelude.specs.declared.answers.Written.TheVariants.{Wrote, Refused}
 use Rattle.strings_write.specs.Write.{written_in, wrote_into}
 use Rattle.terminals.specs.Terminals.{safe_text}
 use Rattle.command_outputs.specs.Outputs.{shown_in, is_showable}
 
--- what is promised of a printed text
+-- what is promised of a printed text, by whether that failed
 abbrev pub Shown : Bool → List ℕ → List ℕ → Bool → List ℕ → Type 0
-Shown terminal text shown r new = (is_showable terminal text (length shown) ≡ false → r ≡ false) × (new ≡ shown_in terminal text shown)
+Shown terminal text shown failed new = (is_showable terminal text (length shown) ≡ false → failed ≡ true) × (new ≡ shown_in terminal text shown)
 
 abbrev is_wrote : Written → Bool
 is_wrote (Wrote n) = true
@@ -42,5 +41,5 @@ module _ (terminal : Bool) (text shown : List ℕ) where
       stored,
     )
 
-    pub not_shown : Shown terminal text shown false new
+    pub not_shown : Shown terminal text shown true new
     not_shown = (λ f. refl, stored)

@@ -1,6 +1,6 @@
 -- What is claimed of the status: each claim is a type, and proofs/Claims.antt has a term of it.
 -- Assumes nothing.
-use Rattle.std.specs.Prelude.{ℕ, ◌≤◌}
+use Rattle.std.specs.Prelude.{◌≤◌}
 use Rattle.command_outputs.specs.declared.outcomes.Outcome.{Outcome}
 use Rattle.command_outputs.specs.Outcomes.{status_of}
 
