@@ -4,7 +4,7 @@ use Prim.Native.Nat.{ℕ}
 use mathlib.Core.Bool.{Bool, true, false}
 use mathlib.Core.List.{List}
 use mathlib.Core.Path.{◌≡◌, refl, ap, ◌∙◌}
-use Rattle.prelude.proofs.Cases.{split}
+use Rattle.std.specs.Prelude.{Result, Ok, Err, IsOk, IsErr}
 use Rattle.prelude.proofs.Picks.{pick_case}
 use Rattle.positions.specs.declared.Position.{Position}
 use Rattle.positions.specs.Positions.{position_of}
@@ -27,8 +27,9 @@ unwritten (Misused fault argument) e = e
 unwritten (Unread error) e = e
 unwritten (Unwritten error) e = refl
 
-pub ended_printed : (printed : Bool) (o : Outcome) → (printed ≡ true → o ≡ Done) × (printed ≡ false → is_unwritten o ≡ true) → is_printed o ≡ true
-ended_printed printed o p = split printed (λ e. ap is_printed (p.0 e)) (λ e. unwritten o (p.1 e))
+pub ended_printed : {T E : Type 0} (printed : Result T E) (o : Outcome) → (IsOk printed → o ≡ Done) × (IsErr printed → is_unwritten o ≡ true) → is_printed o ≡ true
+ended_printed (Ok x) o p = ap is_printed (p.0 refl)
+ended_printed (Err e) o p = unwritten o (p.1 refl)
 
 pub page_printed : (p : Page) (o : Outcome) → o ≡ page_outcome p → is_printed o ≡ true
 unfolding page_outcome

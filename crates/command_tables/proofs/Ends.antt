@@ -9,7 +9,6 @@ use lib.ListN.{length}
 use Rattle.prelude.proofs.Cases.{never}
 use Rattle.prelude.specs.Limits.{text_max}
 use Rattle.prelude.specs.declared.answers.Written.{Written}
-use Rattle.prelude.specs.declared.answers.Written.TheVariants as written
 use Rattle.json8.specs.Nodes.{Read, got, refused}
 use Rattle.json8.specs.Read.{read_of, parsed_of, table_after, store_after}
 use Rattle.trees.specs.Tables.{nodes_in, tree_of}
