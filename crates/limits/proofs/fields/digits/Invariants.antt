@@ -1,0 +1,11 @@
+-- The place goes up to the end; nothing else is asked.
+use Rattle.std.proofs.Common.{◌-◌, length}
+use Rattle.limits.proofs.fields.digits.Given as goal
+
+abbrev pub invariant-loop-at : goal.invariant-loop-at
+invariant-loop-at l =
+    Unit {0}
+
+abbrev pub decreases-loop-at : goal.decreases-loop-at
+decreases-loop-at l =
+    length l.s - l.at
