@@ -1,5 +1,7 @@
 // What is printed: a J8 text as it is, or as a terminal is shown it.
-ghost use Rattle.std.specs.Prelude.{true, false, ◌≡◌, length, IsOk, IsErr};
+ghost use Rattle.std.specs.Prelude.{true, false, ◌≡◌, length, pos, IsOk, IsErr};
+ghost use Rattle.std.specs.Option.{unwrap_or};
+ghost use Rattle.std.specs.IoError.{raw_os_error};
 ghost use Rattle.command_outputs.specs.declared.outcomes.Outcome.TheVariants.{Done};
 ghost use Rattle.command_outputs.specs.Outcomes.{is_unwritten};
 ghost use Rattle.command_outputs.specs.Outputs.{shown_in, is_showable};
@@ -11,7 +13,9 @@ use std::io::Print;
 use std::rt::Stdout;
 
 // The system's number of an error, 0 where it gave none.
-pub fn number_of(error: io::Error) -> i32 {
+pub fn number_of(error: io::Error) -> i32
+    ensures { result ≡ unwrap_or (raw_os_error error) (pos 0) }
+{
     match error.raw_os_error() {
         Some(number) => number,
         None => 0,
