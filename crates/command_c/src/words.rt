@@ -5,6 +5,7 @@ use prelude::slices;
 use std::env::FillError;
 use std::rt::Env;
 
+#[derive(Clone, Copy)]
 pub struct Words<'a> {
     pub all: &'a [u8],
 }
