@@ -9,10 +9,10 @@
 #include <string.h>
 #include <unistd.h>
 
-size_t j8_file(const uint8_t *words, size_t words_len, uint8_t *name, size_t name_len);
-uint32_t j8_run(int32_t error, bool terminal, const uint8_t *words, size_t words_len, uint8_t *text, size_t text_len, uint32_t *table,
-                size_t table_len, uint8_t *store, size_t store_len, uint8_t *record, size_t record_len, uint8_t *page, size_t page_len,
-                uint8_t *shown, size_t shown_len);
+size_t j8_file(const uint8_t *words, size_t words_len, const uintptr_t *addresses, size_t addresses_len, uint8_t *name, size_t name_len);
+uint32_t j8_run(int32_t error, bool terminal, const uint8_t *words, size_t words_len, const uintptr_t *addresses, size_t addresses_len,
+                uint8_t *text, size_t text_len, uint32_t *table, size_t table_len, uint8_t *store, size_t store_len, uint8_t *record,
+                size_t record_len, uint8_t *page, size_t page_len, uint8_t *shown, size_t shown_len);
 
 /* The longest text, a line's end behind it, and a byte more: a text that fills this is too long. A file's name and its NUL stand here before it is
  * read: 4,096 bytes at most. */
@@ -31,12 +31,15 @@ static uint8_t record[4 + 1024];
 static uint8_t page[2 * 32768 + 24];
 static uint8_t shown[8 * sizeof page];
 
-/* The bytes of the words with their NULs, which Linux hands over one behind another. */
-static size_t size_of(int count, char **words) {
+/* The bytes of the words with their NULs, which Linux hands over one behind another, and how many words these are. */
+static size_t size_of(int count, char **words, size_t *whole) {
     size_t size = 0;
-    for (int i = 0; i < count && words[i] == words[0] + size; i++) {
+    int i = 0;
+    while (i < count && words[i] == words[0] + size) {
         size += strlen(words[i]) + 1;
+        i++;
     }
+    *whole = (size_t)i;
     return size;
 }
 
@@ -56,14 +59,17 @@ static int open_input(const char *name) {
 
 int main(int argc, char **argv) {
     const uint8_t *words = (const uint8_t *)(argc > 0 ? argv[0] : "");
-    size_t size = size_of(argc, argv);
+    /* A pointer is its address here: x86-64 and Linux. */
+    const uintptr_t *addresses = (const uintptr_t *)(const void *)argv;
+    size_t count = 0;
+    size_t size = size_of(argc, argv, &count);
     bool terminal = isatty(STDOUT_FILENO) == 1;
-    size_t name = j8_file(words, size, text, sizeof text);
+    size_t name = j8_file(words, size, addresses, count, text, sizeof text);
     int error = 0;
     if (name > 0) {
         text[name] = 0;
         error = open_input((const char *)text);
     }
-    return (int)j8_run(error, terminal, words, size, text, sizeof text, table, sizeof table / sizeof *table, store, sizeof store, record,
-                       sizeof record, page, sizeof page, shown, sizeof shown);
+    return (int)j8_run(error, terminal, words, size, addresses, count, text, sizeof text, table, sizeof table / sizeof *table, store, sizeof store,
+                       record, sizeof record, page, sizeof page, shown, sizeof shown);
 }

@@ -5,8 +5,12 @@ use command_words::arguments::Command;
 use std::io::Print;
 use std::rt::{Stderr, Stdout};
 
+fn send<P: Print>(to: &P, bytes: &[u8]) -> Result<(), i32> {
+    to.write_all(bytes).map_err(outputs::number_of)
+}
+
 fn lines<P: Print>(to: &P) -> Result<(), i32> {
-    outputs::send(
+    send(
         to,
         b"  lines [--pieces N] [FILE]
       prints each record of a J8 Lines backup: its line, a tab, a J8 string;
@@ -16,7 +20,7 @@ fn lines<P: Print>(to: &P) -> Result<(), i32> {
 }
 
 fn quote<P: Print>(to: &P) -> Result<(), i32> {
-    outputs::send(
+    send(
         to,
         b"  quote [--line | --lines | -0] [FILE]
       prints the input, any bytes, as one J8 string
@@ -28,7 +32,7 @@ fn quote<P: Print>(to: &P) -> Result<(), i32> {
 }
 
 fn unquote<P: Print>(to: &P) -> Result<(), i32> {
-    outputs::send(
+    send(
         to,
         b"  unquote [--lines | -0] [FILE]
       prints the bytes of one J8 string; a line's end behind it is ignored
@@ -39,7 +43,7 @@ fn unquote<P: Print>(to: &P) -> Result<(), i32> {
 }
 
 fn json8<P: Print>(to: &P) -> Result<(), i32> {
-    outputs::send(
+    send(
         to,
         b"  json8 [FILE]
       checks a JSON8 backup and prints it in its one written form
@@ -48,7 +52,7 @@ fn json8<P: Print>(to: &P) -> Result<(), i32> {
 }
 
 fn strings<P: Print>(to: &P) -> Result<(), i32> {
-    outputs::send(
+    send(
         to,
         b"  strings [FILE]
       prints each string of a JSON8 backup: its node, a tab, a J8 string
@@ -57,7 +61,7 @@ fn strings<P: Print>(to: &P) -> Result<(), i32> {
 }
 
 fn tsv8<P: Print>(to: &P) -> Result<(), i32> {
-    outputs::send(
+    send(
         to,
         b"  tsv8 [FILE]
       prints each cell of a TSV8 log: its row, a tab, the name of its column as
@@ -67,7 +71,7 @@ fn tsv8<P: Print>(to: &P) -> Result<(), i32> {
 }
 
 fn whole<P: Print>(to: &P) -> Result<(), i32> {
-    outputs::send(
+    send(
         to,
         b"\
 j8 COMMAND [OPTION..] [FILE]: J8 Notation backups, from FILE or standard input
@@ -79,7 +83,7 @@ j8 COMMAND [OPTION..] [FILE]: J8 Notation backups, from FILE or standard input
     json8(to)?;
     strings(to)?;
     tsv8(to)?;
-    outputs::send(
+    send(
         to,
         b"  help [COMMAND], --help, -h    prints this
   --version                     prints the version
@@ -117,5 +121,5 @@ pub(crate) fn missing(errors: Stderr) -> Outcome {
 }
 
 pub(crate) fn version(output: Stdout) -> Outcome {
-    outputs::ended(outputs::send(&output, b"j8 0.3.0\n"))
+    outputs::ended(send(&output, b"j8 0.3.0\n"))
 }

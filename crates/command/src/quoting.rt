@@ -5,6 +5,7 @@ use messages::Spot;
 use prelude::answers::Written;
 use prelude::limits::TEXT_MAX;
 use prelude::slices;
+use std::io::Print;
 use std::rt::Stdout;
 use strings::answers::Decoded;
 use strings::read;
@@ -68,7 +69,7 @@ fn unquote_text(output: Stdout, text: &[u8], out: &mut [u8]) -> Outcome {
     match decoded {
         Decoded::Done(n) => {
             let n = command_texts::within(n, out);
-            outputs::ended(outputs::send(&output, &out[..n]))
+            outputs::ended(output.write_all(&out[..n]).map_err(outputs::number_of))
         }
         Decoded::Refused(number, place) => Outcome::Refused(number, Spot::Quoted, place),
     }

@@ -11,11 +11,17 @@ use words::Words;
 
 // The bytes of the name of the file that `j8_run` is to read, put at the start of a buffer; 0 where it reads standard input, or nothing.
 #[unsafe(no_mangle)]
-pub extern "C" fn j8_file(words: &[u8], path: &mut [u8]) -> usize
+pub extern "C" fn j8_file(words: &[u8], addresses: &[usize], path: &mut [u8]) -> usize
     ensures prefix { result ≤ length path.new }
     ensures short { result ≤ 4095 }
 {
-    command::j8_file(&Words { all: words }, path)
+    command::j8_file(
+        &Words {
+            all: words,
+            addresses,
+        },
+        path,
+    )
 }
 
 // The command: its status, 0 to 3. Its input is standard input, in whose place C has put the file of `j8_file`.
@@ -27,6 +33,7 @@ pub extern "C" fn j8_run(
     error: i32,
     terminal: bool,
     words: &[u8],
+    addresses: &[usize],
     text: &mut [u8],
     table: &mut [u32],
     store: &mut [u8],
@@ -38,7 +45,10 @@ pub extern "C" fn j8_run(
 {
     let mut input = input;
     command::j8_run(
-        &Words { all: words },
+        &Words {
+            all: words,
+            addresses,
+        },
         &mut input,
         output,
         errors,

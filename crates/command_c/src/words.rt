@@ -1,4 +1,4 @@
-// The words of the command line as C hands them over: one behind another, each with a NUL behind it.
+// The words of the command line as C hands them over: their bytes, one word behind another, each with a NUL behind it; and their addresses.
 ghost use Rattle.std.specs.Prelude.{length, ◌≤◌};
 
 use prelude::slices;
@@ -8,6 +8,7 @@ use std::rt::Env;
 #[derive(Clone, Copy)]
 pub struct Words<'a> {
     pub all: &'a [u8],
+    pub addresses: &'a [usize],
 }
 
 // The place of the next NUL, or the end.
@@ -26,26 +27,23 @@ fn end_from(all: &[u8], from: usize) -> usize
 }
 
 // The place of word i, from 0, or the end.
-fn place_of(all: &[u8], i: usize) -> usize
+fn place_of(all: &[u8], addresses: &[usize], i: usize) -> usize
     ensures { result ≤ length all.now }
 {
-    let mut left = i;
-    let mut at = 0;
-    while at < all.len() {
-        if left == 0 {
-            return at;
-        }
-        if all[at] == 0 {
-            left -= 1;
-        }
-        at += 1;
+    if i >= addresses.len() {
+        return all.len();
     }
-    at
+    let first = addresses[0];
+    let own = addresses[i];
+    if own < first {
+        return all.len();
+    }
+    slices::least(own - first, all.len())
 }
 
 impl Env for Words<'_> {
     fn arg(&self, i: usize, buf: &mut [u8]) -> Result<usize, FillError> {
-        let from = place_of(self.all, i);
+        let from = place_of(self.all, self.addresses, i);
         if from == self.all.len() {
             return Err(FillError::NotPresent);
         }

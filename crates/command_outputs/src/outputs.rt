@@ -22,14 +22,6 @@ pub fn number_of(error: io::Error) -> i32
     }
 }
 
-// Writes bytes, or answers what the system says.
-pub fn send<P: Print>(to: &P, bytes: &[u8]) -> Result<(), i32> {
-    match to.write_all(bytes) {
-        Ok(()) => Ok(()),
-        Err(error) => Err(number_of(error)),
-    }
-}
-
 // A J8 text, with what would drive a terminal escaped where one shows it. Whether it is printed is the system's to say, but where there is no
 // room to show it.
 pub fn print(output: Stdout, bytes: &[u8], terminal: bool, shown: &mut [u8]) -> Result<(), i32>
@@ -37,13 +29,13 @@ pub fn print(output: Stdout, bytes: &[u8], terminal: bool, shown: &mut [u8]) -> 
     ensures stored { shown.new ≡ shown_in terminal bytes.now shown.old }
 {
     if !terminal {
-        return send(&output, bytes);
+        return output.write_all(bytes).map_err(number_of);
     }
     let written = terminals::write(bytes, shown);
     match written {
         Written::Wrote(n) => {
             let k = command_texts::within(n, shown);
-            send(&output, &shown[..k])
+            output.write_all(&shown[..k]).map_err(number_of)
         }
         Written::Refused(_) => Err(0),
     }

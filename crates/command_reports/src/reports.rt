@@ -12,6 +12,7 @@ use messages::Head;
 use prelude::answers::Written;
 use prelude::limits::TEXT_MAX;
 use prelude::refusals;
+use std::io::Print;
 use std::rt::{Env, Stderr};
 
 // An argument, quoted.
@@ -315,7 +316,7 @@ fn say_line(errors: Stderr, head: Head, sentence: &[u8], json: bool, line: &mut 
     match written {
         Written::Wrote(n) => {
             let k = command_texts::within(n, line);
-            let _ = outputs::send(&errors, &line[..k]);
+            let _ = errors.write_all(&line[..k]).map_err(outputs::number_of);
         }
         Written::Refused(_) => {}
     }
