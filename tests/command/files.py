@@ -54,6 +54,23 @@ def missing():
             failed_alike("%s of a folder" % (kind,), *kind, folder, names=quoted(folder.encode()), reason=b"Is a directory")
 
 
+def named():
+    """Files that are there, by names of any bytes: what they hold is read, and nothing of standard input, which may be closed. And words that are no file's."""
+    with tempfile.TemporaryDirectory() as folder:
+        for kind in KINDS:
+            asked = run(*kind, text=good(kind))
+            for name in HOSTILE:
+                with open(os.path.join(os.fsencode(folder), name), "wb") as file:
+                    file.write(good(kind))
+                done = run(*kind, "--", name, text=b"\xff\xff", folder=folder)
+                held.that((done.status, done.out, done.err) == (0, asked.out, asked.err), "%s of a file %r" % (kind, name), done.err)
+            closed = subprocess.run(["sh", "-c", 'exec "$0" "$@" <&-', COMMAND, *kind, "--", name], cwd=folder, capture_output=True, check=False)
+            held.that(closed.returncode == 0 and closed.stdout == asked.out, "%s with standard input closed" % (kind,), closed.stderr)
+    start = time.monotonic()
+    held.status(run("lines", *["folder"] * 100000, text=GOOD["lines"]), 2, "100,000 words")
+    held.that(time.monotonic() - start < 10, "100,000 words in time")
+
+
 def unreadable():
     """As nobody, where this runs as root: root may read all."""
     with tempfile.TemporaryDirectory() as folder:
@@ -207,6 +224,7 @@ def small_stack():
 
 
 missing()
+named()
 unreadable()
 read_errors()
 full()
