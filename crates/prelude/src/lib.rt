@@ -1,7 +1,6 @@
 // What every layer uses: the refusal numbers, the limits, total reads, clipped stores and copies.
 #![tactic(auto)]
 
-pub mod answers;
 pub mod copies;
 pub mod limits;
 pub mod refusals;

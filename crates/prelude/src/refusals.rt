@@ -1,53 +1,58 @@
-// The refusal numbers of documents 01 and 02; specs/Refusals.antt has each one's row or sentence.
+// What is refused, and where. specs/Refusals.antt has the row or the sentence of documents 01 and 02 for each number.
+ghost use Rattle.std.specs.Prelude.{◌≡◌};
+ghost use Rattle.prelude.specs.Refusals.{number_of, refused_at};
 
-pub const UNFIT: u32 = 1;
+#[derive(Clone, Copy, PartialEq, Eq)]
+pub enum Refusal {
+    Unfit = 1,
+    TooLong = 2,
+    NoOpening = 3,
+    CutOff = 4,
+    Control = 6,
+    BadEscape = 7,
+    Surrogate = 8,
+    TooLarge = 9,
+    ByteEscape = 10,
+    Trailing = 11,
+    NoRoom = 12,
+    Misplaced = 13,
+    BadNumber = 14,
+    TooDeep = 15,
+    TooMany = 16,
+    OverLimit = 17,
+    Ended = 18,
+    BadHeader = 19,
+    BadLine = 20,
+    WrongType = 21,
+    EmptyCell = 22,
+    Utf8BadEncoding = 23,
+    Utf8Incomplete = 24,
+    Utf8Overlong = 25,
+    Utf8Surrogate = 26,
+    Utf8TooLarge = 27,
+}
 
-pub const TOO_LONG: u32 = 2;
+// A refusal and its place in what was read.
+#[derive(Clone, Copy, PartialEq, Eq)]
+pub struct Refused {
+    pub refusal: Refusal,
+    pub place: usize,
+}
 
-pub const NO_OPENING: u32 = 3;
+impl Refusal {
+    // Its number in documents 01 and 02, and in C.
+    pub fn number(self) -> u32
+        ensures { result ≡ number_of self }
+    {
+        self as u32
+    }
 
-pub const CUT_OFF: u32 = 4;
-
-pub const CONTROL: u32 = 6;
-
-pub const BAD_ESCAPE: u32 = 7;
-
-pub const SURROGATE: u32 = 8;
-
-pub const TOO_LARGE: u32 = 9;
-
-pub const BYTE_ESCAPE: u32 = 10;
-
-pub const TRAILING: u32 = 11;
-
-pub const NO_ROOM: u32 = 12;
-
-pub const MISPLACED: u32 = 13;
-
-pub const BAD_NUMBER: u32 = 14;
-
-pub const TOO_DEEP: u32 = 15;
-
-pub const TOO_MANY: u32 = 16;
-
-pub const OVER_LIMIT: u32 = 17;
-
-pub const ENDED: u32 = 18;
-
-pub const BAD_HEADER: u32 = 19;
-
-pub const BAD_LINE: u32 = 20;
-
-pub const WRONG_TYPE: u32 = 21;
-
-pub const EMPTY_CELL: u32 = 22;
-
-pub const UTF8_BAD_ENCODING: u32 = 23;
-
-pub const UTF8_INCOMPLETE: u32 = 24;
-
-pub const UTF8_OVERLONG: u32 = 25;
-
-pub const UTF8_SURROGATE: u32 = 26;
-
-pub const UTF8_TOO_LARGE: u32 = 27;
+    pub fn at(self, place: usize) -> Refused
+        ensures { result ≡ refused_at self place }
+    {
+        Refused {
+            refusal: self,
+            place,
+        }
+    }
+}
