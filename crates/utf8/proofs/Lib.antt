@@ -8,5 +8,4 @@ pub mod Values
 pub mod Faults
 pub mod FaultSteps
 pub mod Named
-pub mod Told
 pub mod Claims

@@ -9,22 +9,28 @@ use native.Mathlib.Omega.{arith}
 use lib.Dec.{ltb, leb}
 use lib.ListN.{length, take}
 use borrow.Author.Tests.{ltb-true, ltb-false, lt-ltb, le-ltb, leb-true, leb-false, le-leb, lt-leb}
+use Rattle.std.specs.Prelude.{Option, Some, None, Result, Ok, Err}
 use Rattle.prelude.specs.Pick.{pick}
+use Rattle.prelude.specs.declared.refusals.Refusal.{Refusal}
+use Rattle.prelude.specs.Refusals.{number_of, utf8_bad_encoding, utf8_incomplete}
 use Rattle.prelude.proofs.Cases.{split, and_left, and_right, never}
 use Rattle.prelude.proofs.Picks.{and_no_second}
-use Rattle.utf8.specs.declared.chars.Char.TheVariants.{Good, Bad}
-use Rattle.utf8.specs.Utf8.{tail, no_start, wanted, has_tails, value_of, least_of, fault_from, char_fault, char_len, char_by, char_at}
+use Rattle.utf8.specs.Utf8.{tail, no_start, wanted, has_tails, value_of, least_of, fault_from, char_fault, char_len, refused_by, char_by, char_at}
 use Rattle.utf8.specs.Claims.{tail_run, TooFew, Complete, Overlong}
-use Rattle.utf8.proofs.Faults.{Says, says, Verdict, verdict}
+use Rattle.utf8.proofs.Faults.{fault_number, Says, says, Verdict, verdict}
 use Rattle.utf8.proofs.Values.{writes, fewer}
 
--- a bad character is none, and has its fault
-at_bad : (s : List ℕ) (k : ℕ) → char_at s ≡ Bad k → char_fault s ≡ k
+-- what is refused as no character has its fault
+by_fault : (f : Option Refusal) (k : Refusal) → refused_by f ≡ Err k → f ≡ Some k
+by_fault (Some fault) k e = cc
+by_fault None k e = never cc
+
+at_bad : (s : List ℕ) (k : Refusal) → char_at s ≡ Err k → char_fault s ≡ Some k
 at_bad s k e = go (char_len s) refl
   where
-    go : (n : ℕ) → char_len s ≡ n → char_fault s ≡ k
-    go zero z = let w : Bad (char_fault s) ≡ Bad k = sym (ap (λ (m : ℕ). char_by m s) z) ∙ e in cc
-    go (suc n) z = let w : Good (suc n) ≡ Bad k = sym (ap (λ (m : ℕ). char_by m s) z) ∙ e in never cc
+    go : (n : ℕ) → char_len s ≡ n → char_fault s ≡ Some k
+    go zero z = by_fault (char_fault s) k (sym (ap (λ (m : ℕ). char_by m s) z) ∙ e)
+    go (suc n) z = let w : char_by (suc n) s ≡ Err k = sym (ap (λ (m : ℕ). char_by m s) z) ∙ e in never cc
 
 -- starts by their bytes
 pub start_bytes : (a : ℕ) → no_start a ≡ true → ((0x80 ≤ a) × (a ≤ 0xbf)) ⊎ (0xf8 ≤ a)
@@ -89,26 +95,26 @@ tails_length (suc n) [] e = never cc
 tails_length (suc n) (b ∷ r) e = ap suc (tails_length n r (and_right (tail b) _ e))
 
 module _ (a : ℕ) (r : List ℕ) where
-  pub bad_says : (k : ℕ) → char_at (a ∷ r) ≡ Bad k → Says a r (k - 22)
-  bad_says k e = subst (λ (f : ℕ). Says a r (f - 22)) (at_bad (a ∷ r) k e) (says a r)
+  pub bad_says : (k : Refusal) → char_at (a ∷ r) ≡ Err k → Says a r (number_of k - 22)
+  bad_says k e = subst (λ (f : Option Refusal). Says a r (fault_number f - 22)) (at_bad (a ∷ r) k e) (says a r)
 
-  pub bad_at : (k : ℕ) → char_fault (a ∷ r) ≡ suc k → char_at (a ∷ r) ≡ Bad (suc k)
+  pub bad_at : (k : Refusal) → char_fault (a ∷ r) ≡ Some k → char_at (a ∷ r) ≡ Err k
   bad_at k e = go (verdict a r)
     where
-      go : Verdict (char_len (a ∷ r)) (char_fault (a ∷ r)) → char_at (a ∷ r) ≡ Bad (suc k)
-      go (inl (l, f)) = absurd (omega (arith, f, e))
-      go (inr (z, l)) = ap (λ (m : ℕ). char_by m (a ∷ r)) z ∙ ap Bad e
+      go : Verdict (char_len (a ∷ r)) (char_fault (a ∷ r)) → char_at (a ∷ r) ≡ Err k
+      go (inl (l, f)) = never cc
+      go (inr (z, l)) = ap (λ (m : ℕ). char_by m (a ∷ r)) z ∙ ap refused_by e
 
-  pub is_bad : no_start a ≡ true → char_fault (a ∷ r) ≡ 23
+  pub is_bad : no_start a ≡ true → char_fault (a ∷ r) ≡ Some utf8_bad_encoding
   unfolding char_fault pick
   is_bad e = rw e
 
-  pub is_cut : TooFew a r → char_fault (a ∷ r) ≡ 24
+  pub is_cut : TooFew a r → char_fault (a ∷ r) ≡ Some utf8_incomplete
   unfolding char_fault fault_from pick
   is_cut h = let (e, f) = few_cut a r h in rw (e, f)
 
-  pub cut_is : char_at (a ∷ r) ≡ Bad 24 → TooFew a r
-  cut_is e = let (s, t) = bad_says 24 e in too_few a r s t
+  pub cut_is : char_at (a ∷ r) ≡ Err utf8_incomplete → TooFew a r
+  cut_is e = let (s, t) = bad_says utf8_incomplete e in too_few a r s t
 
   module _ (c : Complete a r) where
     pub over : value_of a r < least_of a → Overlong a r

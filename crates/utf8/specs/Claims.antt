@@ -1,9 +1,9 @@
 -- What is claimed of the character check: it takes the patterns of the scalar values and nothing else, and names the fault as source 003 does.
 -- Assumes nothing.
-use Rattle.std.specs.Prelude.{ℕ, suc, ◌≤◌, ◌<◌, List, [], ◌∷◌, true, false, ◌⊎◌, ◌≡◌, length, take}
+use Rattle.std.specs.Prelude.{Some, None, Err, ℕ, suc, ◌≤◌, ◌<◌, List, [], ◌∷◌, true, false, ◌⊎◌, ◌≡◌, length, take}
 use Rattle.prelude.specs.Pick.{pick}
-use Rattle.prelude.specs.Refusals.{utf8_bad_encoding, utf8_incomplete, utf8_overlong, utf8_surrogate, utf8_too_large}
-use Rattle.utf8.specs.declared.chars.Char.TheVariants.{Bad}
+use Rattle.prelude.specs.declared.refusals.Refusal.{Refusal}
+use Rattle.prelude.specs.Refusals.{FromTo, utf8_bad_encoding, utf8_incomplete, utf8_overlong, utf8_surrogate, utf8_too_large}
 use Rattle.utf8.specs.Utf8.{tail, no_start, wanted, has_tails, value_of, char_len, char_fault, char_at, encode}
 
 -- a number that UTF-8 encodes: RFC 3629, section 3, "U+0000..U+10FFFF", and "prohibits encoding character numbers between U+D800 and U+DFFF"
@@ -24,16 +24,18 @@ Exactly A B = (A → B) × (B → A)
 
 -- a character is good exactly where none of the five faults is
 abbrev pub GoodWithoutFault : Type 0
-GoodWithoutFault = (a : ℕ) (r : List ℕ) → Exactly (0 < char_len (a ∷ r)) (char_fault (a ∷ r) ≡ 0)
+GoodWithoutFault = (a : ℕ) (r : List ℕ) → Exactly (0 < char_len (a ∷ r)) (char_fault (a ∷ r) ≡ None)
 
 -- every ill-formed beginning has one of the five
 abbrev pub OneOfFive : Type 0
-OneOfFive = (a : ℕ) (r : List ℕ) → char_len (a ∷ r) ≡ 0 → (utf8_bad_encoding ≤ char_fault (a ∷ r)) × (char_fault (a ∷ r) ≤ utf8_too_large)
+OneOfFive =
+    (a : ℕ) (r : List ℕ) → char_len (a ∷ r) ≡ 0
+    → (fault : Refusal) × ((char_fault (a ∷ r) ≡ Some fault) × FromTo utf8_bad_encoding utf8_too_large fault)
 
 -- source 003, "Bad encoding. A byte is not encoded like a UTF-8 start byte or a continuation byte."; request [2], "at the start"
 abbrev pub BadEncodingNamed : Type 0
 BadEncodingNamed =
-    (a : ℕ) (r : List ℕ) → Exactly (char_at (a ∷ r) ≡ Bad utf8_bad_encoding) (((0x80 ≤ a) × (a ≤ 0xbf)) ⊎ (0xf8 ≤ a))
+    (a : ℕ) (r : List ℕ) → Exactly (char_at (a ∷ r) ≡ Err utf8_bad_encoding) (((0x80 ≤ a) × (a ≤ 0xbf)) ⊎ (0xf8 ≤ a))
 
 -- how many continuation bytes stand first
 unfoldable pub tail_run : List ℕ → ℕ
@@ -48,7 +50,7 @@ TooFew a r =
 
 -- "Incomplete sequence. Too few continuation bytes appeared after the start byte."
 abbrev pub IncompleteNamed : Type 0
-IncompleteNamed = (a : ℕ) (r : List ℕ) → Exactly (char_at (a ∷ r) ≡ Bad utf8_incomplete) (TooFew a r)
+IncompleteNamed = (a : ℕ) (r : List ℕ) → Exactly (char_at (a ∷ r) ≡ Err utf8_incomplete) (TooFew a r)
 
 -- a start with all the continuation bytes that it asks for
 pub record Complete (a : ℕ) (r : List ℕ) : Type 0 where
@@ -61,18 +63,18 @@ Overlong a r = length (encode (value_of a r)) < suc (wanted a)
 
 -- "Overlong encoding."
 abbrev pub OverlongNamed : Type 0
-OverlongNamed = (a : ℕ) (r : List ℕ) → Exactly (char_at (a ∷ r) ≡ Bad utf8_overlong) (Complete a r × Overlong a r)
+OverlongNamed = (a : ℕ) (r : List ℕ) → Exactly (char_at (a ∷ r) ≡ Err utf8_overlong) (Complete a r × Overlong a r)
 
 -- "Surrogate code point. The sequence decodes to a code point in the surrogate range"; "overlong first"
 abbrev pub SurrogateNamed : Type 0
 SurrogateNamed =
     (a : ℕ) (r : List ℕ)
-    → Exactly (char_at (a ∷ r) ≡ Bad utf8_surrogate)
+    → Exactly (char_at (a ∷ r) ≡ Err utf8_surrogate)
     (Complete a r × ((Overlong a r → ⊥) × ((0xd800 ≤ value_of a r) × (value_of a r ≤ 0xdfff))))
 
 -- "Exceeds max code point. The sequence decodes to an integer that's larger than the maximum code point."
 abbrev pub TooLargeNamed : Type 0
-TooLargeNamed = (a : ℕ) (r : List ℕ) → Exactly (char_at (a ∷ r) ≡ Bad utf8_too_large) (Complete a r × (0x10ffff < value_of a r))
+TooLargeNamed = (a : ℕ) (r : List ℕ) → Exactly (char_at (a ∷ r) ≡ Err utf8_too_large) (Complete a r × (0x10ffff < value_of a r))
 
 -- "The sequence decodes to an integer": the number whose ordinary pattern it is, above 10ffff too
 abbrev pub ValuesAreWritten : Type 0

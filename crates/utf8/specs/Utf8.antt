@@ -1,11 +1,10 @@
 -- UTF-8 by the grammar of RFC 3629, section 4, a line of it quoted at each definition. The class of the first byte tells the form.
 -- Assumes nothing.
-use Rattle.std.specs.Prelude.{ℕ, zero, suc, pred, ◌+◌, ◌-◌, ◌*◌, ◌/◌, ◌%◌, Bool, true, false, ◌&&◌, List, [], ◌∷◌, ltb, leb, eqb, get_or, take}
+use Rattle.std.specs.Prelude.{Option, Some, None, Result, Ok, Err, ℕ, zero, suc, pred, ◌+◌, ◌-◌, ◌*◌, ◌/◌, ◌%◌, Bool, true, false, ◌&&◌, List, [], ◌∷◌, ltb, leb, eqb, get_or, take}
 use Rattle.prelude.specs.Pick.{pick}
+use Rattle.prelude.specs.declared.refusals.Refusal.{Refusal}
 use Rattle.prelude.specs.Refusals.{utf8_bad_encoding, utf8_incomplete, utf8_overlong, utf8_surrogate, utf8_too_large}
 use Rattle.utf8.specs.Class.{class_of}
-use Rattle.utf8.specs.declared.chars.Char.{Char}
-use Rattle.utf8.specs.declared.chars.Char.TheVariants.{Good, Bad}
 use Rattle.utf8.specs.declared.encoding.Few.{Few}
 
 abbrev pub between : ℕ → ℕ → ℕ → Bool
@@ -82,26 +81,31 @@ value_of a r = tails_on (start_bits a) (wanted a) r
 unfoldable pub least_of : ℕ → ℕ
 least_of a = pick (ltb a 0x80) 0 (pick (ltb a 0xe0) 0x80 (pick (ltb a 0xf0) 0x800 0x10000))
 
--- "else by value overlong first (f0 8d a0 80 too), then surrogate, or above 10ffff"; 0 where none of them is so
-unfoldable pub value_fault : ℕ → ℕ → ℕ
+-- "else by value overlong first (f0 8d a0 80 too), then surrogate, or above 10ffff"
+unfoldable pub value_fault : ℕ → ℕ → Option Refusal
 value_fault least v =
-    pick (ltb v least) utf8_overlong (pick (between 0xd800 0xdfff v) utf8_surrogate (pick (ltb 0x10ffff v) utf8_too_large 0))
+    pick (ltb v least) (Some utf8_overlong) (pick (between 0xd800 0xdfff v) (Some utf8_surrogate) (pick (ltb 0x10ffff v) (Some utf8_too_large) None))
 
 -- "else too few continuation bytes is incomplete"
-unfoldable pub fault_from : ℕ → List ℕ → ℕ
-fault_from a r = pick (has_tails (wanted a) r) (value_fault (least_of a) (value_of a r)) utf8_incomplete
+unfoldable pub fault_from : ℕ → List ℕ → Option Refusal
+fault_from a r = pick (has_tails (wanted a) r) (value_fault (least_of a) (value_of a r)) (Some utf8_incomplete)
 
--- the fault at the head, 0 where a well-formed character stands; nothing at all is incomplete
-unfoldable pub char_fault : List ℕ → ℕ
-char_fault [] = utf8_incomplete
-char_fault (a ∷ r) = pick (no_start a) utf8_bad_encoding (fault_from a r)
+-- the fault at the head, none where a well-formed character stands; nothing at all is incomplete
+unfoldable pub char_fault : List ℕ → Option Refusal
+char_fault [] = Some utf8_incomplete
+char_fault (a ∷ r) = pick (no_start a) (Some utf8_bad_encoding) (fault_from a r)
 
-abbrev pub char_by : ℕ → List ℕ → Char
-char_by zero s = Bad (char_fault s)
-char_by (suc n) s = Good (suc n)
+-- what is no character is refused by its fault; it has one (Claims, `OneOfFive`)
+abbrev pub refused_by : Option Refusal → Result ℕ Refusal
+refused_by (Some fault) = Err fault
+refused_by None = Ok 0
 
--- the character check: what stands at the head of the rest of a text
-abbrev pub char_at : List ℕ → Char
+abbrev pub char_by : ℕ → List ℕ → Result ℕ Refusal
+char_by zero s = refused_by (char_fault s)
+char_by (suc n) s = Ok (suc n)
+
+-- the character check: the length of the character at the head of the rest of a text, or its fault
+abbrev pub char_at : List ℕ → Result ℕ Refusal
 char_at s = char_by (char_len s) s
 
 abbrev pub positive : ℕ → Bool

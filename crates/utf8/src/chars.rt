@@ -1,18 +1,12 @@
 // The character check, and validity of a whole text.
 ghost use Rattle.std.specs.Prelude.{◌≡◌, true, false, ◌+◌, ◌-◌, ◌<◌, ◌≤◌, length, get_or, drop};
-ghost use Rattle.utf8.specs.Class.{class_of, IsTable};
-ghost use Rattle.utf8.specs.Utf8.{between, low_of, high_of, two_bytes, three_bytes, four_bytes, long_len, no_start, wanted, start_bits, least_of, value_fault, fault_from, char_fault, char_at, valid_utf8};
-ghost use Rattle.utf8.specs.inner.Checks.{length_or_fault, AllLow, LowFrom, LowBlocks, ValidUntil};
+ghost use Rattle.utf8.specs.Class.{class_of};
+ghost use Rattle.utf8.specs.Utf8.{between, low_of, high_of, two_bytes, three_bytes, four_bytes, long_len, no_start, wanted, start_bits, least_of, value_fault, fault_from, char_fault, refused_by, char_at, valid_utf8};
+ghost use Rattle.utf8.specs.inner.Checks.{AllLow, LowFrom, LowBlocks, ValidUntil};
 
-use crate::classes;
-use prelude::{refusals, slices};
-
-// A well-formed character of so many bytes, or the number of the refusal.
-#[derive(Clone, Copy)]
-pub enum Char {
-    Good(usize),
-    Bad(u32),
-}
+use crate::classes::Classes;
+use prelude::refusals::Refusal;
+use prelude::slices;
 
 // Whether a byte is from one to another.
 pub fn in_range(low: u8, high: u8, b: u8) -> bool
@@ -114,21 +108,21 @@ fn is_surrogate(v: u32) -> bool
     v <= 0xdfff
 }
 
-// The fault of a number that bytes write, where so many bytes need at least another; 0 where it has none.
-fn value_fault(least: u32, v: u32) -> u32
+// The fault of a number that bytes write, where so many bytes need at least another.
+fn value_fault(least: u32, v: u32) -> Option<Refusal>
     ensures { result ≡ value_fault least v }
 {
     let half = is_surrogate(v);
     if v < least {
-        return refusals::UTF8_OVERLONG;
+        return Some(Refusal::Utf8Overlong);
     }
     if half {
-        return refusals::UTF8_SURROGATE;
+        return Some(Refusal::Utf8Surrogate);
     }
     if 0x10ffff < v {
-        return refusals::UTF8_TOO_LARGE;
+        return Some(Refusal::Utf8TooLarge);
     }
-    0
+    None
 }
 
 // Whether a byte is no start.
@@ -191,7 +185,7 @@ fn least_of(a: u8) -> u32
 }
 
 // The fault of a start and what stands behind it.
-fn fault_from(s: &[u8], from: usize, a: u8) -> u32
+fn fault_from(s: &[u8], from: usize, a: u8) -> Option<Refusal>
     requires { no_start a ≡ false }
     ensures { result ≡ fault_from a (drop from s.now) }
 {
@@ -201,7 +195,7 @@ fn fault_from(s: &[u8], from: usize, a: u8) -> u32
     while k < n {
         let b = slices::byte_at(s, from, k);
         if !in_range(0x80, 0xbf, b) {
-            return refusals::UTF8_INCOMPLETE;
+            return Some(Refusal::Utf8Incomplete);
         }
         v = v * 0x40 + (b - 0x80) as u32;
         k += 1;
@@ -209,53 +203,57 @@ fn fault_from(s: &[u8], from: usize, a: u8) -> u32
     value_fault(least_of(a), v)
 }
 
-// The fault of what stands at a place; 0 where a character does. Apart from the check, so that naming costs only where a fault is.
-fn fault_at(s: &[u8], at: usize) -> u32
+// The fault of what stands at a place; none where a character does. Apart from the check, so that naming costs only where a fault is.
+fn fault_at(s: &[u8], at: usize) -> Option<Refusal>
     ensures { result ≡ char_fault (drop at s.now) }
 {
     if s.len() <= at {
-        return refusals::UTF8_INCOMPLETE;
+        return Some(Refusal::Utf8Incomplete);
     }
     let a = s[at];
     if no_start(a) {
-        return refusals::UTF8_BAD_ENCODING;
+        return Some(Refusal::Utf8BadEncoding);
     }
     fault_from(s, at + 1, a)
 }
 
-// The length of the character at a place that begins with a byte of class k, no ASCII; or its fault, which is above any length. One call answers
-// both, so that `char_at` stays small enough to be put where it is called.
-pub fn long_or_fault(s: &[u8], at: usize, k: u8) -> u32
+// What is refused at a place where no character stands.
+fn no_char(s: &[u8], at: usize) -> Result<usize, Refusal>
+    ensures { result ≡ refused_by (char_fault (drop at s.now)) }
+{
+    match fault_at(s, at) {
+        Some(fault) => Err(fault),
+        None => Ok(0),
+    }
+}
+
+// The character at a place that begins with a byte of class k, no ASCII. Apart from `char_at`, so that it stays small enough to be put where it is called.
+pub fn long_at(s: &[u8], at: usize, k: u8) -> Result<usize, Refusal>
     requires { (at < length s.now) × (k ≡ class_of (get_or s.now at 0)) × (5 ≤ k) }
-    ensures { result ≡ length_or_fault (drop at s.now) }
+    ensures { result ≡ char_at (drop at s.now) }
 {
     if k < 6 {
-        return fault_at(s, at);
+        return no_char(s, at);
     }
     let n = long_len(s, at, k);
     if n == 0 {
-        return fault_at(s, at);
+        return no_char(s, at);
     }
-    n as u32
+    Ok(n)
 }
 
-// The character at a place.
-pub fn char_at(t: &[u8; 256], s: &[u8], at: usize) -> Char
-    requires { IsTable t.now }
+// The length of the character at a place, or its fault.
+pub fn char_at(t: &Classes, s: &[u8], at: usize) -> Result<usize, Refusal>
     ensures { result ≡ char_at (drop at s.now) }
 {
     if s.len() <= at {
-        return Char::Bad(refusals::UTF8_INCOMPLETE);
+        return Err(Refusal::Utf8Incomplete);
     }
-    let k = classes::class_in(t, s[at]);
+    let k = t.class(s[at]);
     if k < 5 {
-        return Char::Good(1);
+        return Ok(1);
     }
-    let n = long_or_fault(s, at, k);
-    if n < 5 {
-        return Char::Good(n as usize);
-    }
-    Char::Bad(n)
+    long_at(s, at, k)
 }
 
 // Whether one of n bytes isn't ASCII, or is DEL; without an early end, so that they are compared at once. A comparison with 128 would
@@ -319,13 +317,13 @@ fn near_len(s: &[u8], at: usize, k: u8) -> usize
 }
 
 // The place behind the characters from a place on, one by one until an end is reached, or where none stands.
-fn chars_until(t: &[u8; 256], s: &[u8], from: usize, end: usize) -> usize
-    requires { IsTable t.now × (from ≤ length s.now) × (end ≤ length s.now) }
+fn chars_until(t: &Classes, s: &[u8], from: usize, end: usize) -> usize
+    requires { (from ≤ length s.now) × (end ≤ length s.now) }
     ensures { ValidUntil s.now from end result }
 {
     let mut at = from;
     while at < end {
-        let k = classes::class_in(t, s[at]);
+        let k = t.class(s[at]);
         if k < 5 {
             at += 1;
             continue;
@@ -343,8 +341,7 @@ fn chars_until(t: &[u8; 256], s: &[u8], from: usize, end: usize) -> usize
 }
 
 // Whether a text is valid UTF-8, with the table lent. What ends the blocks is passed one by one, and then they are tried again.
-pub fn valid_in(t: &[u8; 256], s: &[u8]) -> bool
-    requires { IsTable t.now }
+pub fn valid_in(t: &Classes, s: &[u8]) -> bool
     ensures { result ≡ valid_utf8 s.now }
 {
     let mut at = 0;
@@ -362,8 +359,7 @@ pub fn valid_in(t: &[u8; 256], s: &[u8]) -> bool
 
 // The same by blocks of eight, for a text that is short or soon has a character of several bytes. It has a loop of its own, since a block is
 // compared at once only where its length is a constant.
-pub fn valid_near(t: &[u8; 256], s: &[u8]) -> bool
-    requires { IsTable t.now }
+pub fn valid_near(t: &Classes, s: &[u8]) -> bool
     ensures { result ≡ valid_utf8 s.now }
 {
     let mut at = 0;
@@ -383,6 +379,6 @@ pub fn valid_near(t: &[u8; 256], s: &[u8]) -> bool
 pub fn valid(s: &[u8]) -> bool
     ensures { result ≡ valid_utf8 s.now }
 {
-    let t = classes::table();
+    let t = Classes::new();
     valid_in(&t, s)
 }

@@ -39,40 +39,45 @@ const CLASS: [u8; 256] = [
     11, 10, 10, 10, 12, 13, 13, 13, 13, 13, 13, 13, 13, 13, 13, 13,
 ];
 
-// The table. A reader copies it once a text and lends it down: a constant array is built anew at every use.
-pub fn table() -> [u8; 256]
-    ensures { IsTable result }
-{
-    CLASS
+// The classes of all byte values. A reader makes them once a text and lends them down: a constant array is built anew at every use.
+#[derive(Clone, Copy)]
+pub struct Classes {
+    pub entries: [u8; 256],
+    pub ghost rule: { IsTable entries },
 }
 
-// The class of a byte.
-pub fn class_in(t: &[u8; 256], b: u8) -> u8
-    requires { IsTable t.now }
-    ensures { result ≡ class_of b }
-{
-    t[b as usize]
+impl Classes {
+    pub fn new() -> Classes {
+        Classes { entries: CLASS }
+    }
+
+    // The class of a byte.
+    pub fn class(&self, b: u8) -> u8
+        ensures { result ≡ class_of b }
+    {
+        self.entries[b as usize]
+    }
 }
 
 // Whether the eight bytes from a place on are plain: plain is class 0, so one test of all eight tells.
-fn plain_eight(t: &[u8; 256], s: &[u8], i: usize) -> bool
-    requires { IsTable t.now × (i + 8 ≤ length s.now) }
+fn plain_eight(t: &Classes, s: &[u8], i: usize) -> bool
+    requires { (i + 8 ≤ length s.now) }
     ensures { result ≡ leb 8 (plain_run (drop i s.now)) }
 {
-    let a = class_in(t, s[i]);
-    let b = class_in(t, s[i + 1]);
-    let c = class_in(t, s[i + 2]);
-    let d = class_in(t, s[i + 3]);
-    let e = class_in(t, s[i + 4]);
-    let f = class_in(t, s[i + 5]);
-    let g = class_in(t, s[i + 6]);
-    let h = class_in(t, s[i + 7]);
+    let a = t.class(s[i]);
+    let b = t.class(s[i + 1]);
+    let c = t.class(s[i + 2]);
+    let d = t.class(s[i + 3]);
+    let e = t.class(s[i + 4]);
+    let f = t.class(s[i + 5]);
+    let g = t.class(s[i + 6]);
+    let h = t.class(s[i + 7]);
     (a | (b | (c | (d | (e | (f | (g | h))))))) == 0
 }
 
 // The place behind the whole eights from a place on that are plain.
-pub fn plain_eights(t: &[u8; 256], s: &[u8], from: usize) -> usize
-    requires { IsTable t.now × (from ≤ length s.now) }
+pub fn plain_eights(t: &Classes, s: &[u8], from: usize) -> usize
+    requires { (from ≤ length s.now) }
     ensures { result ≡ from + 8 * (plain_run (drop from s.now) / 8) }
 {
     let mut i = from;

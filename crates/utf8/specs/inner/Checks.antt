@@ -1,12 +1,7 @@
 -- What the check and the scans of validity promise each other: these speak of the code alone, and no rule cites them.
 -- Assumes nothing.
-use Rattle.std.specs.Prelude.{ℕ, ◌+◌, ◌-◌, ◌<◌, ◌≤◌, List, ◌≡◌, eqb, length, get_or, drop}
-use Rattle.prelude.specs.Pick.{pick}
-use Rattle.utf8.specs.Utf8.{char_len, char_fault, valid_from}
-
--- the length of the character at the head, or where none stands its fault's number, which is above any length
-unfoldable pub length_or_fault : List ℕ → ℕ
-length_or_fault s = pick (eqb (char_len s) 0) (char_fault s) (char_len s)
+use Rattle.std.specs.Prelude.{ℕ, ◌+◌, ◌-◌, ◌<◌, ◌≤◌, List, ◌≡◌, length, get_or, drop}
+use Rattle.utf8.specs.Utf8.{char_len, valid_from}
 
 -- bytes below DEL: the ASCII that a comparison with 127 tells
 abbrev pub AllLow : List ℕ → ℕ → ℕ → Type 0

@@ -13,7 +13,7 @@ pub soon-end-requires : goal.soon-end-requires
 soon-end-requires c = (c.ascii_blocks-mid.ensures.alike.inside, omega arith)
 
 pub chars_until-next-requires : goal.chars_until-next-requires
-chars_until-next-requires c = (c.requires, c.ascii_blocks-mid.ensures.alike.inside, c.soon-end.ensures.within.0)
+chars_until-next-requires c = (c.ascii_blocks-mid.ensures.alike.inside, c.soon-end.ensures.within.0)
 
 pub returns-then-next-end : goal.returns-then-next-end
 returns-then-next-end c = search turn_stuck

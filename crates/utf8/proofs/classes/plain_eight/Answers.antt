@@ -4,4 +4,4 @@ use Rattle.utf8.proofs.classes.plain_eight.Goals as goal
 
 pub returns : goal.returns
 returns c =
-    simp (c.class_in-a.ensures, c.class_in-b.ensures, c.class_in-c.ensures, c.class_in-d.ensures, c.class_in-e.ensures, c.class_in-f.ensures, c.class_in-g.ensures, c.class_in-h.ensures) (eight c.args.s.now c.args.i c.requires.1)
+    simp (c.class-a.ensures, c.class-b.ensures, c.class-c.ensures, c.class-d.ensures, c.class-e.ensures, c.class-f.ensures, c.class-g.ensures, c.class-h.ensures) (eight c.args.s.now c.args.i c.requires)
