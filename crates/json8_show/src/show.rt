@@ -2,12 +2,11 @@
 ghost use Rattle.std.specs.Prelude.{◌≡◌, ◌+◌, leb, length};
 ghost use Rattle.json8_show.specs.Show.{shown_by, shown_at, shown_bytes, unshown};
 
-// Where a string's bytes stand: a place and a length in the text or in the store, or nowhere.
+// Where a string's bytes stand: a place and a length in the text or in the store.
 #[derive(Clone, Copy)]
 pub enum Shown {
     InText(usize, usize),
     InStore(usize, usize),
-    Nowhere,
 }
 
 // Whether so many bytes from a place on lie in a buffer of so many. No sum is made, so none can run over.
@@ -20,23 +19,23 @@ pub fn is_within(place: usize, size: usize, room: usize) -> bool
     size <= room - place
 }
 
-// A node's string, by its kind.
-fn shown_by(kind: u32, place: usize, size: usize, text: usize, store: usize) -> Shown
+// A node's string, by its kind, if it is one and lies in its buffer.
+fn shown_by(kind: u32, place: usize, size: usize, text: usize, store: usize) -> Option<Shown>
     ensures { result ≡ shown_by kind place size text store }
 {
     if kind == 5 {
         if is_within(place, size, text) {
-            return Shown::InText(place, size);
+            return Some(Shown::InText(place, size));
         }
-        return Shown::Nowhere;
+        return None;
     }
     if kind == 6 {
         if is_within(place, size, store) {
-            return Shown::InStore(place, size);
+            return Some(Shown::InStore(place, size));
         }
-        return Shown::Nowhere;
+        return None;
     }
-    Shown::Nowhere
+    None
 }
 
 fn widen(x: u32) -> usize
@@ -45,12 +44,12 @@ fn widen(x: u32) -> usize
     x as usize
 }
 
-// Where the string of a node stands, in a text and a store of so many bytes.
-pub fn shown_at(table: &[u32], text: usize, store: usize, node: usize) -> Shown
+// Where the string of a node stands, in a text and a store of so many bytes, if it is shown.
+pub fn shown_at(table: &[u32], text: usize, store: usize, node: usize) -> Option<Shown>
     ensures { result ≡ shown_at table.now text store node }
 {
     if table.len() / 4 <= node {
-        return Shown::Nowhere;
+        return None;
     }
     let at = 4 * node;
     let place = widen(table[at + 2]);
@@ -62,11 +61,10 @@ pub fn shown_at(table: &[u32], text: usize, store: usize, node: usize) -> Shown
 pub fn show<'a>(table: &[u32], text: &'a [u8], store: &'a [u8], node: usize) -> &'a [u8]
     ensures { result.now ≡ shown_bytes text.now store.now (shown_at table.now (length text.now) (length store.now) node) }
 {
-    let shown = shown_at(table, text.len(), store.len(), node);
-    match shown {
-        Shown::InText(place, size) => &text[place..place + size],
-        Shown::InStore(place, size) => &store[place..place + size],
-        Shown::Nowhere => &text[..0],
+    match shown_at(table, text.len(), store.len(), node) {
+        Some(Shown::InText(place, size)) => &text[place..place + size],
+        Some(Shown::InStore(place, size)) => &store[place..place + size],
+        None => &text[..0],
     }
 }
 
@@ -74,10 +72,8 @@ pub fn show<'a>(table: &[u32], text: &'a [u8], store: &'a [u8], node: usize) -> 
 pub fn unshown(table: &[u32], text: &[u8], store: &[u8], node: usize) -> u32
     ensures { result ≡ unshown (shown_at table.now (length text.now) (length store.now) node) }
 {
-    let shown = shown_at(table, text.len(), store.len(), node);
-    match shown {
-        Shown::InText(_, _) => 0,
-        Shown::InStore(_, _) => 0,
-        Shown::Nowhere => 1,
+    match shown_at(table, text.len(), store.len(), node) {
+        Some(_) => 0,
+        None => 1,
     }
 }
