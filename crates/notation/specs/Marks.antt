@@ -1,13 +1,12 @@
 -- The opening mark of a J8 string.
 -- Assumes nothing.
-use Rattle.std.specs.Prelude.{ℕ, ◌&&◌, List, eqb, get_or}
+use Rattle.std.specs.Prelude.{ℕ, ◌&&◌, List, eqb, get_or, Option, Some, None}
 use Prim.Native.Char.{code}
 use Rattle.prelude.specs.Bytes.{double_quote, single_quote}
 use Rattle.prelude.specs.Pick.{pick}
 use Rattle.notation.specs.declared.styles.Style.{Style}
 use Rattle.notation.specs.declared.styles.Style.TheVariants.{Json, Unicode, Bytes}
 use Rattle.notation.specs.declared.marks.Mark.{Mark}
-use Rattle.notation.specs.declared.marks.Mark.TheVariants.{Opens, Unopened}
 
 -- the style and the length of the opening mark
 pub data Opening : Type 0 where
@@ -23,6 +22,6 @@ opening s =
     (pick (eqb (get_or s 0 0) (code "b") && eqb (get_or s 1 0) single_quote) (opens Bytes 2) unopened)))
 
 -- the code's opening mark as the definition's
-abbrev pub opening_of : Mark → Opening
-opening_of (Opens st n) = opens st n
-opening_of Unopened = unopened
+abbrev pub opening_of : Option Mark → Opening
+opening_of (Some m) = opens m.style m.len
+opening_of None = unopened

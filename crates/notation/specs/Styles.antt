@@ -1,14 +1,15 @@
 -- The three styles of a J8 string: `""`; `u''`, which `''` means; `b''`. Writing takes the first and the last.
 -- Assumes nothing.
-use Rattle.std.specs.Prelude.{ℕ, ◌≤◌, List}
+use Rattle.std.specs.Prelude.{ℕ, ◌≤◌, List, Result, Ok, Err}
 use Rattle.prelude.specs.Bytes.{double_quote, single_quote}
+use Rattle.prelude.specs.declared.refusals.Refusal.{Refusal}
 use Rattle.utf8.specs.Utf8.{few_of}
 use Rattle.notation.specs.declared.styles.Style.{Style}
 use Rattle.notation.specs.declared.styles.Style.TheVariants.{Json, Unicode, Bytes}
 use Rattle.notation.specs.declared.styles.Form.{Form}
 use Rattle.notation.specs.declared.styles.Form.TheVariants.{AsJson, AsBytes}
 use Rattle.notation.specs.declared.styles.Unit.{Unit as Found}
-use Rattle.notation.specs.declared.styles.Unit.TheVariants.{Close, Took, Fault}
+use Rattle.notation.specs.declared.styles.Unit.TheVariants.{Close, Took}
 
 -- the closing quote
 abbrev pub quote : Style → ℕ
@@ -31,16 +32,16 @@ style_of AsBytes = Bytes
 pub data StringUnit : Type 0 where
   close : StringUnit
   took : ℕ → List ℕ → StringUnit
-  fault : ℕ → StringUnit
+  fault : Refusal → StringUnit
 
 -- the code's answer as such a unit
-abbrev pub unit_of : Found → StringUnit
-unit_of Close = close
-unit_of (Took n few) = took n (few_of few)
-unit_of (Fault number) = fault number
+abbrev pub unit_of : Result Found Refusal → StringUnit
+unit_of (Ok Close) = close
+unit_of (Ok (Took n few)) = took n (few_of few)
+unit_of (Err refusal) = fault refusal
 
 -- a unit's bytes are four at most
-abbrev pub FewOf : Found → Type 0
-FewOf Close = Unit
-FewOf (Took n few) = few.count ≤ 4
-FewOf (Fault number) = Unit
+abbrev pub FewOf : Result Found Refusal → Type 0
+FewOf (Ok Close) = Unit
+FewOf (Ok (Took n few)) = few.count ≤ 4
+FewOf (Err refusal) = Unit

@@ -19,12 +19,11 @@ pub enum Form {
     AsBytes,
 }
 
-// The closing quote; a unit of so many bytes, with the bytes that it denotes; the number of a refusal at the unit's place.
+// The closing quote, or a unit of so many bytes, with the bytes that it denotes.
 #[derive(Clone, Copy)]
 pub enum Unit {
     Close,
     Took(usize, Few),
-    Fault(u32),
 }
 
 // The closing quote of a style.
