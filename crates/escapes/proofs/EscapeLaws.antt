@@ -1,7 +1,8 @@
 -- What an escape's code returns on each way through it is what the definition says: the tests on the way decide each `pick`, and
 -- the bytes past the end, all 0, are no digit, letter or brace.
 -- Assumes nothing.
-use Prim.Native.Nat.{ℕ, zero, suc, ◌+◌, ◌-◌, ◌≤◌, ◌<◌}
+use Rattle.std.specs.Prelude.{Option, Some, None}
+use Prim.Native.Nat.{ℕ, zero, suc, ◌+◌, ◌-◌, ◌*◌, ◌≤◌, ◌<◌}
 use Prim.Native.Char.{code}
 use mathlib.Core.Bool.{false}
 use mathlib.Core.List.{List, [], ◌∷◌}
@@ -21,7 +22,7 @@ use Rattle.notation.specs.declared.styles.Style.{Style}
 use Rattle.notation.specs.declared.styles.Style.TheVariants.{Json, Unicode, Bytes}
 use Rattle.notation.specs.Styles.{StringUnit, took, fault}
 use Rattle.escapes.specs.Hex.{hex_run, hex_number}
-use Rattle.escapes.specs.Escapes.{lookup, letters_of, is_low, low_half, code_unit, four_digits, scalar, is_braced, braced, code_point, raw_byte, letter_escape, escape}
+use Rattle.escapes.specs.Escapes.{lookup, letters_of, half_of, IsHalf, is_low, low_half, code_unit, four_digits, scalar, is_braced, braced, code_point, raw_byte, letter_escape, escape}
 use Rattle.escapes.proofs.HexLaws.{run_inside}
 
 pub scalar_below : (u : StringUnit) (n v : ℕ) → u ≡ took n (encode v) → v < 0xd800 → u ≡ scalar n v
@@ -32,6 +33,16 @@ scalar_below u n v e h = let k : v ≤ 0x10ffff = omega arith in search tests
 pub unit_below : (v w : ℕ) → v < 0xd800 → code_unit v w ≡ took 6 (encode v)
 unfolding code_unit
 unit_below v w h = search tests
+
+-- a high half, by what stands behind it
+module _ (u : StringUnit) (v : ℕ) (half : Option ℕ) (l : 0xd800 ≤ v) (h : v ≤ 0xdbff) where
+  pub unit_joined : (w : ℕ) → half ≡ Some w → IsHalf half → u ≡ took 12 (encode (0x10000 + (v - 0xd800) * 0x400 + (w - 0xdc00))) → u ≡ code_unit v (half_of half)
+  unfolding code_unit
+  unit_joined w e i q = let p : IsHalf (Some w) = rw e at i in let z : 0 < w = omega (arith, p.0) in rw e (search tests)
+
+  pub unit_alone : half ≡ None → u ≡ took 6 (encode v) → u ≡ code_unit v (half_of half)
+  unfolding code_unit
+  unit_alone e q = let z : 0 ≤ 0 = omega arith in rw e (search tests)
 
 -- a letter's byte that isn't 0
 pub letter_some : (u : StringUnit) (b : ℕ) → u ≡ took 2 (b ∷ []) → (b ≡ 0 → ⊥) → u ≡ letter_escape b

@@ -1,6 +1,6 @@
 -- One escape of a J8 string, by document 01's list, a sentence of it quoted at each definition.
 -- Assumes nothing.
-use Rattle.std.specs.Prelude.{ℕ, zero, suc, ◌+◌, ◌-◌, ◌*◌, Bool, ◌&&◌, List, [], ◌∷◌, ltb, eqb, get_or, drop}
+use Rattle.std.specs.Prelude.{ℕ, zero, suc, ◌+◌, ◌-◌, ◌*◌, Bool, ◌&&◌, List, [], ◌∷◌, ◌≤◌, ltb, eqb, get_or, drop, Option, Some, None}
 use Prim.Native.Char.{code}
 use Rattle.prelude.specs.Bytes.{backspace, TAB, LF, form_feed, CR, double_quote, single_quote, backslash}
 use Rattle.prelude.specs.Pick.{pick}
@@ -41,6 +41,15 @@ is_low r = eqb (get_or r 0 0) backslash && eqb (get_or r 1 0) (code "u") && eqb 
 
 unfoldable pub low_half : List ℕ → ℕ
 low_half r = pick (is_low r) (hex_number 4 (drop 2 r)) 0
+
+-- the code's low half as that number
+abbrev pub half_of : Option ℕ → ℕ
+half_of (Some w) = w
+half_of None = 0
+
+abbrev pub IsHalf : Option ℕ → Type 0
+IsHalf (Some w) = (0xdc00 ≤ w) × (w ≤ 0xdfff)
+IsHalf None = Unit
 
 -- the number v, and the low half w behind it or 0: "A high half .. directly followed by an escaped low half .. is one
 -- character. Any other half gives the three bytes of the ordinary pattern for its number"

@@ -3,14 +3,15 @@
 
 pub mod hex;
 
-ghost use Rattle.std.specs.Prelude.{◌≡◌, [], ◌∷◌, ◌<◌, ◌≤◌, length, drop};
+ghost use Rattle.std.specs.Prelude.{◌≡◌, [], ◌∷◌, ◌<◌, ◌≤◌, length, drop, Ok};
 ghost use Rattle.utf8.specs.Utf8.{encode};
 ghost use Rattle.notation.specs.Styles.{took, unit_of, FewOf};
 ghost use Rattle.notation.specs.declared.styles.Style.TheVariants.{Unicode, Bytes};
-ghost use Rattle.escapes.specs.Escapes.{lookup, letters, letters_of, low_half, code_unit, four_digits, scalar, braced, code_point, raw_byte, letter_escape, escape};
+ghost use Rattle.escapes.specs.Escapes.{lookup, letters, letters_of, half_of, IsHalf, low_half, code_unit, four_digits, scalar, braced, code_point, raw_byte, letter_escape, escape};
 
 use notation::styles::{Style, Unit};
-use prelude::{refusals, slices};
+use prelude::refusals::Refusal;
+use prelude::slices;
 use utf8::encoding;
 use utf8::encoding::Few;
 
@@ -67,8 +68,8 @@ fn byte_of(c: u8, style: Style) -> u8
 
 // A unit of n bytes that denotes one byte.
 fn byte_unit(n: usize, b: u8) -> Unit
-    ensures is { unit_of result ≡ took n (b ∷ []) }
-    ensures few { FewOf result }
+    ensures is { unit_of (Ok result) ≡ took n (b ∷ []) }
+    ensures few { FewOf (Ok result) }
 {
     Unit::Took(
         n,
@@ -85,59 +86,59 @@ fn byte_unit(n: usize, b: u8) -> Unit
 // A unit of n bytes that denotes a code point.
 fn coded(n: usize, v: u32) -> Unit
     requires { v < 0x110000 }
-    ensures is { unit_of result ≡ took n (encode v) }
-    ensures few { FewOf result }
+    ensures is { unit_of (Ok result) ≡ took n (encode v) }
+    ensures few { FewOf (Ok result) }
 {
     Unit::Took(n, encoding::encode(v))
 }
 
-// The escaped low half at a place, 0 where none stands.
-pub fn low_half(s: &[u8], at: usize) -> u32
+// The escaped low half at a place.
+pub fn low_half(s: &[u8], at: usize) -> Option<u32>
     requires { at ≤ length s.now }
-    ensures is { result ≡ low_half (drop at s.now) }
-    ensures half { (result ≤ 0xdfff) × (0 < result → 0xdc00 ≤ result) }
+    ensures is { half_of result ≡ low_half (drop at s.now) }
+    ensures half { IsHalf result }
 {
     if slices::byte_at(s, at, 0) != b'\\' {
-        return 0;
+        return None;
     }
     if slices::byte_at(s, at, 1) != b'u' {
-        return 0;
+        return None;
     }
     let d = hex::digits_at(s, at + 2, 4);
     let n = d.count;
     let v = d.value;
     if n != 4 {
-        return 0;
+        return None;
     }
     if v < 0xdc00 {
-        return 0;
+        return None;
     }
     if v <= 0xdfff {
-        return v;
+        return Some(v);
     }
-    0
+    None
 }
 
-// A number of four digits, and the low half behind it or 0.
-fn code_unit(v: u32, w: u32) -> Unit
-    requires { (v < 0x10000) × (w ≤ 0xdfff) × (0 < w → 0xdc00 ≤ w) }
-    ensures is { unit_of result ≡ code_unit v w }
-    ensures few { FewOf result }
+// A number of four digits, and the low half behind it.
+fn code_unit(v: u32, half: Option<u32>) -> Unit
+    requires { (v < 0x10000) × IsHalf half }
+    ensures is { unit_of (Ok result) ≡ code_unit v (half_of half) }
+    ensures few { FewOf (Ok result) }
 {
     if v < 0xd800 {
         return coded(6, v);
     }
     if v <= 0xdbff {
-        if 0 < w {
-            return coded(12, 0x10000 + (v - 0xd800) * 0x400 + (w - 0xdc00));
-        }
-        return coded(6, v);
+        return match half {
+            Some(w) => coded(12, 0x10000 + (v - 0xd800) * 0x400 + (w - 0xdc00)),
+            None => coded(6, v),
+        };
     }
     coded(6, v)
 }
 
 // What follows `\u` in `""`.
-fn four_digits(s: &[u8], at: usize) -> Unit
+fn four_digits(s: &[u8], at: usize) -> Result<Unit, Refusal>
     requires { at ≤ length s.now }
     ensures is { unit_of result ≡ four_digits (drop at s.now) }
     ensures few { FewOf result }
@@ -146,56 +147,56 @@ fn four_digits(s: &[u8], at: usize) -> Unit
     let n = d.count;
     let v = d.value;
     if n != 4 {
-        return Unit::Fault(refusals::BAD_ESCAPE);
+        return Err(Refusal::BadEscape);
     }
     if v < 0xd800 {
-        return coded(6, v);
+        return Ok(coded(6, v));
     }
-    code_unit(v, low_half(s, at + 4))
+    Ok(code_unit(v, low_half(s, at + 4)))
 }
 
 // The number of a `\u{h}` of n bytes.
-fn scalar(n: usize, v: u32) -> Unit
+fn scalar(n: usize, v: u32) -> Result<Unit, Refusal>
     ensures is { unit_of result ≡ scalar n v }
     ensures few { FewOf result }
 {
     if v < 0xd800 {
-        return coded(n, v);
+        return Ok(coded(n, v));
     }
     if v <= 0xdfff {
-        return Unit::Fault(refusals::SURROGATE);
+        return Err(Refusal::Surrogate);
     }
     if 0x10ffff < v {
-        return Unit::Fault(refusals::TOO_LARGE);
+        return Err(Refusal::TooLarge);
     }
-    coded(n, v)
+    Ok(coded(n, v))
 }
 
 // What follows `\u` in the single-quoted styles. A seventh digit is looked for, so that seven are refused.
-fn braced(s: &[u8], at: usize) -> Unit
+fn braced(s: &[u8], at: usize) -> Result<Unit, Refusal>
     requires { at ≤ length s.now }
     ensures is { unit_of result ≡ braced (drop at s.now) }
     ensures few { FewOf result }
 {
     if slices::byte_at(s, at, 0) != b'{' {
-        return Unit::Fault(refusals::BAD_ESCAPE);
+        return Err(Refusal::BadEscape);
     }
     let d = hex::digits_at(s, at + 1, 7);
     let n = d.count;
     if n < 1 {
-        return Unit::Fault(refusals::BAD_ESCAPE);
+        return Err(Refusal::BadEscape);
     }
     if 6 < n {
-        return Unit::Fault(refusals::BAD_ESCAPE);
+        return Err(Refusal::BadEscape);
     }
     if slices::byte_at(s, at + 1, n) == b'}' {
         return scalar(4 + n, d.value);
     }
-    Unit::Fault(refusals::BAD_ESCAPE)
+    Err(Refusal::BadEscape)
 }
 
 // What follows `\u`.
-fn code_point(s: &[u8], at: usize, style: Style) -> Unit
+fn code_point(s: &[u8], at: usize, style: Style) -> Result<Unit, Refusal>
     requires { at ≤ length s.now }
     ensures is { unit_of result ≡ code_point style (drop at s.now) }
     ensures few { FewOf result }
@@ -208,7 +209,7 @@ fn code_point(s: &[u8], at: usize, style: Style) -> Unit
 }
 
 // What follows `\y` in `b''`.
-fn two_digits(s: &[u8], at: usize) -> Unit
+fn two_digits(s: &[u8], at: usize) -> Result<Unit, Refusal>
     ensures is { unit_of result ≡ raw_byte Bytes (drop at s.now) }
     ensures few { FewOf result }
 {
@@ -216,36 +217,36 @@ fn two_digits(s: &[u8], at: usize) -> Unit
     let n = d.count;
     let v = d.value;
     if n == 2 {
-        return byte_unit(4, v as u8);
+        return Ok(byte_unit(4, v as u8));
     }
-    Unit::Fault(refusals::BAD_ESCAPE)
+    Err(Refusal::BadEscape)
 }
 
 // What follows `\y`.
-fn raw_byte(s: &[u8], at: usize, style: Style) -> Unit
+fn raw_byte(s: &[u8], at: usize, style: Style) -> Result<Unit, Refusal>
     ensures is { unit_of result ≡ raw_byte style (drop at s.now) }
     ensures few { FewOf result }
 {
     match style {
-        Style::Json => Unit::Fault(refusals::BAD_ESCAPE),
-        Style::Unicode => Unit::Fault(refusals::BYTE_ESCAPE),
+        Style::Json => Err(Refusal::BadEscape),
+        Style::Unicode => Err(Refusal::ByteEscape),
         Style::Bytes => two_digits(s, at),
     }
 }
 
 // A backslash and one letter, which denotes the byte b, or nothing where b is 0.
-fn letter_escape(b: u8) -> Unit
+fn letter_escape(b: u8) -> Result<Unit, Refusal>
     ensures is { unit_of result ≡ letter_escape b }
     ensures few { FewOf result }
 {
     if b == 0 {
-        return Unit::Fault(refusals::BAD_ESCAPE);
+        return Err(Refusal::BadEscape);
     }
-    byte_unit(2, b)
+    Ok(byte_unit(2, b))
 }
 
 // The escape whose backslash stands before a place.
-pub fn escape_at(s: &[u8], at: usize, style: Style) -> Unit
+pub fn escape_at(s: &[u8], at: usize, style: Style) -> Result<Unit, Refusal>
     requires { at ≤ length s.now }
     ensures is { unit_of result ≡ escape style (drop at s.now) }
     ensures few { FewOf result }

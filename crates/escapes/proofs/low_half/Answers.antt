@@ -4,19 +4,19 @@ use Rattle.escapes.proofs.EscapeLaws.{low_first, low_second, low_digits, low_und
 use Rattle.escapes.proofs.low_half.Goals as goal
 
 pub returns-then-byte_at-ne92 : goal.returns-then-byte_at-ne92
-returns-then-byte_at-ne92 c = record { is = search low_first; half = (omega arith, λ h. omega arith) }
+returns-then-byte_at-ne92 c = record { is = search low_first; half = tt }
 
 pub returns-then-byte_at-ne117 : goal.returns-then-byte_at-ne117
-returns-then-byte_at-ne117 c = record { is = search low_second; half = (omega arith, λ h. omega arith) }
+returns-then-byte_at-ne117 c = record { is = search low_second; half = tt }
 
 pub returns-then-n-ne4 : goal.returns-then-n-ne4
-returns-then-n-ne4 c = record { is = search low_digits; half = (omega arith, λ h. omega arith) }
+returns-then-n-ne4 c = record { is = search low_digits; half = tt }
 
 pub returns-then-v-lt56320 : goal.returns-then-v-lt56320
-returns-then-v-lt56320 c = record { is = search low_under; half = (omega arith, λ h. omega arith) }
+returns-then-v-lt56320 c = record { is = search low_under; half = tt }
 
 pub returns-then-v-le57343 : goal.returns-then-v-le57343
-returns-then-v-le57343 c = record { is = search low_yes; half = (omega arith, λ h. omega arith) }
+returns-then-v-le57343 c = record { is = search low_yes; half = (omega arith, omega arith) }
 
 pub returns : goal.returns
-returns c = record { is = search low_over; half = (omega arith, λ h. omega arith) }
+returns c = record { is = search low_over; half = tt }

@@ -1,5 +1,4 @@
 use native.Mathlib.Omega.{arith}
-use Prim.Native.Nat.{◌-◌}
 use mathlib.Core.Path.{ap, ◌∙◌}
 use Rattle.escapes.specs.Hex.{hex_val}
 use Rattle.escapes.proofs.HexLaws.{begun, again, stopped, full, room}
