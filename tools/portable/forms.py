@@ -16,10 +16,13 @@ from shapes import c_name, pointee, size
 
 @dataclass
 class Value:
+    """behind: of a part of what a pointer points to, whether the pointer may store there."""
+
     text: str
     type: object
     room: str = ""
     checks: tuple = ()
+    behind: object = None
 
 
 @dataclass(frozen=True)
@@ -40,7 +43,9 @@ class Variant:
 
 def same(want, got, what):
     """A value of one type may be stored where the other is wanted: both are equal, or both point to the same integers and what is const stays so."""
-    if isinstance(want, Ref) and isinstance(got, Ref):
+    if isinstance(want, Ref) and isinstance(got, Ref) and isinstance(want.to, Named):
+        need(want.to == got.to and (got.mutable or not want.mutable), what, "is", got, "and not", want)
+    elif isinstance(want, Ref) and isinstance(got, Ref):
         need(pointee(want.to) == pointee(got.to) and (got.mutable or not want.mutable), what, "is", got, "and not", want)
         need(not isinstance(want.to, Array) or want.to == got.to, what, "is", got, "and not", want)
     else:
@@ -73,15 +78,24 @@ def field_step(w, spot, k):
     if isinstance(spot.type, Variant):
         name, ty = w.shapes.variant_field(spot.type.enum, spot.type.number, k)
         live = ("%s.tag == %d" % (spot.text, spot.type.number),) if k > 0 else ()
-        return Value("%s.%s" % (spot.text, name), ty, "", spot.checks + live)
+        return Value("%s.%s" % (spot.text, name), ty, "", spot.checks + live, spot.behind)
+    spot = reached(spot)
     name, ty = w.shapes.field(spot.type, k)
-    return Value("%s.%s" % (spot.text, name), ty, "", spot.checks)
+    return Value("%s.%s" % (spot.text, name), ty, "", spot.checks, spot.behind)
+
+
+def reached(spot):
+    """A place behind a pointer to a struct as that struct; C's pointer has its type."""
+    if isinstance(spot.type, Behind) and isinstance(spot.type.to, Named):
+        return Value("(*%s)" % spot.text, spot.type.to, "", spot.checks, spot.type.mutable)
+    return spot
 
 
 def variant_step(w, spot, k):
     """variant_of: the same place, seen as one variant; nothing is read."""
+    spot = reached(spot)
     need(w.shapes.is_enum(spot.type), "a variant of", spot.type)
-    return Value(spot.text, Variant(spot.type, number(k)), "", spot.checks)
+    return Value(spot.text, Variant(spot.type, number(k)), "", spot.checks, spot.behind)
 
 
 def deref_step(w, spot, to):
@@ -89,6 +103,9 @@ def deref_step(w, spot, to):
     element, which is the step's."""
     to = w.type_of(to)
     need(isinstance(spot.type, Ref), "a deref of", spot.type)
+    if isinstance(to, Named):
+        need(to == spot.type.to, "a deref of", spot.type, "at", to)
+        return Value(spot.text, Behind(spot.type.mutable, to), "", spot.checks)
     first = pointee(spot.type.to) if isinstance(spot.type.to, Array) else None
     need(to in (spot.type.to, first), "a deref of", spot.type, "at", to)
     return Value(spot.text, Behind(spot.type.mutable, to), spot.room, spot.checks)
@@ -125,7 +142,7 @@ def int_operand(w, term):
 
 def copy_operand(w, term):
     """copy: what the place holds. Behind a pointer only integers are read; load asks that they lie in the block."""
-    spot = place(w, parts(term, "copy", 1)[0])
+    spot = reached(place(w, parts(term, "copy", 1)[0]))
     need(not isinstance(spot.type, Variant), "a copy of a variant")
     if not isinstance(spot.type, Behind):
         return spot
@@ -290,14 +307,23 @@ static uint32_t trailing_zeros(uint64_t x)
 
 def addr_right(w, term, target):
     """addr_of: the place itself, nothing is read. Behind a pointer it is that pointer; a local array that lies in memory is pointed to at its first element."""
-    spot = place(w, parts(term, "addr_of", 1)[0])
-    if isinstance(spot.type, Behind):
-        got = Value(spot.text, Ref(spot.type.mutable, spot.type.to), spot.room, spot.checks)
-    else:
-        need(isinstance(spot.type, Array) and w.is_slot(term[1]), "the address of", spot.type)
-        got = Value(spot.text + ".e", Ref(True, spot.type), str(size(spot.type)), spot.checks)
+    got = address(w, term[1])
+    parts(term, "addr_of", 1)
     same(target.type, got.type, "address")
     return got
+
+
+def address(w, term):
+    """A pointer to a place: an array is pointed to at its first element."""
+    spot = place(w, term)
+    if isinstance(spot.type, Behind):
+        return Value(spot.text, Ref(spot.type.mutable, spot.type.to), spot.room, spot.checks)
+    need(spot.behind is not None or w.is_slot(term), "the address of", spot.type)
+    ty = Ref(spot.behind is not False, spot.type)
+    if isinstance(spot.type, Array):
+        return Value(spot.text + ".e", ty, str(size(spot.type)), spot.checks)
+    need(isinstance(spot.type, (Int, Named)), "the address of", spot.type)
+    return Value("&" + spot.text, ty, str(size(spot.type)) if isinstance(spot.type, Int) else "", spot.checks)
 
 
 def aggregate_right(w, term, target):
@@ -313,7 +339,7 @@ def aggregate_right(w, term, target):
         checks += asked("%s <= %s" % (times(values[1].text, size(ty.of)), values[0].room))
     if isinstance(ty, Array) and all(one[0] == "int" for one in terms):
         return Value(w.constant(ty, [one[2] for one in terms]), ty)
-    listed = ", ".join(name + value.text for name, value in zip(names, values))
+    listed = ", ".join(name + value.text for name, value in zip(names, values) if value.type != Unit())
     return Value("(%s){ %s }" % (w.shapes.name(ty), "{ %s }" % listed if isinstance(ty, Array) else listed), ty, "", checks)
 
 
@@ -379,7 +405,7 @@ def assign(w, term):
         checks += (within(target, size(target.type.to)),)
         target = Value("*" + target.text, target.type.to)
     if target.type == Unit():
-        need(right == ["rv_opd", "opd_unit"], "a unit's value", right)
+        need(right[0] == "rv_opd" and operand(w, right[1]).type == Unit(), "a unit's value", right)
         return
     need(not isinstance(target.type, Variant), "a store to a variant")
     value = RIGHT[right[0]](w, right, target)

@@ -92,6 +92,7 @@ TYPES = {
     "Array": lambda of: ["ty_array", type_term(of[0]), length(of[1])],
     "Struct": lambda of: ["ty_struct", Text(of[0]), listed(map(type_term, of[1]))],
     "Named": named_type,
+    "Param": lambda of: ["ty_param", count(of)],
 }
 
 
@@ -197,13 +198,14 @@ def shape(held):
 
 # What a plain function, and what a plain declared type has besides its MIR.
 PLAIN = {"types": [], "outlives": [], "bounds": [], "method_of": None, "trait_lifetimes": 0, "impls": []}
-PLAIN_TYPE = {"lifetimes": 0, "bounds": [], "type_params": 0, "const_params": [], "type_bounds": [], "owns": False, "is_cell": False, "is_tuple": False}
+PLAIN_TYPE = {"lifetimes": 0, "bounds": [], "const_params": [], "type_bounds": [], "owns": False, "is_cell": False, "is_tuple": False}
 
 
 def entry(held):
-    rest = {name: of for name, of in held.items() if name not in ("name", "shape")}
+    """A declared type: its name, its type parameters, and what it is made of."""
+    rest = {name: of for name, of in held.items() if name not in ("name", "shape", "type_params")}
     need(rest == PLAIN_TYPE, "a declared type that isn't plain:", held["name"])
-    return ["entry", Text(held["name"]), listed([]), shape(held["shape"])]
+    return ["entry", Text(held["name"]), listed(["a_type"] * int(count(held["type_params"]))), shape(held["shape"])]
 
 
 def definition(symbol, held):

@@ -73,7 +73,7 @@ def number(word):
     return int(word)
 
 
-# ---- types (logic/Mir/Syntax.antt, Ty). What isn't here, j8 doesn't have: floats, signs (they stand at operations), u128, generic types.
+# ---- types (logic/Mir/Syntax.antt, Ty). What isn't here, j8 doesn't have: floats, signs (they stand at operations), u128, functions of types.
 
 
 @dataclass(frozen=True)
@@ -124,9 +124,28 @@ class Slice:
 
 @dataclass(frozen=True)
 class Named:
-    """ty_named: a declared struct or enum, by its path."""
+    """ty_named: a declared struct or enum, by its path, at types."""
 
     symbol: str
+    types: tuple = ()
+
+
+@dataclass(frozen=True)
+class Param:
+    """ty_param: the k-th type that a declared type is used at."""
+
+    k: int
+
+
+def at_types(ty, types):
+    """A type of a declaration, used at these types."""
+    if isinstance(ty, Param):
+        need(ty.k < len(types), "no type", ty.k, "of", types)
+        return types[ty.k]
+    if isinstance(ty, Named):
+        return Named(ty.symbol, tuple(at_types(one, types) for one in ty.types))
+    need(not isinstance(ty, (Ref, Array, Slice)) or not types, "a type inside a declared type of types:", ty)
+    return ty
 
 
 WIDTHS = {"w8": 8, "w16": 16, "w32": 32, "w64": 64}
@@ -167,11 +186,15 @@ def slice_type(term):
 
 def named_type(term):
     symbol, lifetimes, types = parts(term, "ty_named", 3)
-    need(items(lifetimes) == [] and items(types) == [], "a declared type with lifetimes or types:", term)
-    return Named(str(symbol))
+    need(items(lifetimes) == [], "a declared type with lifetimes:", term)
+    return Named(str(symbol), tuple(type_of(one) for one in items(types)))
 
 
-TYPES = {"ty_int": int_type, "ty_ref": ref_type, "ty_array": array_type, "ty_struct": slice_type, "ty_named": named_type}
+def param_type(term):
+    return Param(number(parts(term, "ty_param", 1)[0]))
+
+
+TYPES = {"ty_int": int_type, "ty_ref": ref_type, "ty_array": array_type, "ty_struct": slice_type, "ty_named": named_type, "ty_param": param_type}
 
 
 # ---- programs
@@ -229,7 +252,7 @@ def program_of(source, wanted):
         program.terms[symbol] = terms[symbol][2]
         for entry in items(terms[symbol][3]):
             name, kinds, shape = parts(entry, "entry", 3)
-            need(kinds == ["list"], "a declared type of types:", entry)
+            need(set(items(kinds)) <= {"a_type"}, "a declared type of numbers:", entry)
             need(program.shapes.setdefault(str(name), shape_of(shape)) == shape_of(shape), "two shapes of", name)
     return program
 

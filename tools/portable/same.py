@@ -11,7 +11,7 @@ import os
 import re
 import sys
 
-from mir import WIDTHS, Stop, Text, need, number, parse, parts, shown
+from mir import WIDTHS, Stop, Text, items, need, number, parse, parts, shown
 
 DEFINITION = re.compile(r"^(?:abbrev|unfoldable) pub (\S+) :\s(?:.*?)^\1 =\s(.*?)(?=\n\n|\Z)", re.M | re.S)
 USE = re.compile(r"^use (\S+)(?: as (\S+))?$", re.M)
@@ -221,6 +221,24 @@ def difference(one, other):
     return "%s and %s" % (shown(one), shown(other))
 
 
+def held(term):
+    """The declared types that a term names, but for those that it only points to."""
+    if not isinstance(term, list) or term[:1] == ["ty_ref"]:
+        return set()
+    own = {str(term[1])} if term[:1] == ["ty_named"] else set()
+    return own.union(*map(held, term))
+
+
+def without_pointed_to(definition):
+    """A function's definition without the declared types that it only points to, of which the proofs' table has none."""
+    head, symbol, function, entries = definition
+    entries = items(entries)
+    wanted = held(function)
+    while not wanted >= set().union(*(held(one) for one in entries if str(one[1]) in wanted)):
+        wanted |= set().union(*(held(one) for one in entries if str(one[1]) in wanted))
+    return [head, symbol, function, ["list"] + [one for one in entries if str(one[1]) in wanted]]
+
+
 def main():
     need(len(sys.argv) == 3, "usage: same.py MIR STATED")
     sys.setrecursionlimit(100000)
@@ -231,6 +249,7 @@ def main():
     for one in printed:
         symbol = str(parts(one, "fn_def", 3)[0])
         other = stated.definition(symbol)
+        one, other = without_pointed_to(one), without_pointed_to(other)
         need(one == other, symbol, "isn't what is proved:", difference(one, other))
     print("portable: %d functions are what the proofs are about" % len(printed))
 

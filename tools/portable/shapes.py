@@ -1,11 +1,21 @@
 """The C of each type. A value is a number, a truth value, a pointer or a struct of values, as in logic/Mir/Val.antt; how it lies in memory is C's own
-business, since only integers are reached through pointers (`pointee`), and an integer of so many bits lies in C as in the machine but for the order of its
-bytes, which no program can tell."""
-from mir import Array, Bool, Int, Named, Ref, Slice, Unit, need
+business: what is reached through pointers are integers (`pointee`), which lie in C as in the machine but for the order of their bytes, which no program can tell,
+and structs at their own type, so that C itself finds their fields."""
+from mir import Array, Bool, Int, Named, Ref, Slice, Unit, at_types, need
+from sources import STANDARD
 
 
 def c_name(symbol):
     return symbol.replace("::", "_")
+
+
+def type_name(ty):
+    """The C name of a declared type, of the types too that it is used at."""
+    if isinstance(ty, Named):
+        return "_".join([c_name(ty.symbol)] + [type_name(one) for one in ty.types])
+    words = {Bool(): "bool", Unit(): "unit"}
+    need(isinstance(ty, Int) or ty in words, "a declared type at", ty)
+    return words.get(ty) or "u%d" % ty.width
 
 
 def size(ty):
@@ -42,7 +52,9 @@ class Shapes:
         need(isinstance(ty, Named) and ty.symbol in self.shapes, "no declared type:", ty)
         found, held = self.shapes[ty.symbol]
         need(found == form, ty.symbol, "has", found, "and not", form)
-        return held
+        if form == "fields":
+            return [at_types(one, ty.types) for one in held]
+        return [[at_types(one, ty.types) for one in variant] for variant in held]
 
     def is_enum(self, ty):
         return isinstance(ty, Named) and ty.symbol in self.shapes and self.shapes[ty.symbol][0] == "variants"
@@ -52,14 +64,14 @@ class Shapes:
         held = self.shape(ty, "fields")
         need(k < len(held), ty.symbol, "has no field", k)
         self.name(ty)
-        return self.fields[ty.symbol][k], held[k]
+        return self.fields[ty][k], held[k]
 
     def variant_field(self, ty, variant, k):
         """The C name and the type of a variant's field; field 0 is the tag (logic/Prog/Memory.antt, with_tag)."""
         held = self.shape(ty, "variants")
         need(variant < len(held) and k <= len(held[variant]), ty.symbol, "has no field", k, "of variant", variant)
         self.name(ty)
-        return ("tag", Int(8)) if k == 0 else ("%s_%d" % (self.fields[ty.symbol][variant], k), held[variant][k - 1])
+        return ("tag", Int(8)) if k == 0 else ("%s_%d" % (self.fields[ty][variant], k), held[variant][k - 1])
 
     def define(self, name, members, comment=""):
         if name not in self.made:
@@ -85,7 +97,9 @@ def unit_name(shapes, ty):
 
 
 def ref_name(shapes, ty):
-    """vptr b o: a pointer to the first integer; const where nothing is stored through it."""
+    """vptr b o: a pointer to the first integer, or to a struct; const where nothing is stored through it."""
+    if isinstance(ty.to, Named):
+        return ("" if ty.mutable else "const ") + shapes.name(ty.to) + " *"
     return ("" if ty.mutable else "const ") + shapes.name(pointee(ty.to)) + " *"
 
 
@@ -104,11 +118,12 @@ def slice_name(shapes, ty):
 def named_name(shapes, ty):
     """A struct is vstruct of its fields, an enum vstruct of its tag and the live variant's fields. In C every variant's fields stand side by side: gcc makes
     slower code of a union, and a field of a variant that isn't live is never read (its cells are poison, logic/Prog/Memory.antt)."""
-    name = c_name(ty.symbol)
+    name = type_name(ty)
     if name in shapes.made:
         return name
     need(ty.symbol in shapes.shapes, "no shape of", ty.symbol)
-    form, held = shapes.shapes[ty.symbol]
+    form = shapes.shapes[ty.symbol][0]
+    held = shapes.shape(ty, form)
     if form == "fields":
         names = shapes.sources.fields(ty.symbol, held)
         members = [shapes.declare(one, called) for one, called in zip(held, names)]
@@ -116,9 +131,9 @@ def named_name(shapes, ty):
         need(len(held) <= 256, ty.symbol, "has more variants than a tag has numbers")
         names = shapes.sources.variants(ty.symbol, held)
         members = ["uint8_t tag"]
-        members += [shapes.declare(one, "%s_%d" % (called, k)) for variant, called in zip(held, names) for k, one in enumerate(variant, 1)]
-    shapes.fields[ty.symbol] = names
-    return shapes.define(name, members, "%s, %s" % (ty.symbol, shapes.sources.file(ty.symbol)))
+        members += [shapes.declare(one, "%s_%d" % (called, k)) for variant, called in zip(held, names) for k, one in enumerate(variant, 1) if one != Unit()]
+    shapes.fields[ty] = names
+    return shapes.define(name, members, ty.symbol if ty.symbol in STANDARD else "%s, %s" % (ty.symbol, shapes.sources.file(ty.symbol)))
 
 
 NAMES = {Int: int_name, Bool: bool_name, Unit: unit_name, Ref: ref_name, Array: array_name, Slice: slice_name, Named: named_name}

@@ -2,9 +2,23 @@
 import os
 import re
 
-from mir import Array, Bool, Int, Named, Ref, Slice, need
+from mir import Array, Bool, Int, Named, Ref, Slice, Unit, need
 
-NUMBERS = {"u8": Int(8), "u16": Int(16), "u32": Int(32), "u64": Int(64), "usize": Int(64), "bool": Bool()}
+NUMBERS = {"u8": Int(8), "u16": Int(16), "u32": Int(32), "u64": Int(64), "usize": Int(64), "bool": Bool(), "()": Unit()}
+# The variants of the standard library's enums, which have no source here.
+STANDARD = {"core::option::Option": ["None", "Some"], "core::result::Result": ["Ok", "Err"]}
+
+
+def apart(text):
+    """What stands between the commas of a list of types."""
+    found, depth = [""], 0
+    for one in text:
+        depth += {"<": 1, ">": -1}.get(one, 0)
+        if one == "," and depth == 0:
+            found.append("")
+        else:
+            found[-1] += one
+    return [one.strip() for one in found if one.strip()]
 
 
 def is_type(text, ty):
@@ -12,11 +26,20 @@ def is_type(text, ty):
     text = text.strip()
     if text in NUMBERS:
         return NUMBERS[text] == ty
-    found = re.fullmatch(r"&(mut )?\[(\w+)(?:; (\d+))?\]", text)
+    found = re.fullmatch(r"&(mut )?(.+)", text)
     if found:
-        mutable, of, count = bool(found.group(1)), NUMBERS.get(found.group(2)), found.group(3)
-        return of is not None and ty == (Ref(mutable, Array(of, int(count))) if count else Slice(mutable, of))
-    return isinstance(ty, Named) and ty.symbol.split("::")[-1] == text.split("::")[-1]
+        mutable, of = bool(found.group(1)), found.group(2)
+        if re.fullmatch(r"\[[^;]+\]", of):
+            return isinstance(ty, Slice) and ty.mutable == mutable and is_type(of[1:-1], ty.of)
+        return isinstance(ty, Ref) and ty.mutable == mutable and is_type(of, ty.to)
+    found = re.fullmatch(r"\[(.+); (\d+)\]", text)
+    if found:
+        return isinstance(ty, Array) and ty.count == int(found.group(2)) and is_type(found.group(1), ty.of)
+    found = re.fullmatch(r"([\w:]+)(?:<(.*)>)?", text)
+    if not found or not isinstance(ty, Named) or ty.symbol.split("::")[-1] != found.group(1).split("::")[-1]:
+        return False
+    given = apart(found.group(2) or "")
+    return len(given) == len(ty.types) and all(map(is_type, given, ty.types))
 
 
 class Sources:
@@ -47,7 +70,8 @@ class Sources:
         """What stands in the brackets of a declared struct or enum, one entry a comma."""
         found = re.findall(r"^(?:pub(?:\(crate\))? )?%s %s \{(.*?)^\}" % (word, symbol.split("::")[-1]), self.text(symbol), re.M | re.S)
         need(len(found) == 1, self.file(symbol), "has", len(found), word, symbol)
-        return [one.strip() for one in re.split(r",\s*\n", found[0]) if one.strip()]
+        entries = [one.strip() for one in re.split(r",\s*\n", found[0]) if one.strip()]
+        return [one for one in entries if not re.match(r"(pub )?ghost ", one)]
 
     def fields(self, symbol, types):
         """The names of a struct's fields."""
@@ -62,12 +86,14 @@ class Sources:
 
     def variants(self, symbol, types):
         """The names of an enum's variants."""
+        if symbol in STANDARD:
+            return STANDARD[symbol]
         names = []
         entries = self.body(symbol, "enum")
         need(len(entries) == len(types), symbol, "has", len(types), "variants and in its source", len(entries))
         for entry, held in zip(entries, types):
-            found = re.fullmatch(r"(\w+)(?:\((.+)\))?", entry)
-            texts = found.group(2).split(",") if found and found.group(2) else []
+            found = re.fullmatch(r"(\w+)(?:\((.+)\)| = \d+)?", entry)
+            texts = apart(found.group(2)) if found and found.group(2) else []
             need(found and len(texts) == len(held) and all(map(is_type, texts, held)), "variant of", symbol + ":", entry, "is no", held)
             names.append(found.group(1))
         return names

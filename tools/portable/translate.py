@@ -9,9 +9,9 @@ A form or a type that these don't know ends the translation with what it is and 
 """
 import sys
 
-from forms import HELPERS, operand, place, statement
+from forms import HELPERS, address, operand, statement
 from header import Header
-from mir import Array, Int, Raw, Ref, Stop, Unit, calls_in, function_of, items, need, number, program_of, type_of
+from mir import Array, Int, Named, Raw, Ref, Stop, Unit, calls_in, function_of, items, need, number, program_of, type_of
 from shapes import Shapes, c_name, size
 from sources import Sources
 
@@ -93,7 +93,7 @@ class Writer:
     def room(self, at):
         """How many bytes from a local pointer on belong to what it was made from: of a reference to an array, the array's."""
         ty = self.locals[at]
-        if not isinstance(ty, Ref):
+        if not isinstance(ty, Ref) or isinstance(ty.to, Named):
             return ""
         return str(size(ty.to)) if isinstance(ty.to, Array) else "r%d" % at
 
@@ -166,8 +166,7 @@ class Writer:
                 made = made if made == Raw() or not isinstance(made.to, Array) else Ref(made.mutable, made.to.of)
             else:
                 need(right[0] == "addr_of", "a raw pointer made by", right[0])
-                spot = place(self, right[1])
-                made = Ref(True, spot.type) if isinstance(spot.type, Array) else Ref(spot.type.mutable, spot.type.to)
+                made = address(self, right[1]).type
             need(self.locals[at] in (Raw(), made), "a raw pointer to two types:", self.locals[at], made)
             self.locals[at] = made
         need(Raw() not in self.locals, "a raw pointer that was made of nothing")
