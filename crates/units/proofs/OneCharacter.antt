@@ -12,6 +12,7 @@ use Rattle.prelude.specs.Bytes.{single_quote, backslash}
 use Rattle.prelude.proofs.Picks.{pick_case}
 use Rattle.utf8.specs.Utf8.{between, char_len, char_by}
 use Rattle.utf8.proofs.Characters.{char_length, char_take, ascii_len}
+use Rattle.utf8.proofs.Faults.{fault_told}
 use Rattle.utf8.proofs.Encoded.{OneChar, encode_char}
 use Rattle.notation.specs.declared.styles.Style.TheVariants.{Unicode}
 use Rattle.notation.specs.Styles.{StringUnit, close, took, fault}
@@ -22,7 +23,7 @@ use Rattle.units.proofs.WrittenBack.{lookup_each}
 abbrev pub Whole : StringUnit → Type 0
 Whole close = Unit
 Whole (took n bs) = OneChar bs
-Whole (fault number) = Unit
+Whole (fault refusal) = Unit
 
 scalar_whole : (n v : ℕ) → Whole (scalar n v)
 unfolding scalar
@@ -56,7 +57,7 @@ escape_whole (c ∷ r) =
     (λ e. pick_case Whole (eqb c (code "y")) _ _ (λ d. tt) (λ d. letter_whole (lookup c (letters_of Unicode)) (letters_ascii c)))
 
 literal_whole : (x : ℕ) (r : List ℕ) (n : ℕ) → char_len (x ∷ r) ≡ n → Whole (literal (char_by n (x ∷ r)) (x ∷ r))
-literal_whole x r zero e = tt
+literal_whole x r zero e = let (refusal, (is, within)) = fault_told (x ∷ r) e in rw is tt
 literal_whole x r (suc n) e = rw (length-take-le n r (char_length x r n e)) (rw append-nil at (char_take x r [] n e))
 
 pub unit_whole : (s : List ℕ) → Whole (unit_at Unicode s)

@@ -1,9 +1,10 @@
 -- Units that denote one byte, by the few bytes that tell them: the tests on them decide each `pick` of the definition.
 -- Assumes nothing.
+use Rattle.std.specs.Prelude.{Option}
 use Prim.Native.Nat.{ℕ, suc, ◌+◌, ◌<◌}
 use Prim.Native.Char.{code}
 use mathlib.Core.List.{List, [], ◌∷◌}
-use mathlib.Core.Path.{◌≡◌, refl, sym, ap, ◌∙◌}
+use mathlib.Core.Path.{◌≡◌, refl, sym, ap, ◌∙◌, subst}
 use native.Mathlib.Omega.{arith}
 use native.Mathlib.Numerals.{add-one}
 use borrow.Author.Tests.{lt-ltb, eq-eqb, ne_eqb}
@@ -19,7 +20,8 @@ use Rattle.notation.specs.declared.styles.Style.TheVariants.{Json, Unicode, Byte
 use Rattle.notation.specs.Styles.{quote, took}
 use Rattle.escapes.specs.Hex.{hex_run, hex_number}
 use Rattle.escapes.specs.Escapes.{lookup, letters, letters_of, low_half, code_unit, four_digits, raw_byte, escape}
-use Rattle.units.specs.Units.{unit_at}
+use Rattle.units.specs.declared.single_escapes.Single.{Single}
+use Rattle.units.specs.Units.{unit_at, Denotes}
 use Rattle.escapes.proofs.EscapeLaws.{unit_below, letter_some, raw_two}
 use Rattle.notation.proofs.LiteralClasses.{plain_char}
 use Rattle.units.proofs.LiteralUnits.{literal_unit}
@@ -42,14 +44,14 @@ two_raw r n v en ev h = sym (raw_two (took 4 (v ∷ [])) r n v en ev h refl)
 
 -- behind a backslash and the byte a
 module _ (st : Style) (a : ℕ) (r : List ℕ) where
-  module _ (n b : ℕ) where
-    pub by_number_lem : st ≡ Json → a ≡ code "u" → (0 < n → four_digits r ≡ took n (b ∷ [])) → 0 < n → escape st (a ∷ r) ≡ took n (b ∷ [])
+  module _ (f : Option Single) where
+    pub by_number_lem : st ≡ Json → a ≡ code "u" → Denotes f (four_digits r) → Denotes f (escape st (a ∷ r))
     unfolding escape pick
-    by_number_lem e h f l = rw (e, h) (f l)
+    by_number_lem e h l = rw (e, h) l
 
-    pub by_byte_lem : st ≡ Bytes → a ≡ code "y" → (0 < n → raw_byte Bytes r ≡ took n (b ∷ [])) → 0 < n → escape st (a ∷ r) ≡ took n (b ∷ [])
+    pub by_byte_lem : st ≡ Bytes → a ≡ code "y" → Denotes f (raw_byte Bytes r) → Denotes f (escape st (a ∷ r))
     unfolding escape pick
-    by_byte_lem e h f l = rw (e, h) (f l)
+    by_byte_lem e h l = rw (e, h) l
 
   pub unicode_quote : st ≡ Unicode → a ≡ single_quote → escape st (a ∷ r) ≡ took 2 (single_quote ∷ [])
   unfolding escape lookup pick
@@ -80,8 +82,8 @@ module _ (st : Style) (s : List ℕ) (at : ℕ) (h : at < length s) where
   pub letter_at : (b : ℕ) → b ≡ lookup (get_or s at 0) letters → (b ≡ 0 → ⊥) → escape st (drop at s) ≡ took 2 (b ∷ [])
   letter_at b e z = rw (drop-cons s at 0 h) (letter_escape_lem st (get_or s at 0) b (drop (suc at) s) e z)
 
-  pub special_at : (n b : ℕ) → (0 < n → escape st (get_or s at 0 ∷ drop (at + 1) s) ≡ took n (b ∷ [])) → 0 < n → escape st (drop at s) ≡ took n (b ∷ [])
-  special_at n b f l = rw (drop-cons s at 0 h, ← add-one at) (f l)
+  pub special_at : (f : Option Single) → Denotes f (escape st (get_or s at 0 ∷ drop (at + 1) s)) → Denotes f (escape st (drop at s))
+  special_at f l = subst (Denotes f) (ap (λ (m : ℕ). escape st (get_or s at 0 ∷ drop m s)) (add-one at) ∙ ap (escape st) (sym (drop-cons s at 0 h))) l
 
   -- a plain character, and the backslash
   pub plain_unit : (k : ℕ) → k ≡ class_of (get_or s at 0) → k ≡ 0 → unit_at st (drop at s) ≡ took 1 (get_or s at 0 ∷ [])

@@ -12,16 +12,17 @@ use lib.Dec.{ltb, eqb, lit<, lit≤}
 use lib.ListN.{length, take, drop, get_or, length-drop}
 use lib.Seq.{length-take-le}
 use borrow.Author.Tests.{eqb-true, ltb-true, leb-true}
+use Rattle.prelude.specs.declared.refusals.Refusal.{Refusal}
 use Rattle.prelude.specs.Bytes.{backslash}
 use Rattle.prelude.specs.Pick.{pick}
-use Rattle.prelude.specs.Refusals.{control, byte_escape, UnitFault}
+use Rattle.prelude.specs.Refusals.{control, byte_escape, FromTo, UnitFault}
 use Rattle.prelude.proofs.Cases.{split, and_left, and_right}
 use Rattle.prelude.proofs.Picks.{pick_case}
 use Rattle.prelude.proofs.Rest.{get_or_inside}
 use Rattle.utf8.specs.Utf8.{between, char_len, char_by}
 use Rattle.utf8.proofs.Characters.{char_le}
 use Rattle.utf8.proofs.Encoded.{encode_few}
-use Rattle.utf8.proofs.Faults.{fault_number_lem}
+use Rattle.utf8.proofs.Faults.{fault_told}
 use Rattle.notation.specs.declared.styles.Style.{Style}
 use Rattle.notation.specs.declared.styles.Style.TheVariants.{Json, Unicode, Bytes}
 use Rattle.notation.specs.Styles.{quote, StringUnit, close, took, fault}
@@ -33,7 +34,7 @@ use Rattle.units.specs.Units.{literal, unit_at}
 abbrev pub Sized : ℕ → StringUnit → Type 0
 Sized m close = ⊥
 Sized m (took n bs) = (length bs < n) × (n ≤ m)
-Sized m (fault number) = (control ≤ number) × (number ≤ byte_escape)
+Sized m (fault refusal) = FromTo control byte_escape refusal
 
 pub run_le : (k : ℕ) (r : List ℕ) → hex_run k r ≤ length r
 unfolding hex_digits pick
@@ -111,15 +112,15 @@ escape_sized st (c ∷ r) =
 abbrev pub Fits : List ℕ → StringUnit → Type 0
 Fits s close = ⊥
 Fits s (took n bs) = ((0 < n) × (n ≤ length s)) × ((length bs ≤ n) × (length bs ≡ n → bs ≡ take n s))
-Fits s (fault number) = UnitFault number
+Fits s (fault refusal) = UnitFault refusal
 
 escape_fits : (s : List ℕ) (u : StringUnit) → Sized (length s) u → Fits s u
 escape_fits s close h = h
 escape_fits s (took n bs) h = ((omega (arith, h.0), h.1), (omega (arith, h.0), λ e. absurd (omega (arith, h.0))))
-escape_fits s (fault number) h = inl h
+escape_fits s (fault refusal) h = inl h
 
 literal_fits : (n : ℕ) (s : List ℕ) → char_len s ≡ n → n ≤ length s → Fits s (literal (char_by n s) s)
-literal_fits zero s e h = inr (fault_number_lem s e)
+literal_fits zero s e h = let (bad, (is, within)) = fault_told s e in rw is (inr within)
 literal_fits (suc n) s e h = ((omega arith, h), (omega (arith, length-take-le (suc n) s h), λ e. refl))
 
 pub unit_fits : (st : Style) (x : ℕ) (r : List ℕ) → eqb x (quote st) ≡ false → Fits (x ∷ r) (unit_at st (x ∷ r))
@@ -153,8 +154,8 @@ pub close_quote : (st : Style) (x : ℕ) (r : List ℕ) → unit_at st (x ∷ r)
 close_quote st x r e = split (eqb x (quote st)) (λ q. eqb-true x (quote st) q) (λ q. absurd (rw e at (unit_fits st x r q)))
 
 -- a unit's refusal is its own: only where a text ends is it cut off
-pub unit_fault : (st : Style) (x : ℕ) (r : List ℕ) (number : ℕ) → unit_at st (x ∷ r) ≡ fault number → UnitFault number
-unit_fault st x r number e =
+pub unit_fault : (st : Style) (x : ℕ) (r : List ℕ) (refusal : Refusal) → unit_at st (x ∷ r) ≡ fault refusal → UnitFault refusal
+unit_fault st x r refusal e =
     split (eqb x (quote st))
     (λ q. let y : ◌≡◌ {A = ℕ} 0 1 = cc (no_unit st x r q) in absurd (omega arith))
     (λ q. rw e at (unit_fits st x r q))

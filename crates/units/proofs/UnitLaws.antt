@@ -1,6 +1,7 @@
 -- A unit by its first byte, place by place: the definition's decision list at a rest that isn't empty, and the bytes of a literal
 -- character, at most four, one by one.
 -- Assumes nothing.
+use Rattle.std.specs.Prelude.{Option, Some, None, Result, Ok, Err}
 use Prim.Native.Nat.{ℕ, zero, suc, ◌+◌, ◌≤◌, ◌<◌}
 use mathlib.Core.List.{List, [], ◌∷◌}
 use mathlib.Core.Path.{◌≡◌, refl, sym, ap, ◌∙◌}
@@ -12,22 +13,26 @@ use lib.ListN.{length, get_or, take, drop, drop_of_length-le}
 use lib.Seq.{drop-cons}
 use Rattle.prelude.specs.Bytes.{backslash}
 use Rattle.prelude.specs.Pick.{pick}
+use Rattle.prelude.specs.declared.refusals.Refusal.{Refusal}
 use Rattle.prelude.specs.Refusals.{cut_off, control}
 use Rattle.prelude.proofs.Picks.{pick_true, pick_false}
-use Rattle.utf8.specs.Utf8.{char_len, char_by, char_at}
-use Rattle.utf8.specs.declared.chars.Char.{Char}
-use Rattle.utf8.specs.declared.chars.Char.TheVariants.{Good, Bad}
+use Rattle.utf8.specs.Utf8.{char_len, char_fault, refused_by, char_by, char_at}
 use Rattle.utf8.proofs.Characters.{char_le, char_few}
 use Rattle.notation.specs.declared.styles.Style.{Style}
-use Rattle.notation.specs.Styles.{StringUnit, close, took, fault, quote}
+use Rattle.notation.specs.declared.styles.Unit.{Unit as Found}
+use Rattle.notation.specs.Styles.{StringUnit, close, took, fault, quote, unit_of, FewOf}
 use Rattle.escapes.specs.Escapes.{escape}
 use Rattle.units.specs.Units.{literal, unit_at}
 
-good_by : (k n : ℕ) (r : List ℕ) → Good n ≡ char_by k r → n ≡ k
-good_by zero n r e = absurd (let z : ◌≡◌ {A = ℕ} 0 1 = cc in let f : ⊥ = omega arith in f)
+good_none : (f : Option Refusal) (n : ℕ) → Ok n ≡ refused_by f → n ≡ 0
+good_none (Some bad) n e = absurd (let z : ◌≡◌ {A = ℕ} 0 1 = cc in let f : ⊥ = omega arith in f)
+good_none None n e = cc
+
+good_by : (k n : ℕ) (r : List ℕ) → Ok n ≡ char_by k r → n ≡ k
+good_by zero n r e = good_none (char_fault r) n e
 good_by (suc k) n r e = cc
 
-module _ (r : List ℕ) (n : ℕ) (f : Char) (e : f ≡ char_at r) (g : f ≡ Good n) where
+module _ (r : List ℕ) (n : ℕ) (f : Result ℕ Refusal) (e : f ≡ char_at r) (g : f ≡ Ok n) where
   good_is : n ≡ char_len r
   good_is = good_by (char_len r) n r (sym g ∙ e)
 
@@ -40,8 +45,9 @@ module _ (r : List ℕ) (n : ℕ) (f : Char) (e : f ≡ char_at r) (g : f ≡ Go
   pub literal_good : (l : List ℕ) → l ≡ take n r → took n l ≡ literal (char_at r) r
   literal_good l h = rw (← e, g) (ap (took n) h)
 
-pub literal_bad : (r : List ℕ) (m : ℕ) (f : Char) → f ≡ char_at r → f ≡ Bad m → fault m ≡ literal (char_at r) r
-literal_bad r m f e g = rw (← e, g) refl
+-- a refusal handed on
+pub literal_bad : (r : List ℕ) (f : Result ℕ Refusal) → f ≡ char_at r → (m : Refusal) → f ≡ Err m → (u : Result Found Refusal) → u ≡ Err m → (unit_of u ≡ literal (char_at r) r) × FewOf u
+literal_bad r f e m g u h = rw (← e, g, h) (refl, tt)
 
 -- k bytes from the place i on, one by one
 abbrev reads : ℕ → ℕ → List ℕ → List ℕ

@@ -4,22 +4,13 @@ use Rattle.units.proofs.SingleLaws.{by_number_lem, by_byte_lem, unicode_quote, b
 use Rattle.units.proofs.single_escapes.special.Goals as goal
 
 pub returns-then-c-eq117 : goal.returns-then-c-eq117
-returns-then-c-eq117 c = search by_number_lem
+returns-then-c-eq117 c = by_number_lem c.args.style c.args.c _ _ c.in-Json.is c.if-c-eq117.true c.ascii_number.ensures
 
 pub returns-then-c-eq39 : goal.returns-then-c-eq39
-returns-then-c-eq39 c = λ h. search unicode_quote
+returns-then-c-eq39 c = (omega arith, search unicode_quote)
 
 pub returns-then-c-eq121 : goal.returns-then-c-eq121
-returns-then-c-eq121 c = search by_byte_lem
+returns-then-c-eq121 c = by_byte_lem c.args.style c.args.c _ _ c.in-Bytes.is c.if-c-eq121.true c.raw.ensures
 
 pub returns-then-c-eq39-2 : goal.returns-then-c-eq39-2
-returns-then-c-eq39-2 c = λ h. search bytes_quote
-
-pub returns-else-c-eq117 : goal.returns-else-c-eq117
-returns-else-c-eq117 c = λ h. absurd (omega arith)
-
-pub returns-else-c-eq39 : goal.returns-else-c-eq39
-returns-else-c-eq39 c = λ h. absurd (omega arith)
-
-pub returns-else-c-eq39-2 : goal.returns-else-c-eq39-2
-returns-else-c-eq39-2 c = λ h. absurd (omega arith)
+returns-then-c-eq39-2 c = (omega arith, search bytes_quote)
