@@ -3,6 +3,7 @@
 use mathlib.Core.Path.{◌≡◌, sym, ap, ◌∙◌}
 use mathlib.Core.Bool.{true, false}
 use mathlib.Core.List.{List, ◌∷◌}
+use Rattle.std.specs.Prelude.{Option, Some, None}
 use Prim.Native.Nat.{ℕ, suc, ◌-◌, ◌≤◌, ◌<◌}
 use native.Mathlib.Omega.{arith}
 use borrow.Author.Tests.{eq-eqb, ne_eqb}
@@ -10,9 +11,7 @@ use lib.ListN.{length, get_or, take, drop, length-drop, drop_of_length-le}
 use lib.Seq.{drop-cons, take_all}
 use Rattle.prelude.specs.Pick.{pick}
 use Rattle.notation.specs.declared.marks.Mark.{Mark}
-use Rattle.notation.specs.declared.marks.Mark.TheVariants.{Opens, Unopened}
 use Rattle.notation.specs.Marks.{opens, unopened, opening, opening_of}
-use Rattle.notation.specs.declared.styles.Style.{Style}
 use Rattle.tokens.specs.declared.starts.Start.TheVariants.{Ended, String, Word, Number, List as ListStart, Dict, Nothing}
 use Rattle.tokens.specs.Words.{is_letter, is_digit}
 use Rattle.tokens.specs.Starts.{is_opening, start_of}
@@ -20,11 +19,11 @@ use Rattle.tokens.specs.Starts.{is_opening, start_of}
 pub rest : (s : List ℕ) (at : ℕ) → take (length s - at) (drop at s) ≡ drop at s
 rest s at = take_all (length s - at) (drop at s) (omega (arith, length-drop at s))
 
-module _ (s : List ℕ) (at : ℕ) (m : Mark) (e : opening_of m ≡ opening (take (length s - at) (drop at s))) where
-  pub opens_here : (st : Style) (n : ℕ) → m ≡ Opens st n → true ≡ is_opening (opening (drop at s))
-  opens_here st n q = let o : opening (drop at s) ≡ opens st n = ap opening (sym (rest s at)) ∙ sym e ∙ ap opening_of q in rw o
+module _ (s : List ℕ) (at : ℕ) (m : Option Mark) (e : opening_of m ≡ opening (take (length s - at) (drop at s))) where
+  pub opens_here : (v : Mark) → m ≡ Some v → true ≡ is_opening (opening (drop at s))
+  opens_here v q = let o : opening (drop at s) ≡ opens v.style v.len = ap opening (sym (rest s at)) ∙ sym e ∙ ap opening_of q in rw o
 
-  pub opens_not : m ≡ Unopened → false ≡ is_opening (opening (drop at s))
+  pub opens_not : m ≡ None → false ≡ is_opening (opening (drop at s))
   opens_not q = let o : opening (drop at s) ≡ unopened = ap opening (sym (rest s at)) ∙ sym e ∙ ap opening_of q in rw o
 
 pub start_end : (s : List ℕ) (at : ℕ) → length s ≤ at → Ended ≡ start_of (drop at s)

@@ -9,15 +9,15 @@ use native.Mathlib.Omega.{arith}
 use native.Mathlib.Nat.{add-zero}
 use borrow.Author.Tests.{ne_eqb}
 use lib.Dec.{eqb}
+use Rattle.std.specs.Prelude.{Option, Some, None}
 use lib.ListN.{length, get_or, drop, length-drop}
 use lib.Seq.{drop-drop}
 use Rattle.prelude.specs.Pick.{pick}
 use Rattle.prelude.proofs.Cases.{split, never}
 use Rattle.prelude.proofs.Rest.{get_or_inside}
 use Rattle.tokens.specs.declared.numbers.Number.{Number}
-use Rattle.tokens.specs.declared.numbers.Number.TheVariants.{Legal, Malformed}
 use Rattle.tokens.specs.Words.{is_digit, run_of}
-use Rattle.tokens.specs.Numbers.{is_e, is_sign, is_number, number_token, legal, ends, in_exp, exp_digits, behind_e, behind_frac, in_frac, behind_point, behind_int, in_int, int, number_kind, number_from, number_at}
+use Rattle.tokens.specs.Numbers.{is_e, is_sign, is_number, number_token, found, legal, ends, in_exp, exp_digits, behind_e, behind_frac, in_frac, behind_point, behind_int, in_int, int, number_kind, number_from, number_at}
 use Rattle.tokens.specs.inner.Parts.{Leads}
 use Rattle.tokens.proofs.Runs.{run_more, run_none, run_le}
 
@@ -65,14 +65,14 @@ module _ (s : List ℕ) (at x : ℕ) (ex : x ≡ get_or (drop at s) 0 0) where
   pub next_inside : is_number x ≡ true → at + 1 ≤ length s
   next_inside e = omega (arith, head_inside (drop at s) x ex e, length-drop at s)
 
-  pub goes_on : (part next : List ℕ → ℕ) (v : Number) → v ≡ number_from next (at + 1) (drop (at + 1) s) → is_number x ≡ true
+  pub goes_on : (part next : List ℕ → ℕ) (v : Option Number) → v ≡ number_from next (at + 1) (drop (at + 1) s) → is_number x ≡ true
       → ((w : List ℕ) → part (x ∷ w) ≡ next w) → v ≡ number_from part at (drop at s)
   unfolding number_from
   goes_on part next v e h f =
       let l : at + 1 + length (number_token (drop (at + 1) s)) ≡ at + suc (length (number_token (drop (at + 1) s))) = omega arith in
       e ∙ rw (head_more (drop at s) x ex h, drop-drop 1 at s, f (number_token (drop (at + 1) s)), l)
 
-  pub stays : (part same : List ℕ → ℕ) (v : Number) → v ≡ number_from same at (drop at s) → part [] ≡ same []
+  pub stays : (part same : List ℕ → ℕ) (v : Option Number) → v ≡ number_from same at (drop at s) → part [] ≡ same []
       → ((w : List ℕ) → part (x ∷ w) ≡ same (x ∷ w)) → v ≡ number_from part at (drop at s)
   unfolding number_from
   stays part same v e z f =
@@ -80,18 +80,18 @@ module _ (s : List ℕ) (at x : ℕ) (ex : x ≡ get_or (drop at s) 0 0) where
       (λ h. rw (head_more (drop at s) x ex h, f (number_token (drop 1 (drop at s)))))
       (λ h. rw (head_none (drop at s) x ex h, z))
 
-  pub fails : (part : List ℕ → ℕ) → part [] ≡ 0 → ((w : List ℕ) → part (x ∷ w) ≡ 0) → Malformed ≡ number_from part at (drop at s)
+  pub fails : (part : List ℕ → ℕ) → part [] ≡ 0 → ((w : List ℕ) → part (x ∷ w) ≡ 0) → None ≡ number_from part at (drop at s)
   unfolding number_from
   fails part z f =
       split (is_number x)
       (λ h. rw (head_more (drop at s) x ex h, f (number_token (drop 1 (drop at s)))))
       (λ h. rw (head_none (drop at s) x ex h, z))
 
-  pub too_long_lem : (kind : ℕ) → is_number x ≡ true → Malformed ≡ number_from (ends kind) at (drop at s)
+  pub too_long_lem : (kind : ℕ) → is_number x ≡ true → None ≡ number_from (ends kind) at (drop at s)
   unfolding number_from
   too_long_lem kind h = rw (head_more (drop at s) x ex h)
 
-  pub whole : (kind : ℕ) → 0 < kind → is_number x ≡ false → Legal kind at ≡ number_from (ends kind) at (drop at s)
+  pub whole : (kind : ℕ) → 0 < kind → is_number x ≡ false → found kind at ≡ number_from (ends kind) at (drop at s)
   unfolding number_from
   whole zero p h = absurd (omega arith)
   whole (suc k) p h = rw (head_none (drop at s) x ex h, add-zero at)
@@ -111,7 +111,7 @@ module _ (part next : List ℕ → ℕ) (digit : (x : ℕ) (w : List ℕ) → is
       (λ h. rw (run_none is_digit x r d, run_more is_number x r h, add-zero n, other x (number_token r) d))
       (λ h. rw (run_none is_digit x r d, run_none is_number x r h, none) (simp add-zero)))
 
-  pub over_digits : (s : List ℕ) (at e : ℕ) (v : Number) → e ≡ at + length (run_of is_digit (drop at s)) → v ≡ number_from next e (drop e s) → v ≡ number_from part at (drop at s)
+  pub over_digits : (s : List ℕ) (at e : ℕ) (v : Option Number) → e ≡ at + length (run_of is_digit (drop at s)) → v ≡ number_from next e (drop e s) → v ≡ number_from part at (drop at s)
   over_digits s at e v ee ev =
       ev ∙ ap (λ (k : ℕ). number_from next k (drop k s)) ee ∙ ap (number_from next (at + length (run_of is_digit (drop at s)))) (sym (drop-drop (length (run_of is_digit (drop at s))) at s))
       ∙ over (drop at s) at
@@ -120,25 +120,25 @@ pub digits_inside : (s : List ℕ) (at e : ℕ) → e ≡ at + length (run_of is
 digits_inside s at e ee h = omega (arith, run_le is_digit (drop at s), length-drop at s)
 
 -- the parts that begin with a run of digits
-pub exp_over : (s : List ℕ) (at e : ℕ) (v : Number) → e ≡ at + length (run_of is_digit (drop at s)) → v ≡ number_from (ends 4) e (drop e s) → v ≡ number_from in_exp at (drop at s)
+pub exp_over : (s : List ℕ) (at e : ℕ) (v : Option Number) → e ≡ at + length (run_of is_digit (drop at s)) → v ≡ number_from (ends 4) e (drop e s) → v ≡ number_from in_exp at (drop at s)
 unfolding in_exp pick
 exp_over = over_digits in_exp (ends 4) (λ x w d. rw d) (λ x w d. rw d) refl
 
-pub frac_over : (s : List ℕ) (at e : ℕ) (v : Number) → e ≡ at + length (run_of is_digit (drop at s)) → v ≡ number_from behind_frac e (drop e s) → v ≡ number_from in_frac at (drop at s)
+pub frac_over : (s : List ℕ) (at e : ℕ) (v : Option Number) → e ≡ at + length (run_of is_digit (drop at s)) → v ≡ number_from behind_frac e (drop e s) → v ≡ number_from in_frac at (drop at s)
 unfolding in_frac behind_frac pick
 frac_over = over_digits in_frac behind_frac (λ x w d. rw d) (λ x w d. rw d) refl
 
-pub int_over : (s : List ℕ) (at e : ℕ) (v : Number) → e ≡ at + length (run_of is_digit (drop at s)) → v ≡ number_from behind_int e (drop e s) → v ≡ number_from in_int at (drop at s)
+pub int_over : (s : List ℕ) (at e : ℕ) (v : Option Number) → e ≡ at + length (run_of is_digit (drop at s)) → v ≡ number_from behind_int e (drop e s) → v ≡ number_from in_int at (drop at s)
 unfolding in_int behind_int pick
 int_over = over_digits in_int behind_int (λ x w d. rw d) (λ x w d. rw d) refl
 
 -- each part by the byte that stands there
-module _ (s : List ℕ) (at x : ℕ) (v : Number) (ex : x ≡ get_or (drop at s) 0 0) where
+module _ (s : List ℕ) (at x : ℕ) (v : Option Number) (ex : x ≡ get_or (drop at s) 0 0) where
   pub exp_digit : is_digit x ≡ true → v ≡ number_from in_exp (at + 1) (drop (at + 1) s) → v ≡ number_from exp_digits at (drop at s)
   unfolding exp_digits pick
   exp_digit d e = goes_on s at x ex exp_digits in_exp v e (digit_number x d) (λ w. rw d)
 
-  pub exp_none : is_digit x ≡ false → Malformed ≡ number_from exp_digits at (drop at s)
+  pub exp_none : is_digit x ≡ false → None ≡ number_from exp_digits at (drop at s)
   unfolding exp_digits pick
   exp_none d = fails s at x ex exp_digits refl (λ w. rw d)
 
@@ -162,7 +162,7 @@ module _ (s : List ℕ) (at x : ℕ) (v : Number) (ex : x ≡ get_or (drop at s)
   unfolding behind_point pick
   point_digit d e = goes_on s at x ex behind_point in_frac v e (digit_number x d) (λ w. rw d)
 
-  pub point_none : is_digit x ≡ false → Malformed ≡ number_from behind_point at (drop at s)
+  pub point_none : is_digit x ≡ false → None ≡ number_from behind_point at (drop at s)
   unfolding behind_point pick
   point_none d = fails s at x ex behind_point refl (λ w. rw d)
 
@@ -196,7 +196,7 @@ module _ (s : List ℕ) (at x : ℕ) (v : Number) (ex : x ≡ get_or (drop at s)
     unfolding int pick
     digit_int d e = goes_on s at x ex int in_int v e (digit_number x d) (λ w. rw (ne_eqb x 0x30 p, d))
 
-    pub no_int : is_digit x ≡ false → Malformed ≡ number_from int at (drop at s)
+    pub no_int : is_digit x ≡ false → None ≡ number_from int at (drop at s)
     unfolding int pick
     no_int d = fails s at x ex int refl (λ w. rw (ne_eqb x 0x30 p, d))
 
@@ -215,7 +215,7 @@ module _ (s : List ℕ) (at x : ℕ) (v : Number) (ex : x ≡ get_or (drop at s)
 -- the places that lead on
 module _ (s : List ℕ) (at x : ℕ) (ex : x ≡ get_or (drop at s) 0 0) where
   pub minus_leads : x ≡ 0x2d → Leads number_kind int s at (at + 1)
-  minus_leads d = record { inside = minus_inside s at x Malformed ex d; same = minus_on s at x _ ex d refl }
+  minus_leads d = record { inside = minus_inside s at x None ex d; same = minus_on s at x _ ex d refl }
 
   pub plain_leads : at ≤ length s → (x ≡ 0x2d → ⊥) → Leads number_kind int s at at
   plain_leads h d = record { inside = h; same = no_minus s at x _ ex d refl }
@@ -227,42 +227,53 @@ module _ (s : List ℕ) (at x : ℕ) (ex : x ≡ get_or (drop at s) 0 0) where
   unsigned_leads h d = record { inside = h; same = e_plain s at x _ ex d refl }
 
   pub zero_leads : x ≡ 0x30 → Leads int behind_int s at (at + 1)
-  zero_leads d = record { inside = zero_inside s at x Malformed ex d; same = zero_int s at x _ ex d refl }
+  zero_leads d = record { inside = zero_inside s at x None ex d; same = zero_int s at x _ ex d refl }
 
   pub digits_lead : (x ≡ 0x30 → ⊥) → is_digit x ≡ true → (e : ℕ) → e ≡ at + 1 + length (run_of is_digit (drop (at + 1) s)) → Leads int behind_int s at e
   digits_lead p d e ee =
       let h : at + 1 ≤ length s = next_inside s at x ex (digit_number x d) in
       record { inside = digits_inside s (at + 1) e ee h; same = digit_int s at x _ ex p d (int_over s (at + 1) e _ ee refl) }
 
-  pub no_digit : is_digit x ≡ false → Malformed ≡ number_from int at (drop at s)
-  no_digit d = no_int s at x Malformed ex (λ z. never (let q : true ≡ false = sym (ap is_digit z) ∙ d in cc)) d
+  pub no_digit : is_digit x ≡ false → None ≡ number_from int at (drop at s)
+  no_digit d = no_int s at x None ex (λ z. never (let q : true ≡ false = sym (ap is_digit z) ∙ d in cc)) d
+
+-- the same number has the same kind and length
+abbrev kind_in : Option Number → ℕ
+kind_in (Some v) = v.kind
+kind_in None = 0
+
+abbrev len_in : Option Number → ℕ
+len_in (Some v) = v.len
+len_in None = 0
+
+pub found_same : (k n j m : ℕ) → found k n ≡ found j m → (k ≡ j) × (n ≡ m)
+found_same k n j m e = (ap kind_in e, ap len_in e)
 
 -- the token's length, from its place
-pub legal_at : (s : List ℕ) (from kind end : ℕ) (v : Number) → v ≡ number_from number_kind from (drop from s) → v ≡ Legal kind end
-    → Legal kind (end - from) ≡ number_at (drop from s)
+pub legal_at : (s : List ℕ) (from kind end : ℕ) (v : Option Number) → v ≡ number_from number_kind from (drop from s) → v ≡ found kind end
+    → found kind (end - from) ≡ number_at (drop from s)
 unfolding number_at number_from
 legal_at s from kind end v e f = go (number_kind (number_token (drop from s))) (length (number_token (drop from s))) (sym e ∙ f)
   where
-    go : (k n : ℕ) → legal k (from + n) ≡ Legal kind end → Legal kind (end - from) ≡ legal k (0 + n)
+    go : (k n : ℕ) → legal k (from + n) ≡ found kind end → found kind (end - from) ≡ legal k (0 + n)
     go zero n q = never cc
     go (suc k) n q =
-        let a : suc k ≡ kind = cc in
-        let b : from + n ≡ end = cc in
+        let (a, b) = found_same _ _ _ _ q in
         let d : end - from ≡ 0 + n = omega arith in
         rw (sym a, d)
 
-pub legal_inside : (s : List ℕ) (from kind end : ℕ) (v : Number) → v ≡ number_from number_kind from (drop from s) → v ≡ Legal kind end → from ≤ end
+pub legal_inside : (s : List ℕ) (from kind end : ℕ) (v : Option Number) → v ≡ number_from number_kind from (drop from s) → v ≡ found kind end → from ≤ end
 unfolding number_from
 legal_inside s from kind end v e f = go (number_kind (number_token (drop from s))) (length (number_token (drop from s))) (sym e ∙ f)
   where
-    go : (k n : ℕ) → legal k (from + n) ≡ Legal kind end → from ≤ end
+    go : (k n : ℕ) → legal k (from + n) ≡ found kind end → from ≤ end
     go zero n q = never cc
-    go (suc k) n q = let b : from + n ≡ end = cc in omega arith
+    go (suc k) n q = let (a, b) = found_same _ _ _ _ q in omega arith
 
-pub malformed_at : (s : List ℕ) (from : ℕ) (v : Number) → v ≡ number_from number_kind from (drop from s) → v ≡ Malformed → Malformed ≡ number_at (drop from s)
+pub malformed_at : (s : List ℕ) (from : ℕ) (v : Option Number) → v ≡ number_from number_kind from (drop from s) → v ≡ None → None ≡ number_at (drop from s)
 unfolding number_at number_from
 malformed_at s from v e f = go (number_kind (number_token (drop from s))) (length (number_token (drop from s))) (sym e ∙ f)
   where
-    go : (k n : ℕ) → legal k (from + n) ≡ Malformed → Malformed ≡ legal k (0 + n)
+    go : (k n : ℕ) → legal k (from + n) ≡ None → None ≡ legal k (0 + n)
     go zero n q = refl
     go (suc k) n q = never cc

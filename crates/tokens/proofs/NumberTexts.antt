@@ -11,15 +11,15 @@ use borrow.Author.Tests.{eqb-true}
 use lib.Dec.{eqb, lit≤}
 use lib.ListN.{length}
 use lib.Seq.{take-length}
+use Rattle.std.specs.Prelude.{Option, Some, None}
 use Rattle.prelude.specs.Pick.{pick}
 use Rattle.prelude.proofs.Cases.{never}
 use Rattle.prelude.proofs.Picks.{pick_case}
 use Rattle.tokens.specs.declared.numbers.Number.{Number}
-use Rattle.tokens.specs.declared.numbers.Number.TheVariants.{Legal as LegalNumber, Malformed}
 use Rattle.tokens.specs.Words.{is_digit, run_of}
-use Rattle.tokens.specs.Numbers.{is_e, is_sign, is_number, in_exp, exp_digits, behind_e, behind_frac, in_frac, behind_point, behind_int, in_int, int, number_token, number_kind, number_from, number_at}
+use Rattle.tokens.specs.Numbers.{is_e, is_sign, is_number, in_exp, exp_digits, behind_e, behind_frac, in_frac, behind_point, behind_int, in_int, int, number_token, number_kind, kind_told, found, number_from, number_at}
 use Rattle.tokens.proofs.Runs.{run_more, run_take}
-use Rattle.tokens.proofs.Grammar.{digit_number, sign_number, e_number}
+use Rattle.tokens.proofs.Grammar.{digit_number, sign_number, e_number, found_same}
 
 -- each byte passes a test
 abbrev pub All : (ℕ → Bool) → List ℕ → Type 0
@@ -114,26 +114,25 @@ run_all : (s : List ℕ) → length (number_token s) ≡ length s → Whole s
 run_all s e = run_take is_number s ∙ rw e (take-length s)
 
 -- what the token reader answers of a text
-module _ (s : List ℕ) (v : Number) (told : v ≡ number_at s) where
-  kind_length : (k n : ℕ) → v ≡ LegalNumber k n → (number_kind (number_token s) ≡ k) × (length (number_token s) ≡ n)
+module _ (s : List ℕ) (v : Option Number) (told : v ≡ number_at s) where
+  found_is : (w : Number) → v ≡ Some w → (Some w.kind ≡ kind_told (number_kind (number_token s))) × (length (number_token s) ≡ w.len)
   unfolding number_at number_from
-  kind_length k n e = go (number_kind (number_token s)) refl
+  found_is w e = go (number_kind (number_token s)) refl
     where
-      go : (j : ℕ) → number_kind (number_token s) ≡ j → (number_kind (number_token s) ≡ k) × (length (number_token s) ≡ n)
-      go zero q = never (let z : Malformed ≡ LegalNumber k n = sym (told ∙ rw q) ∙ e in cc)
+      go : (j : ℕ) → number_kind (number_token s) ≡ j → (Some w.kind ≡ kind_told (number_kind (number_token s))) × (length (number_token s) ≡ w.len)
+      go zero q = never (let z : ◌≡◌ {A = Option Number} None (Some w) = sym (told ∙ rw q) ∙ e in cc)
       go (suc j) q =
-          let z : LegalNumber (suc j) (0 + length (number_token s)) ≡ LegalNumber k n = sym (told ∙ rw q) ∙ e in
-          let a : suc j ≡ k = cc in
-          let b : 0 + length (number_token s) ≡ n = cc in
-          (q ∙ a, sym (zero-add _) ∙ b)
+          let z : found (suc j) (0 + length (number_token s)) ≡ found w.kind w.len = sym (told ∙ rw q) ∙ e in
+          let (a, b) = found_same _ _ _ _ z in
+          (rw q (ap Some (sym a)), sym (zero-add _) ∙ b)
 
-  malformed_kind : v ≡ Malformed → number_kind (number_token s) ≡ 0
+  malformed_kind : v ≡ None → number_kind (number_token s) ≡ 0
   unfolding number_at number_from
   malformed_kind e = go (number_kind (number_token s)) refl
     where
       go : (j : ℕ) → number_kind (number_token s) ≡ j → number_kind (number_token s) ≡ 0
       go zero q = q
-      go (suc j) q = never (let z : LegalNumber (suc j) (0 + length (number_token s)) ≡ Malformed = sym (told ∙ rw q) ∙ e in cc)
+      go (suc j) q = never (let z : found (suc j) (0 + length (number_token s)) ≡ None = sym (told ∙ rw q) ∙ e in cc)
 
   -- were it a number, it would be its own run
   no_number : (Whole s → ⊥) → 0 ≡ number_kind s
@@ -143,8 +142,8 @@ module _ (s : List ℕ) (v : Number) (told : v ≡ number_at s) where
       go zero q = sym q
       go (suc j) q = absurd (f (number_whole s (λ y. let z : suc j ≡ 0 = sym q ∙ y in omega (arith, z))))
 
-  pub none_legal : v ≡ Malformed → 0 ≡ number_kind s
-  none_legal e = go (number_kind s) refl
+  none_kind : v ≡ None → 0 ≡ number_kind s
+  none_kind e = go (number_kind s) refl
     where
       go : (j : ℕ) → number_kind s ≡ j → 0 ≡ number_kind s
       go zero q = sym q
@@ -152,10 +151,13 @@ module _ (s : List ℕ) (v : Number) (told : v ≡ number_at s) where
           let w : Whole s = number_whole s (λ y. let z : suc j ≡ 0 = sym q ∙ y in omega (arith, z)) in
           sym (malformed_kind e) ∙ ap number_kind w
 
-  pub longer : (k n : ℕ) → v ≡ LegalNumber k n → (n ≡ length s → ⊥) → 0 ≡ number_kind s
-  longer k n e d = no_number (λ w. d (sym (kind_length k n e).1 ∙ ap length w))
+  pub none_legal : v ≡ None → None ≡ kind_told (number_kind s)
+  none_legal e = ap kind_told (none_kind e)
 
-  pub all_of_it : (k n : ℕ) → v ≡ LegalNumber k n → n ≡ length s → k ≡ number_kind s
-  all_of_it k n e l =
-      let w : Whole s = run_all s ((kind_length k n e).1 ∙ l) in
-      sym (kind_length k n e).0 ∙ ap number_kind w
+  pub longer : (w : Number) → v ≡ Some w → (w.len ≡ length s → ⊥) → None ≡ kind_told (number_kind s)
+  longer w e d = ap kind_told (no_number (λ q. d (sym (found_is w e).1 ∙ ap length q)))
+
+  pub all_of_it : (w : Number) → v ≡ Some w → w.len ≡ length s → Some w.kind ≡ kind_told (number_kind s)
+  all_of_it w e l =
+      let q : Whole s = run_all s ((found_is w e).1 ∙ l) in
+      (found_is w e).0 ∙ ap (λ (t : List ℕ). kind_told (number_kind t)) q

@@ -1,6 +1,6 @@
 -- A token takes a byte, and tokens and blanks end inside the text: by induction on the text, and by the byte that a token begins with.
 -- Assumes nothing.
-use mathlib.Core.Path.{◌≡◌, refl}
+use mathlib.Core.Path.{◌≡◌, refl, subst}
 use mathlib.Core.Bool.{Bool, true, false}
 use mathlib.Core.List.{List, [], ◌∷◌}
 use Prim.Native.Nat.{ℕ, zero, suc, pred, ◌+◌, ◌≤◌, ◌<◌}
@@ -8,19 +8,17 @@ use native.Mathlib.Omega.{arith}
 use borrow.Author.Tests.{eqb-true}
 use lib.Dec.{eqb}
 use lib.ListN.{length, drop, length-drop}
+use Rattle.std.specs.Prelude.{Option, Some, None, Result, Ok, Err}
+use Rattle.prelude.specs.declared.refusals.Refusal.{Refusal}
+use Rattle.prelude.specs.declared.refusals.Refused.{Refused}
 use Rattle.prelude.specs.Pick.{pick}
-use Rattle.prelude.specs.Refusals.{utf8_bad_encoding, utf8_too_large}
+use Rattle.prelude.specs.Refusals.{utf8_bad_encoding, utf8_too_large, FromTo}
 use Rattle.prelude.proofs.Cases.{split, never}
 use Rattle.prelude.proofs.Suffix.{by_suffix}
-use Rattle.utf8.specs.declared.chars.Char.{Char}
-use Rattle.utf8.specs.declared.chars.Char.TheVariants.{Good, Bad}
-use Rattle.utf8.specs.Utf8.{char_fault, char_len, char_by, char_at}
+use Rattle.utf8.specs.Utf8.{char_len, char_by, char_at}
 use Rattle.notation.specs.Marks.{opening}
-use Rattle.utf8.proofs.Faults.{fault_number_lem}
-use Rattle.tokens.specs.declared.blanks.Blank.{Blank}
-use Rattle.tokens.specs.declared.blanks.Blank.TheVariants.{Clear, Ill}
+use Rattle.utf8.proofs.Faults.{fault_told}
 use Rattle.tokens.specs.declared.numbers.Number.{Number}
-use Rattle.tokens.specs.declared.numbers.Number.TheVariants.{Legal, Malformed}
 use Rattle.tokens.specs.declared.starts.Start.{Start}
 use Rattle.tokens.specs.declared.starts.Start.TheVariants.{Ended, String, Word, Number as NumberStart, List as ListStart, Dict, Nothing}
 use Rattle.tokens.specs.Blanks.{is_space, Passing, pass, token, fault, in_comment, passing, pass_on, blanks_from, blanks}
@@ -32,25 +30,29 @@ use Rattle.tokens.proofs.Skipping.{blanks_skip, good_len}
 use Rattle.tokens.proofs.Grammar.{digit_number}
 
 -- behind i bytes, in a text of which s is left
-abbrev pub Passed : ℕ → List ℕ → Blank → Type 0
-Passed i s (Clear j) = (i ≤ j) × (j ≤ i + length s)
-Passed i s (Ill number j) = ((i ≤ j) × (j ≤ i + length s)) × ((utf8_bad_encoding ≤ number) × (number ≤ utf8_too_large))
+abbrev pub Passed : ℕ → List ℕ → Result ℕ Refused → Type 0
+Passed i s (Ok j) = (i ≤ j) × (j ≤ i + length s)
+Passed i s (Err f) = ((i ≤ f.place) × (f.place ≤ i + length s)) × FromTo utf8_bad_encoding utf8_too_large f.refusal
 
 abbrev Within : List ℕ → Passing → Type 0
 Within s (pass o n) = (0 < n) × (n ≤ length s)
 Within s token = Unit
-Within s (fault number) = (utf8_bad_encoding ≤ number) × (number ≤ utf8_too_large)
+Within s (fault refusal) = FromTo utf8_bad_encoding utf8_too_large refusal
 
-bad_number_lem : (s : List ℕ) (number : ℕ) → char_at s ≡ Bad number → (utf8_bad_encoding ≤ number) × (number ≤ utf8_too_large)
-bad_number_lem s number e = go (char_len s) refl e
+bad_refusal : (s : List ℕ) (refusal : Refusal) → char_at s ≡ Err refusal → FromTo utf8_bad_encoding utf8_too_large refusal
+bad_refusal s refusal e = go (char_len s) refl e
   where
-    go : (n : ℕ) → char_len s ≡ n → char_by n s ≡ Bad number → (utf8_bad_encoding ≤ number) × (number ≤ utf8_too_large)
-    go zero l e = let z : char_fault s ≡ number = cc in omega (arith, fault_number_lem s l)
+    go : (n : ℕ) → char_len s ≡ n → char_by n s ≡ Err refusal → FromTo utf8_bad_encoding utf8_too_large refusal
+    go zero l e =
+        let (why, (f, r)) = fault_told s l in
+        let z : ◌≡◌ {A = Result ℕ Refusal} (Err why) (Err refusal) = rw f at e in
+        let q : why ≡ refusal = cc in
+        subst (FromTo utf8_bad_encoding utf8_too_large) q r
     go (suc n) l e = never cc
 
-comment_within : (s : List ℕ) (c : Char) → char_at s ≡ c → Within s (in_comment c)
-comment_within s (Good n) e = good_len s n e
-comment_within s (Bad number) e = bad_number_lem s number e
+comment_within : (s : List ℕ) (c : Result ℕ Refusal) → char_at s ≡ c → Within s (in_comment c)
+comment_within s (Ok n) e = good_len s n e
+comment_within s (Err refusal) e = bad_refusal s refusal e
 
 passing_within : (o : Bool) (x : ℕ) (r : List ℕ) → Within (x ∷ r) (passing o x (char_at (x ∷ r)))
 unfolding passing pick
@@ -59,9 +61,9 @@ passing_within false x r =
     split (is_space x) (λ e. rw e (omega arith, omega arith))
     (λ e. split (eqb x 0x23) (λ d. rw (e, d) (omega arith, omega arith)) (λ d. rw (e, d) tt))
 
-passed_more : (i n : ℕ) (s u : List ℕ) (b : Blank) → n + length u ≤ length s → Passed (i + n) u b → Passed i s b
-passed_more i n s u (Clear j) h p = omega arith
-passed_more i n s u (Ill number j) h p = (omega (arith, p.0), p.1)
+passed_more : (i n : ℕ) (s u : List ℕ) (b : Result ℕ Refused) → n + length u ≤ length s → Passed (i + n) u b → Passed i s b
+passed_more i n s u (Ok j) h p = omega arith
+passed_more i n s u (Err f) h p = (omega (arith, p.0), p.1)
 
 abbrev AllPassed : List ℕ → Type 0
 AllPassed s = (o : Bool) (i : ℕ) → Passed i s (blanks_from o i 0 s)
@@ -75,7 +77,7 @@ passed_one x r ih o i = go (passing o x (char_at (x ∷ r))) (passing_within o x
         rw (blanks_skip c (i + n) (pred n) r)
         (passed_more i n (x ∷ r) (drop (pred n) r) (blanks_from c (i + n) 0 (drop (pred n) r)) (omega (arith, length-drop (pred n) r)) (ih (pred n) c (i + n)))
     go token h = (omega arith, omega arith)
-    go (fault number) h = (omega arith, h)
+    go (fault refusal) h = (omega arith, h)
 
 pub blanks_passed : (s : List ℕ) → Passed 0 s (blanks s)
 unfolding blanks_from
@@ -114,9 +116,9 @@ start_begun (x ∷ r) =
     (λ f. split (eqb x 0x7b) (λ g. rw (a, b, d, e, f, g) (omega arith)) (λ g. rw (a, b, d, e, f, g) tt))))))
 
 -- a legal number is its token
-abbrev pub Sized : List ℕ → Number → Type 0
-Sized s (Legal kind len) = (len ≡ length (number_token s)) × (len ≤ length s)
-Sized s Malformed = Unit
+abbrev pub Sized : List ℕ → Option Number → Type 0
+Sized s (Some v) = (v.len ≡ length (number_token s)) × (v.len ≤ length s)
+Sized s None = Unit
 
 pub number_sized : (s : List ℕ) → Sized s (number_at s)
 unfolding number_at number_from

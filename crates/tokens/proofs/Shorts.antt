@@ -7,17 +7,16 @@ use mathlib.Core.List.{List, [], ◌∷◌}
 use Prim.Native.Nat.{ℕ, zero, suc, ◌+◌, ◌-◌, ◌≤◌, ◌<◌}
 use native.Mathlib.Omega.{arith}
 use native.Mathlib.Nat.{add-zero}
-use borrow.Author.Tests.{ltb-false, ltb-true, le-leb}
-use lib.Dec.{ltb}
+use borrow.Author.Tests.{ltb-false, ltb-true, leb-true, le-ltb, le-leb}
+use lib.Dec.{ltb, leb}
 use lib.ListN.{length, get_or, drop}
 use lib.Seq.{get_or-drop}
 use Rattle.prelude.specs.Pick.{pick}
-use Rattle.prelude.proofs.Cases.{split, never}
+use Rattle.prelude.proofs.Cases.{split, and_left, and_right, never}
 use Rattle.notation.specs.Marks.{opening}
 use Rattle.eights.specs.inner.Words.{is_other, First}
-use Rattle.tokens.specs.declared.numbers.Number.TheVariants.{Legal}
 use Rattle.tokens.specs.Words.{is_letter, is_digit, is_word, run_of, same_bytes, word_value}
-use Rattle.tokens.specs.Numbers.{is_e, is_sign, is_number, behind_int, int, number_from, number_at}
+use Rattle.tokens.specs.Numbers.{is_e, is_sign, is_number, behind_int, int, found, number_from, number_at}
 use Rattle.tokens.specs.Starts.{start_of}
 use Rattle.tokens.specs.inner.Parts.{Leads, Spelt, name_kind, Named}
 use Rattle.tokens.proofs.Runs.{run_none, one_more, stopped, ended}
@@ -68,6 +67,10 @@ digit b e =
     (λ q. never (let z : true ≡ false = rw q at e in cc))
     (λ q. let z : ltb 0x39 b ≡ false = rw q at e in rw (le-leb 0x30 b (ltb-false b 0x30 q), le-leb b 0x39 (ltb-false 0x39 b z)))
 
+no_other : (b : ℕ) → is_digit b ≡ true → is_other b ≡ false
+unfolding is_other pick
+no_other b e = rw (le-ltb b 0x30 (leb-true 0x30 b (and_left (leb 0x30 b) _ e)), le-ltb 0x39 b (leb-true b 0x39 (and_right (leb 0x30 b) _ e)))
+
 no_digit : (y : ℕ) → is_number y ≡ false → is_digit y ≡ false
 no_digit y e = split (is_digit y) (λ q. never (let z : true ≡ false = sym (digit_number y q) ∙ e in cc)) (λ q. q)
 
@@ -93,20 +96,20 @@ module _ (s : List ℕ) (from x k : ℕ) (ex : x ≡ get_or (drop from s) 0 0) (
   at_end_lem =
       ey ∙ get_or-drop from s k 0 ∙ (let q : from + k ≡ from + k + 0 = omega arith in ap (λ (j : ℕ). get_or s j 0) q) ∙ sym (get_or-drop (from + k) s 0 0)
 
-  ends_here : Legal 3 (from + k) ≡ number_from behind_int (from + k) (drop (from + k) s)
+  ends_here : found 3 (from + k) ≡ number_from behind_int (from + k) (drop (from + k) s)
   ends_here = int_end s (from + k) y _ at_end_lem (no_point y e) (no_e y e) (whole s (from + k) y at_end_lem 3 (omega arith) e)
 
   no_minus_here : x ≡ 0x2d → ⊥
   no_minus_here q = never (let z : true ≡ false = sym d ∙ ap is_digit q in cc)
 
-  told : Leads int behind_int s from (from + k) → Legal 3 k ≡ number_at (drop from s)
+  told : Leads int behind_int s from (from + k) → found 3 k ≡ number_at (drop from s)
   told l =
       let q : from + k - from ≡ k = omega arith in
-      subst (λ (j : ℕ). Legal 3 j ≡ number_at (drop from s)) q
+      subst (λ (j : ℕ). found 3 j ≡ number_at (drop from s)) q
       (legal_at s from 3 (from + k) _ (no_minus s from x _ ex no_minus_here (ends_here ∙ l.same)) refl)
 
-  pub zero_told : x ≡ 0x30 → k ≡ 1 → Legal 3 k ≡ number_at (drop from s)
-  zero_told z q = told (subst (λ (j : ℕ). Leads int behind_int s from (from + j)) (sym q) (zero_leads s from x ex z))
+  pub zero_told : x ≡ 0x30 → k ≡ 1 → (0 < k) × (found 3 k ≡ number_at (drop from s))
+  zero_told z q = (omega arith, told (subst (λ (j : ℕ). Leads int behind_int s from (from + j)) (sym q) (zero_leads s from x ex z)))
 
   run : 0 < k → from + k ≡ from + 1 + length (run_of is_digit (drop (from + 1) s))
   run p =
@@ -120,5 +123,16 @@ module _ (s : List ℕ) (from x k : ℕ) (ex : x ≡ get_or (drop from s) 0 0) (
       (λ t. stopped is_digit s (from + 1) (from + k) r (ltb-true _ _ t) (ap is_digit (sym (get_or-drop from s k 0) ∙ sym ey) ∙ no_digit y e))
       (λ t. ended is_digit s (from + 1) (from + k) r (ltb-false _ _ t))
 
-  pub digits_told : (x ≡ 0x30 → ⊥) → 0 < k → Legal 3 k ≡ number_at (drop from s)
-  digits_told z p = told (digits_lead s from x ex z d (from + k) (run p))
+  -- the first byte is a digit
+  some : 0 < k
+  some = go k refl
+    where
+      go : (n : ℕ) → k ≡ n → 0 < k
+      go zero e =
+          let o : is_other (get_or s (from + k) 0) ≡ false =
+          ap (λ (j : ℕ). is_other (get_or s (from + j) 0)) e ∙ ap is_other (sym (get_or-drop from s 0 0) ∙ sym ex) ∙ no_other x d in
+          never (let z : true ≡ false = sym (g.stop (omega arith)) ∙ o in cc)
+      go (suc n) e = omega arith
+
+  pub digits_told : (x ≡ 0x30 → ⊥) → (0 < k) × (found 3 k ≡ number_at (drop from s))
+  digits_told z = (some, told (digits_lead s from x ex z d (from + k) (run some)))

@@ -9,14 +9,16 @@ use native.Mathlib.Omega.{arith}
 use borrow.Author.Tests.{ne_eqb}
 use lib.ListN.{length, get_or, drop, length-drop, drop_of_length-le}
 use lib.Seq.{drop-cons, drop-drop}
+use Rattle.std.specs.Prelude.{Result, Ok, Err}
+use Rattle.prelude.specs.declared.refusals.Refusal.{Refusal}
 use Rattle.prelude.specs.Pick.{pick}
+use Rattle.prelude.specs.Refusals.{refused_at}
 use Rattle.prelude.proofs.Cases.{never}
-use Rattle.utf8.specs.declared.chars.Char.TheVariants.{Good, Bad}
 use Rattle.utf8.specs.Class.{class_of}
 use Rattle.utf8.specs.Utf8.{char_len, char_by, char_at}
 use Rattle.utf8.proofs.CharSteps.{is_one}
 use Rattle.utf8.proofs.Characters.{char_le}
-use Rattle.tokens.specs.declared.blanks.Blank.TheVariants.{Clear, Ill}
+use Rattle.utf8.proofs.Faults.{fault_told}
 use Rattle.tokens.specs.Blanks.{is_space, pass, token, fault, passing, blanks_from, blanks}
 
 pub blanks_skip : (o : Bool) (i k : ℕ) (s : List ℕ) → blanks_from o i k s ≡ blanks_from o i 0 (drop k s)
@@ -33,25 +35,27 @@ step_pass o b i n [] l h e = absurd (omega arith)
 step_pass o b i zero (x ∷ r) l h e = absurd (omega arith)
 step_pass o b i (suc k) (x ∷ r) l h e = rw e (blanks_skip b (i + suc k) k r)
 
-step_token : (o : Bool) (i : ℕ) (s : List ℕ) → 0 < length s → passing o (get_or s 0 0) (char_at s) ≡ token → blanks_from o i 0 s ≡ Clear i
+step_token : (o : Bool) (i : ℕ) (s : List ℕ) → 0 < length s → passing o (get_or s 0 0) (char_at s) ≡ token → blanks_from o i 0 s ≡ Ok i
 unfolding blanks_from
 step_token o i [] l e = refl
 step_token o i (x ∷ r) l e = rw e
 
-step_fault : (o : Bool) (i number : ℕ) (s : List ℕ) → 0 < length s → passing o (get_or s 0 0) (char_at s) ≡ fault number → blanks_from o i 0 s ≡ Ill number i
+step_fault : (o : Bool) (i : ℕ) (refusal : Refusal) (s : List ℕ) → 0 < length s → passing o (get_or s 0 0) (char_at s) ≡ fault refusal → blanks_from o i 0 s ≡ Err (refused_at refusal i)
 unfolding blanks_from
-step_fault o i number [] l e = absurd (omega arith)
-step_fault o i number (x ∷ r) l e = rw e
+step_fault o i refusal [] l e = absurd (omega arith)
+step_fault o i refusal (x ∷ r) l e = rw e
 
 -- a character that stands has a length, and stands inside
-pub good_len : (s : List ℕ) (n : ℕ) → char_at s ≡ Good n → (0 < n) × (n ≤ length s)
-good_len s n e = go (char_len s) e (char_le s)
+pub good_len : (s : List ℕ) (n : ℕ) → char_at s ≡ Ok n → (0 < n) × (n ≤ length s)
+good_len s n e = go (char_len s) refl e (char_le s)
   where
-    go : (k : ℕ) → char_by k s ≡ Good n → k ≤ length s → (0 < n) × (n ≤ length s)
-    go zero e h = never cc
-    go (suc k) e h = let q : suc k ≡ n = cc in (omega arith, omega arith)
+    go : (k : ℕ) → char_len s ≡ k → char_by k s ≡ Ok n → k ≤ length s → (0 < n) × (n ≤ length s)
+    go zero l e h =
+        let (why, (f, r)) = fault_told s l in
+        let z : ◌≡◌ {A = Result ℕ Refusal} (Err why) (Ok n) = rw f at e in never cc
+    go (suc k) l e h = let q : suc k ≡ n = cc in (omega arith, omega arith)
 
-pub comment_further : (s : List ℕ) (at n : ℕ) → char_at (drop at s) ≡ Good n → 0 < n
+pub comment_further : (s : List ℕ) (at n : ℕ) → char_at (drop at s) ≡ Ok n → 0 < n
 comment_further s at n e = (good_len (drop at s) n e).0
 
 -- the loop's invariant
@@ -64,7 +68,7 @@ pub begun : (s : List ℕ) (from : ℕ) → from ≤ length s → Skipping s fro
 begun s from h = record { onward = omega arith; inside = h; same = ap (λ (n : ℕ). blanks_from false n 0 (drop from s)) (let z : 0 ≡ from - from = omega arith in z) }
 
 module _ (s : List ℕ) (from at : ℕ) (o : Bool) (i : Skipping s from at o) where
-  pub ended : length s ≤ at → Clear (at - from) ≡ blanks (drop from s)
+  pub ended : length s ≤ at → Ok (at - from) ≡ blanks (drop from s)
   unfolding blanks_from
   ended h = sym (i.same ∙ ap (blanks_from o (at - from) 0) (drop_of_length-le s h))
 
@@ -89,7 +93,7 @@ module _ (s : List ℕ) (from at : ℕ) (o : Bool) (i : Skipping s from at o) wh
       unfolding passing pick
       comment_end e = moved false 1 (omega arith) (omega arith) (rw (inside, e))
 
-      pub comment_char : (get_or s at 0 ≡ 10 → ⊥) → (n : ℕ) → char_at (drop at s) ≡ Good n → Skipping s from (at + n) o
+      pub comment_char : (get_or s at 0 ≡ 10 → ⊥) → (n : ℕ) → char_at (drop at s) ≡ Ok n → Skipping s from (at + n) o
       unfolding passing pick
       comment_char ne n e =
           let g : (0 < n) × (n ≤ length (drop at s)) = good_len (drop at s) n e in
@@ -98,10 +102,10 @@ module _ (s : List ℕ) (from at : ℕ) (o : Bool) (i : Skipping s from at o) wh
       pub comment_plain : (get_or s at 0 ≡ 10 → ⊥) → (k : ℕ) → k ≡ class_of (get_or s at 0) → k ≡ 0 → Skipping s from (at + 1) o
       comment_plain ne k ek z = comment_char ne 1 (sym (is_one s at k h ek (omega arith)))
 
-      pub comment_ill : (get_or s at 0 ≡ 10 → ⊥) → (number : ℕ) → char_at (drop at s) ≡ Bad number → Ill number (at - from) ≡ blanks (drop from s)
+      pub comment_ill : (get_or s at 0 ≡ 10 → ⊥) → (refusal : Refusal) → char_at (drop at s) ≡ Err refusal → Err (refused_at refusal (at - from)) ≡ blanks (drop from s)
       unfolding passing pick
-      comment_ill ne number e =
-          sym (i.same ∙ step_fault o (at - from) number (drop at s) some (rw (first, inside, e, ne_eqb (get_or s at 0) 10 ne)))
+      comment_ill ne refusal e =
+          sym (i.same ∙ step_fault o (at - from) refusal (drop at s) some (rw (first, inside, e, ne_eqb (get_or s at 0) 10 ne)))
 
     module _ (outside : o ≡ false) where
       pub space_on : is_space (get_or s at 0) ≡ true → Skipping s from (at + 1) o
@@ -113,6 +117,6 @@ module _ (s : List ℕ) (from at : ℕ) (o : Bool) (i : Skipping s from at o) wh
         unfolding passing pick
         mark_on e = moved true 1 (omega arith) (omega arith) (rw (outside, no_space, e))
 
-        pub token_here : (get_or s at 0 ≡ 35 → ⊥) → Clear (at - from) ≡ blanks (drop from s)
+        pub token_here : (get_or s at 0 ≡ 35 → ⊥) → Ok (at - from) ≡ blanks (drop from s)
         unfolding passing pick
         token_here ne = sym (i.same ∙ step_token o (at - from) (drop at s) some (rw (first, outside, no_space, ne_eqb (get_or s at 0) 35 ne)))

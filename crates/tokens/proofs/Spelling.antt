@@ -10,8 +10,8 @@ use borrow.Author.Tests.{eq-eqb, ne_eqb}
 use lib.Dec.{eqb}
 use lib.ListN.{length, get_or, drop, drop_of_length-le}
 use lib.Seq.{drop-cons}
+use Rattle.std.specs.Prelude.{Some, None}
 use Rattle.prelude.specs.Pick.{pick}
-use Rattle.tokens.specs.declared.words.Word.TheVariants.{Value, Other}
 use Rattle.tokens.specs.Words.{same_bytes, null_word, false_word, true_word, word_value}
 
 pub other_length : (a b : List ℕ) → (length a ≡ length b → ⊥) → false ≡ same_bytes a b
@@ -42,20 +42,20 @@ all_same a b i long h same = let l : length b ≤ i = omega arith in sym (same �
 
 -- the word's value, by the words that it was compared with
 module _ (w : List ℕ) (a : Bool) (ea : a ≡ same_bytes w null_word) where
-  pub is_null : a ≡ true → Value 0 ≡ word_value w
+  pub is_null : a ≡ true → Some 0 ≡ word_value w
   unfolding word_value pick
   is_null t = rw (sym ea, t)
 
   module _ (b : Bool) (eb : b ≡ same_bytes w false_word) (fa : a ≡ false) where
-    pub is_false : b ≡ true → Value 1 ≡ word_value w
+    pub is_false : b ≡ true → Some 1 ≡ word_value w
     unfolding word_value pick
     is_false t = rw (sym ea, fa, sym eb, t)
 
     module _ (d : Bool) (ed : d ≡ same_bytes w true_word) (fb : b ≡ false) where
-      pub is_true : d ≡ true → Value 2 ≡ word_value w
+      pub is_true : d ≡ true → Some 2 ≡ word_value w
       unfolding word_value pick
       is_true t = rw (sym ea, fa, sym eb, fb, sym ed, t)
 
-      pub is_other_lem : d ≡ false → Other ≡ word_value w
+      pub is_other_lem : d ≡ false → None ≡ word_value w
       unfolding word_value pick
       is_other_lem t = rw (sym ea, fa, sym eb, fb, sym ed, t)

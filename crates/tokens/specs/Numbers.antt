@@ -2,10 +2,9 @@
 -- The grammar is that of RFC 8259, section 6, a line of it quoted at each definition; each is given the rest of the token and answers
 -- the number's kind, "3 number with no `.`, `e`, `E`, 4 other number", or 0 where the rest doesn't match.
 -- Assumes nothing.
-use Rattle.std.specs.Prelude.{ℕ, zero, suc, ◌+◌, Bool, true, List, [], ◌∷◌, eqb, length}
+use Rattle.std.specs.Prelude.{ℕ, zero, suc, ◌+◌, Bool, true, Option, Some, None, List, [], ◌∷◌, eqb, length}
 use Rattle.prelude.specs.Pick.{pick}
 use Rattle.tokens.specs.declared.numbers.Number.{Number}
-use Rattle.tokens.specs.declared.numbers.Number.TheVariants.{Legal, Malformed}
 use Rattle.tokens.specs.Words.{is_digit, run_of}
 
 -- "decimal-point = %x2E", "minus = %x2D", "plus = %x2B", "zero = %x30"
@@ -81,10 +80,19 @@ number_kind (x ∷ r) = pick (eqb x minus) (int r) (int (x ∷ r))
 abbrev pub number_token : List ℕ → List ℕ
 number_token s = run_of is_number s
 
--- the kind of a token of so many bytes
-abbrev pub legal : ℕ → ℕ → Number
-legal zero n = Malformed
-legal (suc k) n = Legal (suc k) n
+-- the kind, if it is one
+abbrev pub kind_told : ℕ → Option ℕ
+kind_told zero = None
+kind_told (suc k) = Some (suc k)
+
+-- a number of this kind and length
+abbrev pub found : ℕ → ℕ → Option Number
+found kind len = Some (record { kind = kind; len = len })
+
+-- a token of so many bytes, by the kind that the grammar answers
+abbrev pub legal : ℕ → ℕ → Option Number
+legal zero n = None
+legal (suc k) n = found (suc k) n
 
 -- nothing more of a number of this kind
 abbrev pub ends : ℕ → List ℕ → ℕ
@@ -92,9 +100,9 @@ ends kind [] = kind
 ends kind (x ∷ r) = 0
 
 -- what a part of the grammar answers of the token's rest, behind n bytes
-unfoldable pub number_from : (List ℕ → ℕ) → ℕ → List ℕ → Number
+unfoldable pub number_from : (List ℕ → ℕ) → ℕ → List ℕ → Option Number
 number_from part n s = legal (part (number_token s)) (n + length (number_token s))
 
--- the kind and the length of the number token that a text begins with
-unfoldable pub number_at : List ℕ → Number
+-- the kind and the length of the number token that a text begins with, if it is legal
+unfoldable pub number_at : List ℕ → Option Number
 number_at s = number_from number_kind 0 s

@@ -2,6 +2,7 @@
 -- Assumes nothing.
 use Rattle.std.specs.Prelude.{ℕ, Bool, true, false, List, [], ◌∷◌, eqb}
 use Rattle.prelude.specs.Pick.{pick}
+use Rattle.prelude.specs.declared.refusals.Refusal.{Refusal}
 use Rattle.prelude.specs.Refusals.{cut_off, misplaced}
 use Rattle.notation.specs.Marks.{Opening, opens, unopened, opening}
 use Rattle.tokens.specs.declared.starts.Start.{Start}
@@ -45,11 +46,11 @@ start_of (x ∷ r) =
     (pick (eqb x begin_array) ListStart
     (pick (eqb x begin_object) Dict Nothing)))))
 
--- what stands behind a key or a member: the closing bracket, a separator, or neither, with the refusal's number
+-- what stands behind a key or a member: the closing bracket, a separator, or neither, with the refusal
 pub data Behind : Type 0 where
   closes : Behind
   separates : Behind
-  lacks : ℕ → Behind
+  lacks : Refusal → Behind
 
 -- the colon behind a key
 unfoldable pub colon_at : List ℕ → Behind

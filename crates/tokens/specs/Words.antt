@@ -1,11 +1,9 @@
 -- Words: "A word is the longest run of letters, digits and `_` starting with a letter or `_`".
 -- Assumes nothing.
-use Rattle.std.specs.Prelude.{ℕ, Bool, true, false, ◌&&◌, List, [], ◌∷◌, eqb}
+use Rattle.std.specs.Prelude.{ℕ, Bool, true, false, ◌&&◌, Option, Some, None, List, [], ◌∷◌, eqb}
 use Rattle.prelude.specs.Bytes.{ascii}
 use Rattle.prelude.specs.Pick.{pick}
 use Rattle.utf8.specs.Utf8.{between}
-use Rattle.tokens.specs.declared.words.Word.{Word}
-use Rattle.tokens.specs.declared.words.Word.TheVariants.{Value, Other}
 
 -- `[a-zA-Z_]`
 unfoldable pub is_letter : ℕ → Bool
@@ -44,5 +42,5 @@ abbrev pub true_word : List ℕ
 true_word = ascii "true"
 
 -- "As a value it must be `null`, `false` or `true`", and its kind: "0 null, 1 false, 2 true"
-unfoldable pub word_value : List ℕ → Word
-word_value w = pick (same_bytes w null_word) (Value 0) (pick (same_bytes w false_word) (Value 1) (pick (same_bytes w true_word) (Value 2) Other))
+unfoldable pub word_value : List ℕ → Option ℕ
+word_value w = pick (same_bytes w null_word) (Some 0) (pick (same_bytes w false_word) (Some 1) (pick (same_bytes w true_word) (Some 2) None))

@@ -1,17 +1,10 @@
 // Whitespace and comments.
 ghost use Rattle.std.specs.Prelude.{◌≡◌, ◌≤◌, length, drop};
-ghost use Rattle.utf8.specs.Class.{IsTable};
 ghost use Rattle.tokens.specs.Blanks.{is_space, blanks};
 
-use utf8::chars::Char;
-use utf8::{chars, classes};
-
-// So many bytes of whitespace and comments; or a refusal's number, behind so many.
-#[derive(Clone, Copy)]
-pub enum Blank {
-    Clear(usize),
-    Ill(u32, usize),
-}
+use prelude::refusals::Refused;
+use utf8::chars;
+use utf8::classes::Classes;
 
 fn is_space(x: u8) -> bool
     ensures { result ≡ is_space x }
@@ -28,9 +21,10 @@ fn is_space(x: u8) -> bool
     x == b'\t'
 }
 
-// The whitespace and the comments from a place on. Plain bytes of a comment never call.
-pub fn skip(t: &[u8; 256], s: &[u8], from: usize) -> Blank
-    requires { IsTable t.now × (from ≤ length s.now) }
+// How many bytes of whitespace and comments stand from a place on, or a refusal, its place counted from there. Plain bytes of a comment
+// never call.
+pub fn skip(t: &Classes, s: &[u8], from: usize) -> Result<usize, Refused>
+    requires { from ≤ length s.now }
     ensures { result ≡ blanks (drop from s.now) }
 {
     let mut at = from;
@@ -43,17 +37,16 @@ pub fn skip(t: &[u8; 256], s: &[u8], from: usize) -> Blank
                 at += 1;
                 continue;
             }
-            if classes::class_in(t, x) == 0 {
+            if t.class(x) == 0 {
                 at += 1;
                 continue;
             }
-            let c = chars::char_at(t, s, at);
-            match c {
-                Char::Good(n) => {
+            match chars::char_at(t, s, at) {
+                Ok(n) => {
                     at += n;
                 }
-                Char::Bad(number) => {
-                    return Blank::Ill(number, at - from);
+                Err(refusal) => {
+                    return Err(refusal.at(at - from));
                 }
             }
             continue;
@@ -63,10 +56,10 @@ pub fn skip(t: &[u8; 256], s: &[u8], from: usize) -> Blank
             continue;
         }
         if x != b'#' {
-            return Blank::Clear(at - from);
+            return Ok(at - from);
         }
         inside = true;
         at += 1;
     }
-    Blank::Clear(at - from)
+    Ok(at - from)
 }

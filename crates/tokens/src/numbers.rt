@@ -1,20 +1,20 @@
 // Number tokens by the grammar of RFC 8259, a function for each of its places. The longest run needn't be known: a text that matches
 // up to a byte that the run hasn't is the run. Where two ways meet again, the first part answers a place, so that each function has few
 // callers and is compiled into them.
-ghost use Rattle.std.specs.Prelude.{true, ◌≡◌, ◌+◌, ◌≤◌, ◌<◌, length, get_or, drop};
+ghost use Rattle.std.specs.Prelude.{true, ◌≡◌, ◌+◌, ◌≤◌, ◌<◌, length, get_or, drop, IfSome};
 ghost use Rattle.tokens.specs.Words.{is_digit, run_of};
-ghost use Rattle.tokens.specs.Numbers.{is_e, is_sign, is_number, in_exp, exp_digits, behind_e, behind_frac, in_frac, behind_point, behind_int, int, number_kind, ends, number_from, number_at};
-ghost use Rattle.tokens.specs.declared.numbers.Number.TheVariants.{Legal};
+ghost use Rattle.tokens.specs.Numbers.{is_e, is_sign, is_number, in_exp, exp_digits, behind_e, behind_frac, in_frac, behind_point, behind_int, int, number_kind, kind_told, found, ends, number_from, number_at};
 ghost use Rattle.tokens.specs.inner.Parts.{Leads};
 
 use crate::words;
 use prelude::slices;
 
-// The kind of a number token that matches the grammar whole, and its length; or one that doesn't match.
+// A number token that matches the grammar whole: its kind and its length. The functions of the grammar's places count the length from the
+// text's first byte on.
 #[derive(Clone, Copy)]
-pub enum Number {
-    Legal(u32, usize),
-    Malformed,
+pub struct Number {
+    pub kind: u32,
+    pub len: usize,
 }
 
 fn is_e(x: u8) -> bool
@@ -66,31 +66,31 @@ fn digits(s: &[u8], from: usize) -> usize
 }
 
 // The token must end here.
-fn finish(s: &[u8], at: usize, kind: u32) -> Number
+fn finish(s: &[u8], at: usize, kind: u32) -> Option<Number>
     requires { 0 < kind }
     ensures { result ≡ number_from (ends kind) at (drop at s.now) }
 {
     if is_number(slices::byte_at(s, at, 0)) {
-        return Number::Malformed;
+        return None;
     }
-    Number::Legal(kind, at)
+    Some(Number { kind, len: at })
 }
 
-fn in_exp(s: &[u8], at: usize) -> Number
+fn in_exp(s: &[u8], at: usize) -> Option<Number>
     requires { at ≤ length s.now }
     ensures { result ≡ number_from in_exp at (drop at s.now) }
 {
     finish(s, digits(s, at), 4)
 }
 
-fn exp_digits(s: &[u8], at: usize) -> Number
+fn exp_digits(s: &[u8], at: usize) -> Option<Number>
     requires { at ≤ length s.now }
     ensures { result ≡ number_from exp_digits at (drop at s.now) }
 {
     if words::is_digit(slices::byte_at(s, at, 0)) {
         return in_exp(s, at + 1);
     }
-    Number::Malformed
+    None
 }
 
 // Behind a sign, if one stands here.
@@ -104,14 +104,14 @@ fn past_sign(s: &[u8], at: usize) -> usize
     at
 }
 
-fn behind_e(s: &[u8], at: usize) -> Number
+fn behind_e(s: &[u8], at: usize) -> Option<Number>
     requires { at ≤ length s.now }
     ensures { result ≡ number_from behind_e at (drop at s.now) }
 {
     exp_digits(s, past_sign(s, at))
 }
 
-fn behind_frac(s: &[u8], at: usize) -> Number
+fn behind_frac(s: &[u8], at: usize) -> Option<Number>
     requires { at ≤ length s.now }
     ensures { result ≡ number_from behind_frac at (drop at s.now) }
 {
@@ -121,24 +121,24 @@ fn behind_frac(s: &[u8], at: usize) -> Number
     finish(s, at, 4)
 }
 
-fn in_frac(s: &[u8], at: usize) -> Number
+fn in_frac(s: &[u8], at: usize) -> Option<Number>
     requires { at ≤ length s.now }
     ensures { result ≡ number_from in_frac at (drop at s.now) }
 {
     behind_frac(s, digits(s, at))
 }
 
-fn behind_point(s: &[u8], at: usize) -> Number
+fn behind_point(s: &[u8], at: usize) -> Option<Number>
     requires { at ≤ length s.now }
     ensures { result ≡ number_from behind_point at (drop at s.now) }
 {
     if words::is_digit(slices::byte_at(s, at, 0)) {
         return in_frac(s, at + 1);
     }
-    Number::Malformed
+    None
 }
 
-fn behind_int(s: &[u8], at: usize) -> Number
+fn behind_int(s: &[u8], at: usize) -> Option<Number>
     requires { at ≤ length s.now }
     ensures { result ≡ number_from behind_int at (drop at s.now) }
 {
@@ -163,13 +163,13 @@ fn past_int(s: &[u8], at: usize, x: u8) -> usize
     digits(s, at + 1)
 }
 
-fn unsigned(s: &[u8], at: usize) -> Number
+fn unsigned(s: &[u8], at: usize) -> Option<Number>
     requires { at ≤ length s.now }
     ensures { result ≡ number_from int at (drop at s.now) }
 {
     let x = slices::byte_at(s, at, 0);
     if !words::is_digit(x) {
-        return Number::Malformed;
+        return None;
     }
     behind_int(s, past_int(s, at, x))
 }
@@ -185,7 +185,7 @@ fn past_minus(s: &[u8], at: usize) -> usize
     at
 }
 
-fn signed(s: &[u8], at: usize) -> Number
+fn signed(s: &[u8], at: usize) -> Option<Number>
     requires { at ≤ length s.now }
     ensures { result ≡ number_from number_kind at (drop at s.now) }
 {
@@ -193,48 +193,44 @@ fn signed(s: &[u8], at: usize) -> Number
 }
 
 // The number token at a place.
-pub fn number_at(s: &[u8], from: usize) -> Number
+pub fn number_at(s: &[u8], from: usize) -> Option<Number>
     requires { from ≤ length s.now }
     ensures { result ≡ number_at (drop from s.now) }
 {
-    let found = signed(s, from);
-    match found {
-        Number::Legal(kind, end) => Number::Legal(kind, end - from),
-        Number::Malformed => Number::Malformed,
-    }
+    let found = signed(s, from)?;
+    Some(Number {
+        kind: found.kind,
+        len: found.len - from,
+    })
 }
 
-// The length of a number at a place that is up to seven digits and begins with the digit x; 0 where another stands.
-pub fn short(s: &[u8], from: usize, x: u8) -> usize
+// The length of a number at a place that is up to seven digits and begins with the digit x; none where another stands.
+pub fn short(s: &[u8], from: usize, x: u8) -> Option<usize>
     requires { (from ≤ length s.now) × (x ≡ get_or (drop from s.now) 0 0) × (is_digit x ≡ true) }
-    ensures { 0 < result → Legal 3 result ≡ number_at (drop from s.now) }
+    ensures { IfSome result (λ n. (0 < n) × (found 3 n ≡ number_at (drop from s.now))) }
 {
     if s.len() - from < 8 {
-        return 0;
+        return None;
     }
     let k = eights::place(eights::others(eights::eight(s, from)));
     if is_number(slices::byte_at(s, from, k)) {
-        return 0;
+        return None;
     }
     if x == b'0' {
         if k != 1 {
-            return 0;
+            return None;
         }
     }
-    k
+    Some(k)
 }
 
-// The kind of the number that a text is, all of it; 0 where it is none.
-pub fn kind_of(s: &[u8]) -> u32
-    ensures { result ≡ number_kind s.now }
+// The kind of the number that a text is, all of it; none where it is none.
+pub fn kind_of(s: &[u8]) -> Option<u32>
+    ensures { result ≡ kind_told (number_kind s.now) }
 {
-    match number_at(s, 0) {
-        Number::Legal(k, n) => {
-            if n != s.len() {
-                return 0;
-            }
-            k
-        }
-        Number::Malformed => 0,
+    let found = number_at(s, 0)?;
+    if found.len != s.len() {
+        return None;
     }
+    Some(found.kind)
 }

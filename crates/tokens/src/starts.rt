@@ -23,10 +23,9 @@ fn opens(s: &[u8], at: usize) -> bool
     requires { at ≤ length s.now }
     ensures { result ≡ is_opening (opening (drop at s.now)) }
 {
-    let mark = marks::mark_at(&s[at..]);
-    match mark {
-        marks::Mark::Opens(_, _) => true,
-        marks::Mark::Unopened => false,
+    match marks::mark_at(&s[at..]) {
+        Some(_) => true,
+        None => false,
     }
 }
 

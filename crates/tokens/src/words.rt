@@ -1,17 +1,10 @@
 // Words, and the values that they name.
-ghost use Rattle.std.specs.Prelude.{true, ◌≡◌, ◌<◌, ◌≤◌, length, get_or, drop};
+ghost use Rattle.std.specs.Prelude.{true, ◌≡◌, ◌<◌, ◌≤◌, length, get_or, drop, IfSome};
 ghost use Rattle.tokens.specs.Words.{is_letter, is_digit, is_word, run_of, word_of, same_bytes, word_value};
 ghost use Rattle.tokens.specs.inner.Parts.{Spelt, Named};
 
 use prelude::slices;
 use utf8::chars;
-
-// The kind of the value that a word names; or a word that names none.
-#[derive(Clone, Copy)]
-pub enum Word {
-    Value(u32),
-    Other,
-}
 
 pub(crate) fn is_letter(x: u8) -> bool
     ensures { result ≡ is_letter x }
@@ -72,23 +65,23 @@ pub fn same(a: &[u8], b: &[u8]) -> bool
     true
 }
 
-// The value that a word names.
-pub fn value_of(word: &[u8]) -> Word
+// The kind of the value that a word names, if it names one.
+pub fn value_of(word: &[u8]) -> Option<u32>
     ensures { result ≡ word_value word.now }
 {
     let null = [b'n', b'u', b'l', b'l'];
     if same(word, &null) {
-        return Word::Value(0);
+        return Some(0);
     }
     let no = [b'f', b'a', b'l', b's', b'e'];
     if same(word, &no) {
-        return Word::Value(1);
+        return Some(1);
     }
     let yes = [b't', b'r', b'u', b'e'];
     if same(word, &yes) {
-        return Word::Value(2);
+        return Some(2);
     }
-    Word::Other
+    None
 }
 
 // Whether these three bytes stand k bytes behind a place, and a word ends with them.
@@ -108,29 +101,29 @@ fn spells(s: &[u8], at: usize, k: usize, a: u8, b: u8, c: u8) -> bool
     !is_word(slices::byte_at(s, at, k + 3))
 }
 
-// The length of the word at a place, which begins with the byte x, where it names a value; 0 where it doesn't.
-pub fn name_len(s: &[u8], at: usize, x: u8) -> usize
+// The length of the word at a place, which begins with the byte x, where it names a value.
+pub fn name_len(s: &[u8], at: usize, x: u8) -> Option<usize>
     requires { x ≡ get_or (drop at s.now) 0 0 }
-    ensures { 0 < result → Named (drop at s.now) x result }
+    ensures { IfSome result (λ n. (0 < n) × Named (drop at s.now) x n) }
 {
     if x == b't' {
         if spells(s, at, 1, b'r', b'u', b'e') {
-            return 4;
+            return Some(4);
         }
-        return 0;
+        return None;
     }
     if x == b'n' {
         if spells(s, at, 1, b'u', b'l', b'l') {
-            return 4;
+            return Some(4);
         }
-        return 0;
+        return None;
     }
     if x == b'f' {
         if slices::byte_at(s, at, 1) == b'a' {
             if spells(s, at, 2, b'l', b's', b'e') {
-                return 5;
+                return Some(5);
             }
         }
     }
-    0
+    None
 }

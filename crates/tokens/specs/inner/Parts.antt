@@ -1,8 +1,7 @@
 -- What the code's readers of tokens promise each other: these speak of the code alone, and no rule cites them.
 -- Assumes nothing.
-use Rattle.std.specs.Prelude.{ℕ, ◌+◌, ◌≤◌, false, List, ◌≡◌, eqb, length, get_or, drop}
+use Rattle.std.specs.Prelude.{ℕ, ◌+◌, ◌≤◌, false, Some, List, ◌≡◌, eqb, length, get_or, drop}
 use Rattle.prelude.specs.Pick.{pick}
-use Rattle.tokens.specs.declared.words.Word.TheVariants.{Value}
 use Rattle.tokens.specs.declared.starts.Start.TheVariants.{Word as WordStart}
 use Rattle.tokens.specs.Words.{is_word, word_of, word_value}
 use Rattle.tokens.specs.Starts.{start_of}
@@ -26,6 +25,6 @@ name_kind x = pick (eqb x 0x74) 2 (pick (eqb x 0x66) 1 0)
 
 -- a word of so many bytes that begins with a byte and names a value
 pub record Named (s : List ℕ) (x len : ℕ) : Type 0 where
-  pub value : word_value (word_of s) ≡ Value (name_kind x)
+  pub value : word_value (word_of s) ≡ Some (name_kind x)
   pub long : length (word_of s) ≡ len
   pub start : start_of s ≡ WordStart

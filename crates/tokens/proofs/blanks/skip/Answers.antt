@@ -1,11 +1,10 @@
 use mathlib.Core.Path.{sym, ◌∙◌}
-use Prim.Native.Nat.{◌-◌}
 use native.Mathlib.Omega.{arith}
 use Rattle.tokens.proofs.Skipping.{begun, ended, comment_end, comment_char, comment_plain, comment_ill, comment_further, space_on, mark_on, token_here}
 use Rattle.tokens.proofs.blanks.skip.Goals as goal
 
 pub loop-at-init : goal.loop-at-init
-loop-at-init c = begun _ _ c.requires.1
+loop-at-init c = begun _ _ c.requires
 
 pub bounds-s-at : goal.bounds-s-at
 bounds-s-at c = omega arith
@@ -19,37 +18,31 @@ loop-at-smaller-then-x-eq10 c = omega arith
 pub loop-at-preserved-then-x-eq10 : goal.loop-at-preserved-then-x-eq10
 loop-at-preserved-then-x-eq10 c = comment_end _ _ _ _ c.loop-at.invariant (omega arith) c.if-inside.true c.if-x-eq10.true
 
-pub class_in-requires : goal.class_in-requires
-class_in-requires c = c.requires.0
+pub overflow_add-at-then-class-eq0 : goal.overflow_add-at-then-class-eq0
+overflow_add-at-then-class-eq0 c = omega arith
 
-pub overflow_add-at-then-class_in-eq0 : goal.overflow_add-at-then-class_in-eq0
-overflow_add-at-then-class_in-eq0 c = omega arith
+pub loop-at-smaller-then-class-eq0 : goal.loop-at-smaller-then-class-eq0
+loop-at-smaller-then-class-eq0 c = omega arith
 
-pub loop-at-smaller-then-class_in-eq0 : goal.loop-at-smaller-then-class_in-eq0
-loop-at-smaller-then-class_in-eq0 c = omega arith
+pub loop-at-preserved-then-class-eq0 : goal.loop-at-preserved-then-class-eq0
+loop-at-preserved-then-class-eq0 c = comment_plain _ _ _ _ c.loop-at.invariant (omega arith) c.if-inside.true c.if-x-eq10.false _ c.class.ensures c.if-class-eq0.true
 
-pub loop-at-preserved-then-class_in-eq0 : goal.loop-at-preserved-then-class_in-eq0
-loop-at-preserved-then-class_in-eq0 c = comment_plain _ _ _ _ c.loop-at.invariant (omega arith) c.if-inside.true c.if-x-eq10.false _ c.class_in.ensures c.if-class_in-eq0.true
-
-pub char_at-c-requires : goal.char_at-c-requires
-char_at-c-requires c = c.requires.0
-
-pub overflow_add-at-in-Good : goal.overflow_add-at-in-Good
-overflow_add-at-in-Good c =
-    let g = comment_char _ _ _ _ c.loop-at.invariant (omega arith) c.if-inside.true c.if-x-eq10.false _ (sym c.char_at-c.ensures ∙ c.in-Good.is) in record { fits = omega (arith, g.inside) }
+pub overflow_add-at-in-Ok : goal.overflow_add-at-in-Ok
+overflow_add-at-in-Ok c =
+    let g = comment_char _ _ _ _ c.loop-at.invariant (omega arith) c.if-inside.true c.if-x-eq10.false _ (sym c.char_at.ensures ∙ c.in-Ok.is) in record { fits = omega (arith, g.inside) }
 
 pub overflow_sub-result : goal.overflow_sub-result
 overflow_sub-result c = omega (arith, c.loop-at.invariant.onward)
 
-pub returns-in-Bad : goal.returns-in-Bad
-returns-in-Bad c = comment_ill _ _ _ _ c.loop-at.invariant (omega arith) c.if-inside.true c.if-x-eq10.false _ (sym c.char_at-c.ensures ∙ c.in-Bad.is)
+pub returns-in-Err : goal.returns-in-Err
+returns-in-Err c = rw c.at.ensures (comment_ill _ _ _ _ c.loop-at.invariant (omega arith) c.if-inside.true c.if-x-eq10.false _ (sym c.char_at.ensures ∙ c.in-Err.is))
 
 pub loop-at-smaller-then-inside : goal.loop-at-smaller-then-inside
 loop-at-smaller-then-inside c =
-    let g = comment_char _ _ _ _ c.loop-at.invariant (omega arith) c.if-inside.true c.if-x-eq10.false _ (sym c.char_at-c.ensures ∙ c.in-Good.is) in omega (arith, g.inside, comment_further c.args.s.now c.loop-at.at _ (sym c.char_at-c.ensures ∙ c.in-Good.is))
+    let g = comment_char _ _ _ _ c.loop-at.invariant (omega arith) c.if-inside.true c.if-x-eq10.false _ (sym c.char_at.ensures ∙ c.in-Ok.is) in omega (arith, g.inside, comment_further c.args.s.now c.loop-at.at _ (sym c.char_at.ensures ∙ c.in-Ok.is))
 
 pub loop-at-preserved-then-inside : goal.loop-at-preserved-then-inside
-loop-at-preserved-then-inside c = comment_char _ _ _ _ c.loop-at.invariant (omega arith) c.if-inside.true c.if-x-eq10.false _ (sym c.char_at-c.ensures ∙ c.in-Good.is)
+loop-at-preserved-then-inside c = comment_char _ _ _ _ c.loop-at.invariant (omega arith) c.if-inside.true c.if-x-eq10.false _ (sym c.char_at.ensures ∙ c.in-Ok.is)
 
 pub is_space-requires : goal.is_space-requires
 is_space-requires c = tt
@@ -62,9 +55,6 @@ loop-at-smaller-then-is_space c = omega arith
 
 pub loop-at-preserved-then-is_space : goal.loop-at-preserved-then-is_space
 loop-at-preserved-then-is_space c = space_on _ _ _ _ c.loop-at.invariant (omega arith) c.if-inside.false (sym c.is_space.ensures ∙ c.if-is_space.true)
-
-pub overflow_sub-result-then-x-ne35 : goal.overflow_sub-result-then-x-ne35
-overflow_sub-result-then-x-ne35 c = omega (arith, c.loop-at.invariant.onward)
 
 pub returns-then-x-ne35 : goal.returns-then-x-ne35
 returns-then-x-ne35 c = token_here _ _ _ _ c.loop-at.invariant (omega arith) c.if-inside.false (sym c.is_space.ensures ∙ c.if-is_space.false) c.if-x-ne35.true

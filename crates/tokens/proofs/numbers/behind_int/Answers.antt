@@ -1,17 +1,17 @@
 -- By the byte that stands here: a point or an e leads on, else the token ends (Grammar).
 use Prim.Native.Nat.{◌+◌, ◌≤◌}
 use lib.ListN.{length}
-use Rattle.tokens.specs.declared.numbers.Number.TheVariants.{Malformed}
+use Rattle.std.specs.Prelude.{None}
 use mathlib.Core.Path.{sym, ◌∙◌}
 use native.Mathlib.Omega.{arith}
 use Rattle.tokens.proofs.Grammar.{int_point, int_e, int_end, point_inside, next_inside, e_number}
 use Rattle.tokens.proofs.numbers.behind_int.Goals as goal
 
 pub overflow_add-at : goal.overflow_add-at
-overflow_add-at c = let h : c.args.at + 1 ≤ length c.args.s.now = point_inside _ _ _ Malformed c.byte_at-x.ensures c.if-x-eq46.true in omega arith
+overflow_add-at c = let h : c.args.at + 1 ≤ length c.args.s.now = point_inside _ _ _ None c.byte_at-x.ensures c.if-x-eq46.true in omega arith
 
 pub behind_point-requires : goal.behind_point-requires
-behind_point-requires c = point_inside _ _ _ Malformed c.byte_at-x.ensures c.if-x-eq46.true
+behind_point-requires c = point_inside _ _ _ None c.byte_at-x.ensures c.if-x-eq46.true
 
 pub returns-then-x-eq46 : goal.returns-then-x-eq46
 returns-then-x-eq46 c = int_point _ _ _ _ c.byte_at-x.ensures c.if-x-eq46.true c.behind_point.ensures

@@ -1,7 +1,7 @@
 -- By the byte that stands here: a digit leads on, anything else fails (Grammar).
 use Prim.Native.Nat.{◌+◌, ◌≤◌}
 use lib.ListN.{length}
-use Rattle.tokens.specs.declared.numbers.Number.TheVariants.{Malformed}
+use Rattle.std.specs.Prelude.{None}
 use mathlib.Core.Path.{sym, ◌∙◌}
 use native.Mathlib.Omega.{arith}
 use Rattle.tokens.proofs.Grammar.{exp_digit, exp_none, next_inside, digit_number}
@@ -18,4 +18,4 @@ pub returns-then-is_digit : goal.returns-then-is_digit
 returns-then-is_digit c = exp_digit _ _ _ _ c.byte_at.ensures (sym c.is_digit.ensures ∙ c.if-is_digit.true) c.in_exp.ensures
 
 pub returns : goal.returns
-returns c = exp_none _ _ _ Malformed c.byte_at.ensures (sym c.is_digit.ensures ∙ c.if-is_digit.false)
+returns c = exp_none _ _ _ None c.byte_at.ensures (sym c.is_digit.ensures ∙ c.if-is_digit.false)

@@ -2,8 +2,8 @@
 use Rattle.tokens.proofs.First.{opens_here, opens_not}
 use Rattle.tokens.proofs.starts.opens.Goals as goal
 
-pub returns-in-Opens : goal.returns-in-Opens
-returns-in-Opens c = search opens_here
+pub returns-in-Some : goal.returns-in-Some
+returns-in-Some c = search opens_here
 
-pub returns-in-Unopened : goal.returns-in-Unopened
-returns-in-Unopened c = search opens_not
+pub returns-in-None : goal.returns-in-None
+returns-in-None c = search opens_not

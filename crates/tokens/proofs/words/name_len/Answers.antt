@@ -12,33 +12,18 @@ spells-requires c = omega arith
 
 pub returns-then-spells : goal.returns-then-spells
 returns-then-spells c =
-    λ h. subst (λ (k : ℕ). Named (drop c.args.at c.args.s.now) k 4) (sym c.if-x-eq116.true) (true_named _ (sym c.requires ∙ c.if-x-eq116.true) (c.spells.ensures c.if-spells.true))
-
-pub returns-then-x-eq116 : goal.returns-then-x-eq116
-returns-then-x-eq116 c = λ h. absurd (omega arith)
+    (omega arith, subst (λ (k : ℕ). Named (drop c.args.at c.args.s.now) k 4) (sym c.if-x-eq116.true) (true_named _ (sym c.requires ∙ c.if-x-eq116.true) (c.spells.ensures c.if-spells.true)))
 
 pub spells-requires-then-x-eq110 : goal.spells-requires-then-x-eq110
 spells-requires-then-x-eq110 c = omega arith
 
 pub returns-then-spells-2 : goal.returns-then-spells-2
 returns-then-spells-2 c =
-    λ h. subst (λ (k : ℕ). Named (drop c.args.at c.args.s.now) k 4) (sym c.if-x-eq110.true) (null_named _ (sym c.requires ∙ c.if-x-eq110.true) (c.spells-then-x-eq110.ensures c.if-spells-2.true))
-
-pub returns-then-x-eq110 : goal.returns-then-x-eq110
-returns-then-x-eq110 c = λ h. absurd (omega arith)
+    (omega arith, subst (λ (k : ℕ). Named (drop c.args.at c.args.s.now) k 4) (sym c.if-x-eq110.true) (null_named _ (sym c.requires ∙ c.if-x-eq110.true) (c.spells-then-x-eq110.ensures c.if-spells-2.true)))
 
 pub spells-requires-then-byte_at-eq97 : goal.spells-requires-then-byte_at-eq97
 spells-requires-then-byte_at-eq97 c = omega arith
 
 pub returns-then-spells-3 : goal.returns-then-spells-3
 returns-then-spells-3 c =
-    λ h. subst (λ (k : ℕ). Named (drop c.args.at c.args.s.now) k 5) (sym c.if-x-eq102.true) (false_named _ (sym c.requires ∙ c.if-x-eq102.true) (sym c.byte_at.ensures ∙ c.if-byte_at-eq97.true) (c.spells-then-byte_at-eq97.ensures c.if-spells-3.true))
-
-pub returns-else-spells-3 : goal.returns-else-spells-3
-returns-else-spells-3 c = λ h. absurd (omega arith)
-
-pub returns-else-byte_at-eq97 : goal.returns-else-byte_at-eq97
-returns-else-byte_at-eq97 c = λ h. absurd (omega arith)
-
-pub returns-else-x-eq102 : goal.returns-else-x-eq102
-returns-else-x-eq102 c = λ h. absurd (omega arith)
+    (omega arith, subst (λ (k : ℕ). Named (drop c.args.at c.args.s.now) k 5) (sym c.if-x-eq102.true) (false_named _ (sym c.requires ∙ c.if-x-eq102.true) (sym c.byte_at.ensures ∙ c.if-byte_at-eq97.true) (c.spells-then-byte_at-eq97.ensures c.if-spells-3.true)))

@@ -1,5 +1,4 @@
 use mathlib.Core.Path.{refl}
-use Prim.Native.Nat.{◌-◌}
 use native.Mathlib.Omega.{arith}
 use Rattle.tokens.proofs.Spelling.{other_length, one_more, differs, all_same}
 use Rattle.tokens.proofs.words.same.Goals as goal

@@ -1,5 +1,4 @@
 use mathlib.Core.Path.{refl, sym, ◌∙◌}
-use Prim.Native.Nat.{◌-◌}
 use native.Mathlib.Omega.{arith}
 use Rattle.tokens.specs.Words.{is_word}
 use Rattle.tokens.proofs.Runs.{one_more, stopped, ended}
