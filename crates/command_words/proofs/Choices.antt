@@ -11,13 +11,17 @@ use lib.Bits.{bit_and, bit_or}
 use lib.Dec.{eqb}
 use lib.ListN.{length, length-drop, get_or, take, drop, drop_of_length-le}
 use lib.Seq.{drop-cons, take_all}
+use Rattle.std.specs.Prelude.{Option, Some, None, is_some}
 use Rattle.prelude.proofs.Cases.{split, never, and_left, and_right}
 use Rattle.prelude.proofs.Picks.{pick_true, pick_false, and_yes}
+use Rattle.prelude.specs.Pick.{pick}
 use Rattle.tokens.specs.Words.{same_bytes}
 use Rattle.command_words.specs.declared.arguments.Command.{Command}
 use Rattle.command_words.specs.declared.arguments.Command.TheVariants.{Help, Version, Lines, Quote, Unquote, Json8, Strings, Tsv8, Unknown}
+use Rattle.command_words.specs.declared.arguments.Fault.{Fault}
+use Rattle.command_words.specs.declared.arguments.Fault.TheVariants.{NoOption, SecondFile, BadSize, LineAndLines}
 use Rattle.command_words.specs.declared.arguments.Options.{Options}
-use Rattle.command_words.specs.Arguments.{is_word, reader_of, command_of, json, help, pieces, line, lines, nul, option_of, piece_max, size_from, size_of, no_option, second_file, bad_size, line_and_lines, with_fault, with_size, with_file, with_option, size_at, has_size, with_sized, is_option, with_end, with_word, unsized, with_argument, with_long, all_checked}
+use Rattle.command_words.specs.Arguments.{is_word, reader_of, command_of, json, help, pieces, line, lines, nul, option_of, piece_max, size_from, size_of, with_fault, with_size, with_file, with_option, size_at, has_size, with_sized, is_option, with_end, with_word, unsized, with_argument, with_long, all_checked}
 
 -- what is told of two words that are compared
 abbrev Same : Bool → List ℕ → List ℕ → Type 0
@@ -140,25 +144,33 @@ pub counted_first : (word : List ℕ) → Counted word 0 0
 counted_first word = record { inside = omega arith; few = omega arith; same = refl }
 
 module _ (word : List ℕ) (size i : ℕ) (l : Counted word size i) where
-  pub counted_end : length word ≤ i → size ≡ size_of word
-  unfolding size_from
-  counted_end h = sym (l.same ∙ ap (size_from size) (drop_of_length-le word h))
+  module _ (h : length word ≤ i) where
+    ended : size_of word ≡ size_from size []
+    ended = l.same ∙ ap (size_from size) (drop_of_length-le word h)
+
+    pub counted_none : size ≡ 0 → None ≡ size_of word
+    unfolding size_from
+    counted_none e = sym (ended ∙ pick_true _ _ _ (eq-eqb size 0 e))
+
+    pub counted_some : (size ≡ 0 → ⊥) → Some size ≡ size_of word
+    unfolding size_from
+    counted_some e = sym (ended ∙ pick_false _ _ _ (ne_eqb size 0 e))
 
   module _ (h : i < length word) where
     here : drop i word ≡ get_or word i 0 ∷ drop (i + 1) word
     here = rw add-one (drop-cons word i 0 h)
 
-    pub counted_low : get_or word i 0 < 48 → 0 ≡ size_of word
+    pub counted_low : get_or word i 0 < 48 → None ≡ size_of word
     unfolding size_from
     counted_low a = sym (l.same ∙ ap (size_from size) here ∙ pick_true _ _ _ (lt-ltb (get_or word i 0) 48 a))
 
     module _ (a : 48 ≤ get_or word i 0) where
-      pub counted_high : 57 < get_or word i 0 → 0 ≡ size_of word
+      pub counted_high : 57 < get_or word i 0 → None ≡ size_of word
       unfolding size_from
       counted_high b = sym (l.same ∙ ap (size_from size) here ∙ pick_false _ _ _ (le-ltb (get_or word i 0) 48 a) ∙ pick_true _ _ _ (lt-ltb 57 (get_or word i 0) b))
 
       module _ (b : get_or word i 0 ≤ 57) where
-        pub counted_over : piece_max < 10 * size + (get_or word i 0 - 48) → 0 ≡ size_of word
+        pub counted_over : piece_max < 10 * size + (get_or word i 0 - 48) → None ≡ size_of word
         unfolding size_from
         counted_over c =
             sym (l.same ∙ ap (size_from size) here ∙ pick_false _ _ _ (le-ltb (get_or word i 0) 48 a) ∙ pick_false _ _ _ (le-ltb 57 (get_or word i 0) b)
@@ -175,60 +187,61 @@ module _ (word : List ℕ) (size i : ℕ) (l : Counted word size i) where
         }
 
 -- options, one choice after another
+module _ (o : Options) (fault : Fault) (argument : Option ℕ) where
+  pub fault_kept : is_some o.wrong ≡ true → o ≡ with_fault o fault argument
+  unfolding with_fault
+  fault_kept e = sym (pick_true _ _ _ e)
+
+  pub fault_first : is_some o.wrong ≡ false
+      → record { flags = o.flags; size = o.size; file = o.file; wrong = Some (record { fault = fault; argument = argument }); ended = o.ended; sized = o.sized } ≡ with_fault o fault argument
+  unfolding with_fault
+  fault_first e = sym (pick_false _ _ _ e)
+
 module _ (o : Options) (i : ℕ) where
-  pub fault_kept : (fault : ℕ) → (o.fault ≡ 0 → ⊥) → o ≡ with_fault o fault i
-  unfolding with_fault
-  fault_kept fault e = sym (pick_false _ _ _ (ne_eqb o.fault 0 e))
-
-  pub fault_first : (fault : ℕ) → o.fault ≡ 0
-      → record { flags = o.flags; size = o.size; file = o.file; fault = fault; wrong = i; ended = o.ended; sized = o.sized } ≡ with_fault o fault i
-  unfolding with_fault
-  fault_first fault e = sym (pick_true _ _ _ (eq-eqb o.fault 0 e))
-
-  pub size_none : (size : ℕ) {r : Options} → size ≡ 0 → r ≡ with_fault o bad_size i → r ≡ with_size o size i
+  pub size_none : (size : Option ℕ) {r : Options} → size ≡ None → r ≡ with_fault o BadSize (Some i) → r ≡ with_size o size i
   unfolding with_size
-  size_none size e f = f ∙ sym (pick_true _ _ _ (eq-eqb size 0 e))
+  size_none size e f = f ∙ ap (λ (s : Option ℕ). with_size o s i) (sym e)
 
-  pub size_some : (size : ℕ) → (size ≡ 0 → ⊥)
-      → record { flags = o.flags; size = size; file = o.file; fault = o.fault; wrong = o.wrong; ended = o.ended; sized = o.sized } ≡ with_size o size i
+  pub size_some : (size : Option ℕ) (n : ℕ) → size ≡ Some n
+      → record { flags = o.flags; size = n; file = o.file; wrong = o.wrong; ended = o.ended; sized = o.sized } ≡ with_size o size i
   unfolding with_size
-  size_some size e = sym (pick_false _ _ _ (ne_eqb size 0 e))
+  size_some size n e = ap (λ (s : Option ℕ). with_size o s i) (sym e)
 
-  pub file_second : {r : Options} → (o.file ≡ 0 → ⊥) → r ≡ with_fault o second_file i → r ≡ with_file o i
+  pub file_second : {r : Options} → is_some o.file ≡ true → r ≡ with_fault o SecondFile (Some i) → r ≡ with_file o i
   unfolding with_file
-  file_second e f = f ∙ sym (pick_false _ _ _ (ne_eqb o.file 0 e))
+  file_second e f = f ∙ sym (pick_true _ _ _ e)
 
-  pub file_first : o.file ≡ 0
-      → record { flags = o.flags; size = o.size; file = i; fault = o.fault; wrong = o.wrong; ended = o.ended; sized = o.sized } ≡ with_file o i
+  pub file_first : is_some o.file ≡ false
+      → record { flags = o.flags; size = o.size; file = Some i; wrong = o.wrong; ended = o.ended; sized = o.sized } ≡ with_file o i
   unfolding with_file
-  file_first e = sym (pick_true _ _ _ (eq-eqb o.file 0 e))
+  file_first e = sym (pick_false _ _ _ e)
 
   module _ (bit known : ℕ) where
-    pub option_unknown : {r : Options} → bit_and bit known ≡ 0 → r ≡ with_fault o no_option i → r ≡ with_option o bit known i
+    pub option_unknown : {r : Options} → bit_and bit known ≡ 0 → r ≡ with_fault o NoOption (Some i) → r ≡ with_option o bit known i
     unfolding with_option
     option_unknown e f = f ∙ sym (pick_true _ _ _ (eq-eqb (bit_and bit known) 0 e))
 
     pub option_known : (bit_and bit known ≡ 0 → ⊥)
-        → record { flags = bit_or o.flags bit; size = o.size; file = o.file; fault = o.fault; wrong = o.wrong; ended = o.ended; sized = eqb bit pieces } ≡ with_option o bit known i
+        → record { flags = bit_or o.flags bit; size = o.size; file = o.file; wrong = o.wrong; ended = o.ended; sized = eqb bit pieces } ≡ with_option o bit known i
     unfolding with_option
     option_known e = sym (pick_false _ _ _ (ne_eqb (bit_and bit known) 0 e))
 
   module _ (word : List ℕ) (known : ℕ) where
-    pub sized_unknown : {r : Options} → bit_and known pieces ≡ 0 → r ≡ with_fault o no_option i → r ≡ with_sized o word known i
+    pub sized_unknown : {r : Options} → bit_and known pieces ≡ 0 → r ≡ with_fault o NoOption (Some i) → r ≡ with_sized o word known i
     unfolding with_sized
     sized_unknown e f = f ∙ sym (pick_true _ _ _ (eq-eqb (bit_and known pieces) 0 e))
 
     module _ (e : bit_and known pieces ≡ 0 → ⊥) where
-      pub sized_short : {r : Options} → length word < size_at → r ≡ with_fault o bad_size i → r ≡ with_sized o word known i
-      unfolding with_sized size_from
+      pub sized_short : {r : Options} → length word < size_at → r ≡ with_fault o BadSize (Some i) → r ≡ with_sized o word known i
+      unfolding with_sized size_from pick
       sized_short h f =
           size_none (size_of (drop size_at word)) (ap size_of (drop_of_length-le word (let z : length word ≤ size_at = omega (arith, h) in z))) f
           ∙ sym (pick_false _ _ _ (ne_eqb (bit_and known pieces) 0 e))
 
-      pub sized_there : {r : Options} (z : ℕ) → z ≡ size_of (take (length word - size_at) (drop size_at word)) → r ≡ with_size o z i → r ≡ with_sized o word known i
+      pub sized_there : {r : Options} (z : Option ℕ) → z ≡ size_of (take (length word - size_at) (drop size_at word)) → r ≡ with_size o z i → r ≡ with_sized o word known i
       unfolding with_sized
       sized_there z s f =
-          f ∙ ap (λ (k : ℕ). with_size o k i) (s ∙ ap size_of (take_all (length word - size_at) (drop size_at word) (omega (arith, length-drop size_at word))))
+          f ∙ ap (λ (k : Option ℕ). with_size o k i) (s ∙ ap size_of (take_all (length word - size_at) (drop size_at word) (omega (arith, length-drop size_at word))))
           ∙ sym (pick_false _ _ _ (ne_eqb (bit_and known pieces) 0 e))
 
     pub word_file : {r : Options} → is_option word ≡ false → r ≡ with_file o i → r ≡ with_word o word known i
@@ -250,9 +263,9 @@ module _ (o : Options) (i : ℕ) where
         word_option bit g b h =
             h ∙ ap (λ (k : ℕ). with_option o k known i) b ∙ sym (pick_true _ _ _ e ∙ pick_false _ _ _ f ∙ pick_false _ _ _ g)
 
-    pub argument_size : {r : Options} (z : ℕ) → o.sized ≡ true → z ≡ size_of word → r ≡ with_size (unsized o) z i → r ≡ with_argument o word known i
+    pub argument_size : {r : Options} (z : Option ℕ) → o.sized ≡ true → z ≡ size_of word → r ≡ with_size (unsized o) z i → r ≡ with_argument o word known i
     unfolding with_argument
-    argument_size z e s f = f ∙ ap (λ (k : ℕ). with_size (unsized o) k i) s ∙ sym (pick_true _ _ _ e)
+    argument_size z e s f = f ∙ ap (λ (k : Option ℕ). with_size (unsized o) k i) s ∙ sym (pick_true _ _ _ e)
 
     pub argument_file : {r : Options} → o.sized ≡ false → o.ended ≡ true → r ≡ with_file o i → r ≡ with_argument o word known i
     unfolding with_argument
@@ -263,7 +276,7 @@ module _ (o : Options) (i : ℕ) where
     argument_word e g f = f ∙ sym (pick_false _ _ _ e ∙ pick_false _ _ _ g)
 
   module _ (first : ℕ) where
-    pub long_size : {r : Options} → o.sized ≡ true → r ≡ with_size (unsized o) 0 i → r ≡ with_long o first i
+    pub long_size : {r : Options} → o.sized ≡ true → r ≡ with_size (unsized o) None i → r ≡ with_long o first i
     unfolding with_long
     long_size e f = f ∙ sym (pick_true _ _ _ e)
 
@@ -273,7 +286,7 @@ module _ (o : Options) (i : ℕ) where
       long_ended g f = f ∙ sym (pick_false _ _ _ e ∙ pick_true _ _ _ g)
 
       module _ (g : o.ended ≡ false) where
-        pub long_option : {r : Options} → first ≡ 45 → r ≡ with_fault o no_option i → r ≡ with_long o first i
+        pub long_option : {r : Options} → first ≡ 45 → r ≡ with_fault o NoOption (Some i) → r ≡ with_long o first i
         unfolding with_long
         long_option h f = f ∙ sym (pick_false _ _ _ e ∙ pick_false _ _ _ g ∙ pick_true _ _ _ (eq-eqb first 45 h))
 
@@ -282,7 +295,7 @@ module _ (o : Options) (i : ℕ) where
         long_file h f = f ∙ sym (pick_false _ _ _ e ∙ pick_false _ _ _ g ∙ pick_false _ _ _ (ne_eqb first 45 h))
 
 module _ (o : Options) where
-  pub checked_size : {r : Options} → o.sized ≡ true → r ≡ with_fault o bad_size 0 → r ≡ all_checked o
+  pub checked_size : {r : Options} → o.sized ≡ true → r ≡ with_fault o BadSize None → r ≡ all_checked o
   unfolding all_checked
   checked_size e f = f ∙ sym (pick_true _ _ _ e)
 
@@ -297,7 +310,7 @@ module _ (o : Options) where
       checked_line g =
           sym (pick_false _ _ _ e ∙ pick_false _ _ _ (ne_eqb (bit_and o.flags line) 0 f) ∙ pick_true _ _ _ (eq-eqb (bit_and o.flags (lines + nul)) 0 g))
 
-      pub checked_both : {r : Options} → (bit_and o.flags (lines + nul) ≡ 0 → ⊥) → r ≡ with_fault o line_and_lines 0 → r ≡ all_checked o
+      pub checked_both : {r : Options} → (bit_and o.flags (lines + nul) ≡ 0 → ⊥) → r ≡ with_fault o LineAndLines None → r ≡ all_checked o
       unfolding all_checked
       checked_both g h =
           h ∙ sym (pick_false _ _ _ e ∙ pick_false _ _ _ (ne_eqb (bit_and o.flags line) 0 f) ∙ pick_false _ _ _ (ne_eqb (bit_and o.flags (lines + nul)) 0 g))

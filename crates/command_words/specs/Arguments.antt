@@ -1,6 +1,6 @@
 -- The words behind the program's name: which command they name, and its options.
 -- Assumes nothing.
-use Rattle.std.specs.Prelude.{ℕ, ◌+◌, ◌-◌, ◌*◌, Bool, true, false, List, [], ◌∷◌, eqb, ltb, length, get_or, take, drop}
+use Rattle.std.specs.Prelude.{ℕ, ◌+◌, ◌-◌, ◌*◌, Bool, true, false, List, [], ◌∷◌, eqb, ltb, length, get_or, take, drop, Option, Some, None, is_some}
 use Prim.Native.Char.{code}
 use Prim.Native.String.{String}
 use Rattle.std.specs.Int.Bits.{bit_and, bit_or}
@@ -9,6 +9,8 @@ use Rattle.prelude.specs.Pick.{pick}
 use Rattle.tokens.specs.Words.{same_bytes}
 use Rattle.command_words.specs.declared.arguments.Command.{Command}
 use Rattle.command_words.specs.declared.arguments.Command.TheVariants.{Help, Version, Lines, Quote, Unquote, Json8, Strings, Tsv8, Missing, Unknown}
+use Rattle.command_words.specs.declared.arguments.Fault.{Fault}
+use Rattle.command_words.specs.declared.arguments.Fault.TheVariants.{NoOption, SecondFile, BadSize, LineAndLines}
 use Rattle.command_words.specs.declared.arguments.Options.{Options}
 
 abbrev pub is_word : List ℕ → String → Bool
@@ -82,54 +84,41 @@ option_of word =
 abbrev pub piece_max : ℕ
 piece_max = 4096
 
--- a number from 1 to the most, in digits behind those of a number already read, or 0 for anything else
-unfoldable pub size_from : ℕ → List ℕ → ℕ
-size_from size [] = size
+-- a number from 1 to the most, in digits behind those of a number already read
+unfoldable pub size_from : ℕ → List ℕ → Option ℕ
+size_from size [] = pick (eqb size 0) None (Some size)
 size_from size (x ∷ r) =
-    pick (ltb x (code "0")) 0
-    (pick (ltb (code "9") x) 0
-    (pick (ltb piece_max (10 * size + (x - code "0"))) 0 (size_from (10 * size + (x - code "0")) r)))
+    pick (ltb x (code "0")) None
+    (pick (ltb (code "9") x) None
+    (pick (ltb piece_max (10 * size + (x - code "0"))) None (size_from (10 * size + (x - code "0")) r)))
 
-abbrev pub size_of : List ℕ → ℕ
+abbrev pub size_of : List ℕ → Option ℕ
 size_of word = size_from 0 word
-
--- what can be wrong with the words
-abbrev pub no_option : ℕ
-no_option = 2
-
-abbrev pub second_file : ℕ
-second_file = 3
-
-abbrev pub bad_size : ℕ
-bad_size = 6
-
-abbrev pub line_and_lines : ℕ
-line_and_lines = 7
 
 -- no word is read yet
 abbrev pub fresh_options : Options
-fresh_options = record { flags = 0; size = piece_max; file = 0; fault = 0; wrong = 0; ended = false; sized = false }
+fresh_options = record { flags = 0; size = piece_max; file = None; wrong = None; ended = false; sized = false }
 
 -- the first fault counts
-unfoldable pub with_fault : Options → ℕ → ℕ → Options
-with_fault o fault i =
-    pick (eqb o.fault 0) (record { flags = o.flags; size = o.size; file = o.file; fault = fault; wrong = i; ended = o.ended; sized = o.sized }) o
+unfoldable pub with_fault : Options → Fault → Option ℕ → Options
+with_fault o fault argument =
+    pick (is_some o.wrong) o
+    (record { flags = o.flags; size = o.size; file = o.file; wrong = Some (record { fault = fault; argument = argument }); ended = o.ended; sized = o.sized })
 
-unfoldable pub with_size : Options → ℕ → ℕ → Options
-with_size o size i =
-    pick (eqb size 0) (with_fault o bad_size i)
-    (record { flags = o.flags; size = size; file = o.file; fault = o.fault; wrong = o.wrong; ended = o.ended; sized = o.sized })
+unfoldable pub with_size : Options → Option ℕ → ℕ → Options
+with_size o None i = with_fault o BadSize (Some i)
+with_size o (Some size) i = record { flags = o.flags; size = size; file = o.file; wrong = o.wrong; ended = o.ended; sized = o.sized }
 
 unfoldable pub with_file : Options → ℕ → Options
 with_file o i =
-    pick (eqb o.file 0) (record { flags = o.flags; size = o.size; file = i; fault = o.fault; wrong = o.wrong; ended = o.ended; sized = o.sized })
-    (with_fault o second_file i)
+    pick (is_some o.file) (with_fault o SecondFile (Some i))
+    (record { flags = o.flags; size = o.size; file = Some i; wrong = o.wrong; ended = o.ended; sized = o.sized })
 
 -- a known option; behind `--pieces` a size is still to come
 unfoldable pub with_option : Options → ℕ → ℕ → ℕ → Options
 with_option o bit known i =
-    pick (eqb (bit_and bit known) 0) (with_fault o no_option i)
-    (record { flags = bit_or o.flags bit; size = o.size; file = o.file; fault = o.fault; wrong = o.wrong; ended = o.ended; sized = eqb bit pieces })
+    pick (eqb (bit_and bit known) 0) (with_fault o NoOption (Some i))
+    (record { flags = bit_or o.flags bit; size = o.size; file = o.file; wrong = o.wrong; ended = o.ended; sized = eqb bit pieces })
 
 -- `--pieces=N`
 abbrev pub size_at : ℕ
@@ -139,14 +128,14 @@ unfoldable pub has_size : List ℕ → Bool
 has_size word = pick (ltb (length word) size_at) false (is_word (take size_at word) "--pieces=")
 
 unfoldable pub with_sized : Options → List ℕ → ℕ → ℕ → Options
-with_sized o word known i = pick (eqb (bit_and known pieces) 0) (with_fault o no_option i) (with_size o (size_of (drop size_at word)) i)
+with_sized o word known i = pick (eqb (bit_and known pieces) 0) (with_fault o NoOption (Some i)) (with_size o (size_of (drop size_at word)) i)
 
 -- `-` alone is standard input
 unfoldable pub is_option : List ℕ → Bool
 is_option word = pick (ltb (length word) 2) false (eqb (get_or word 0 0) (code "-"))
 
 abbrev pub with_end : Options → Options
-with_end o = record { flags = o.flags; size = o.size; file = o.file; fault = o.fault; wrong = o.wrong; ended = true; sized = o.sized }
+with_end o = record { flags = o.flags; size = o.size; file = o.file; wrong = o.wrong; ended = true; sized = o.sized }
 
 -- a word where options may stand
 unfoldable pub with_word : Options → List ℕ → ℕ → ℕ → Options
@@ -156,7 +145,7 @@ with_word o word known i =
 
 -- a size comes no more
 abbrev pub unsized : Options → Options
-unsized o = record { flags = o.flags; size = o.size; file = o.file; fault = o.fault; wrong = o.wrong; ended = o.ended; sized = false }
+unsized o = record { flags = o.flags; size = o.size; file = o.file; wrong = o.wrong; ended = o.ended; sized = false }
 
 -- the i-th argument, for a command with the options `known`
 unfoldable pub with_argument : Options → List ℕ → ℕ → ℕ → Options
@@ -165,11 +154,11 @@ with_argument o word known i = pick o.sized (with_size (unsized o) (size_of word
 -- the same of a word that is longer than any option and any size, by its first byte
 unfoldable pub with_long : Options → ℕ → ℕ → Options
 with_long o first i =
-    pick o.sized (with_size (unsized o) 0 i)
-    (pick o.ended (with_file o i) (pick (eqb first (code "-")) (with_fault o no_option i) (with_file o i)))
+    pick o.sized (with_size (unsized o) None i)
+    (pick o.ended (with_file o i) (pick (eqb first (code "-")) (with_fault o NoOption (Some i)) (with_file o i)))
 
 -- what can only be told of all words
 unfoldable pub all_checked : Options → Options
 all_checked o =
-    pick o.sized (with_fault o bad_size 0)
-    (pick (eqb (bit_and o.flags line) 0) o (pick (eqb (bit_and o.flags (lines + nul)) 0) o (with_fault o line_and_lines 0)))
+    pick o.sized (with_fault o BadSize None)
+    (pick (eqb (bit_and o.flags line) 0) o (pick (eqb (bit_and o.flags (lines + nul)) 0) o (with_fault o LineAndLines None)))

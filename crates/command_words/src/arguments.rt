@@ -34,30 +34,33 @@ pub const LINES: u32 = 16;
 
 pub const NUL: u32 = 32;
 
-// What can be wrong with the words: the lines of `reports::put_fault`.
-pub const NO_COMMAND: usize = 1;
+// What can be wrong with the words, in the order of the lines of `reports::put_fault`.
+#[derive(Clone, Copy)]
+pub enum Fault {
+    NoCommand,
+    NoOption,
+    SecondFile,
+    EmptyName,
+    LongName,
+    BadSize,
+    LineAndLines,
+}
 
-pub const NO_OPTION: usize = 2;
+// What is wrong, and the argument that it is about, if it is one.
+#[derive(Clone, Copy)]
+pub struct Wrong {
+    pub fault: Fault,
+    pub argument: Option<usize>,
+}
 
-pub const SECOND_FILE: usize = 3;
-
-pub const EMPTY_NAME: usize = 4;
-
-pub const LONG_NAME: usize = 5;
-
-pub const BAD_SIZE: usize = 6;
-
-pub const LINE_AND_LINES: usize = 7;
-
-// The words behind the command: its options, the size of pieces, the argument that names the file (0 for none); what is wrong (0 for nothing)
-// and with which argument; whether options have ended, and whether a size is still to come.
+// The words behind the command: its options, the size of pieces, the argument that names the file; what is wrong; whether options have ended, and
+// whether a size is still to come.
 #[derive(Clone, Copy)]
 pub struct Options {
     pub flags: u32,
     pub size: usize,
-    pub file: usize,
-    pub fault: usize,
-    pub wrong: usize,
+    pub file: Option<usize>,
+    pub wrong: Option<Wrong>,
     ended: bool,
     sized: bool,
 }
@@ -150,8 +153,8 @@ fn option_of(word: &[u8]) -> u32
     0
 }
 
-// A number of bytes from 1 to a whole piece, or 0 for anything else.
-fn size_of(word: &[u8]) -> usize
+// A number of bytes from 1 to a whole piece.
+fn size_of(word: &[u8]) -> Option<usize>
     ensures { result ≡ size_of word.now }
 {
     let mut size = 0;
@@ -159,52 +162,56 @@ fn size_of(word: &[u8]) -> usize
     while i < word.len() {
         let x = word[i];
         if x < b'0' {
-            return 0;
+            return None;
         }
         if x > b'9' {
-            return 0;
+            return None;
         }
         size = 10 * size + (x - b'0') as usize;
         if size > PIECE {
-            return 0;
+            return None;
         }
         i += 1;
     }
-    size
+    if size == 0 {
+        return None;
+    }
+    Some(size)
 }
 
 // The first fault counts.
-fn faulty(o: Options, fault: usize, i: usize) -> Options
-    ensures { result ≡ with_fault o fault i }
+fn faulty(o: Options, fault: Fault, argument: Option<usize>) -> Options
+    ensures { result ≡ with_fault o fault argument }
 {
-    if o.fault != 0 {
+    if o.wrong.is_some() {
         return o;
     }
     let mut o = o;
-    o.fault = fault;
-    o.wrong = i;
+    o.wrong = Some(Wrong { fault, argument });
     o
 }
 
-fn with_size(o: Options, size: usize, i: usize) -> Options
+fn with_size(o: Options, size: Option<usize>, i: usize) -> Options
     ensures { result ≡ with_size o size i }
 {
-    if size == 0 {
-        return faulty(o, BAD_SIZE, i);
+    match size {
+        None => faulty(o, Fault::BadSize, Some(i)),
+        Some(size) => {
+            let mut o = o;
+            o.size = size;
+            o
+        }
     }
-    let mut o = o;
-    o.size = size;
-    o
 }
 
 fn with_file(o: Options, i: usize) -> Options
     ensures { result ≡ with_file o i }
 {
-    if o.file != 0 {
-        return faulty(o, SECOND_FILE, i);
+    if o.file.is_some() {
+        return faulty(o, Fault::SecondFile, Some(i));
     }
     let mut o = o;
-    o.file = i;
+    o.file = Some(i);
     o
 }
 
@@ -212,7 +219,7 @@ fn with_option(o: Options, bit: u32, known: u32, i: usize) -> Options
     ensures { result ≡ with_option o bit known i }
 {
     if bit & known == 0 {
-        return faulty(o, NO_OPTION, i);
+        return faulty(o, Fault::NoOption, Some(i));
     }
     let mut o = o;
     o.flags = o.flags | bit;
@@ -236,10 +243,10 @@ fn with_sized(o: Options, word: &[u8], known: u32, i: usize) -> Options
     ensures { result ≡ with_sized o word.now known i }
 {
     if known & PIECES == 0 {
-        return faulty(o, NO_OPTION, i);
+        return faulty(o, Fault::NoOption, Some(i));
     }
     if word.len() < SIZE_AT {
-        return faulty(o, BAD_SIZE, i);
+        return faulty(o, Fault::BadSize, Some(i));
     }
     with_size(o, size_of(&word[SIZE_AT..]), i)
 }
@@ -278,9 +285,8 @@ pub fn fresh() -> Options
     Options {
         flags: 0,
         size: PIECE,
-        file: 0,
-        fault: 0,
-        wrong: 0,
+        file: None,
+        wrong: None,
         ended: false,
         sized: false,
     }
@@ -308,13 +314,13 @@ pub fn with_long(o: Options, first: u8, i: usize) -> Options
     if o.sized {
         let mut o = o;
         o.sized = false;
-        return with_size(o, 0, i);
+        return with_size(o, None, i);
     }
     if o.ended {
         return with_file(o, i);
     }
     if first == b'-' {
-        return faulty(o, NO_OPTION, i);
+        return faulty(o, Fault::NoOption, Some(i));
     }
     with_file(o, i)
 }
@@ -324,7 +330,7 @@ pub fn checked(o: Options) -> Options
     ensures { result ≡ all_checked o }
 {
     if o.sized {
-        return faulty(o, BAD_SIZE, 0);
+        return faulty(o, Fault::BadSize, None);
     }
     if o.flags & LINE == 0 {
         return o;
@@ -332,5 +338,5 @@ pub fn checked(o: Options) -> Options
     if o.flags & (LINES | NUL) == 0 {
         return o;
     }
-    faulty(o, LINE_AND_LINES, 0)
+    faulty(o, Fault::LineAndLines, None)
 }

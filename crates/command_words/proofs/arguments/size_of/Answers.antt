@@ -1,4 +1,4 @@
-use Rattle.command_words.proofs.Choices.{counted_first, counted_end, counted_low, counted_high, counted_over, counted_next}
+use Rattle.command_words.proofs.Choices.{counted_first, counted_none, counted_some, counted_low, counted_high, counted_over, counted_next}
 use native.Mathlib.Omega.{arith}
 use Rattle.command_words.proofs.arguments.size_of.Goals as goal
 
@@ -30,4 +30,7 @@ pub loop-i-preserved : goal.loop-i-preserved
 loop-i-preserved c = counted_next _ _ _ c.loop-i.invariant c.loop-i-test.true c.if-x-lt48.false c.if-x-gt57.false c.if-size-gt-PIECE.false
 
 pub returns : goal.returns
-returns c = counted_end _ _ _ c.loop-i.invariant c.loop-i-test.false
+returns c = counted_some _ _ _ c.loop-i.invariant c.loop-i-test.false c.if-size-eq0.false
+
+pub returns-then-size-eq0 : goal.returns-then-size-eq0
+returns-then-size-eq0 c = counted_none _ _ _ c.loop-i.invariant c.loop-i-test.false c.if-size-eq0.true
