@@ -2,12 +2,11 @@
 ghost use Rattle.std.specs.Prelude.{false, ◌||◌, ◌∷◌, [], ◌≡◌, ◌+◌, ◌-◌, ◌*◌, ◌≤◌, ◌<◌, eqb, length};
 ghost use Rattle.std.proofs.lemmas.List.Edits.{sets};
 ghost use Rattle.prelude.specs.Pick.{pick};
-ghost use Rattle.utf8.specs.Class.{IsTable};
 ghost use Rattle.bytewise.specs.inner.Bytewise.{byte_text, NoControl, Unmarked, Texted};
 
 use notation::styles::Form;
 use units::written;
-use utf8::classes;
+use utf8::classes::Classes;
 
 // Whether one of eight bytes is a control; without an early end, so that they are compared at once.
 fn any_control(s: &[u8], at: usize) -> bool
@@ -55,11 +54,11 @@ fn slashes(k: u8) -> usize
 
 // Stores the text of a byte that is no control; the place behind it. A backslash that isn't wanted is stored over, which is cheaper than
 // a branch.
-fn put_slashed(t: &[u8; 256], b: u8, o: usize, out: &mut [u8]) -> usize
-    requires { IsTable t.now × (32 ≤ b) × (o + 2 ≤ length out.old) }
+fn put_slashed(t: &Classes, b: u8, o: usize, out: &mut [u8]) -> usize
+    requires { (32 ≤ b) × (o + 2 ≤ length out.old) }
     ensures { (result ≡ o + length (byte_text b)) × (out.new ≡ sets out.old o (byte_text b)) }
 {
-    let e = o + slashes(classes::class_in(t, b));
+    let e = o + slashes(t.class(b));
     out[o] = b'\\';
     out[e] = b;
     e + 1
@@ -75,19 +74,19 @@ fn put_control(b: u8, o: usize, out: &mut [u8]) -> usize
 }
 
 // The same of any byte.
-fn put_text(t: &[u8; 256], b: u8, o: usize, out: &mut [u8]) -> usize
-    requires { IsTable t.now × (o + 6 ≤ length out.old) }
+fn put_text(t: &Classes, b: u8, o: usize, out: &mut [u8]) -> usize
+    requires { o + 6 ≤ length out.old }
     ensures { (result ≡ o + length (byte_text b)) × (out.new ≡ sets out.old o (byte_text b)) }
 {
-    if classes::class_in(t, b) == 1 {
+    if t.class(b) == 1 {
         return put_control(b, o, out);
     }
     put_slashed(t, b, o, out)
 }
 
 // Eight bytes without a control, one by one; the place behind their text.
-fn put_eight(t: &[u8; 256], s: &[u8], from: usize, start: usize, out: &mut [u8]) -> usize
-    requires { IsTable t.now × (from + 8 ≤ length s.now) × NoControl s.now from 8 × (start + 48 ≤ length out.old) }
+fn put_eight(t: &Classes, s: &[u8], from: usize, start: usize, out: &mut [u8]) -> usize
+    requires { (from + 8 ≤ length s.now) × NoControl s.now from 8 × (start + 48 ≤ length out.old) }
     ensures { Texted s.now from (from + 8) start out.old result out.new }
 {
     let mut k: usize = 0;
@@ -100,8 +99,8 @@ fn put_eight(t: &[u8; 256], s: &[u8], from: usize, start: usize, out: &mut [u8])
 }
 
 // The text of all bytes from a place on, one by one; the place behind it.
-fn put_texts(t: &[u8; 256], s: &[u8], from: usize, start: usize, out: &mut [u8]) -> usize
-    requires { IsTable t.now × (from ≤ length s.now) × (start + 6 * (length s.now - from) ≤ length out.old) }
+fn put_texts(t: &Classes, s: &[u8], from: usize, start: usize, out: &mut [u8]) -> usize
+    requires { (from ≤ length s.now) × (start + 6 * (length s.now - from) ≤ length out.old) }
     ensures { Texted s.now from (length s.now) start out.old result out.new }
 {
     let mut at = from;
@@ -121,15 +120,15 @@ struct Reached {
 }
 
 // The text of the bytes from a place on through the first control.
-fn put_past(t: &[u8; 256], s: &[u8], from: usize, start: usize, out: &mut [u8]) -> Reached
-    requires { IsTable t.now × (from < length s.now) × (start + 6 * (length s.now - from) ≤ length out.old) }
+fn put_past(t: &Classes, s: &[u8], from: usize, start: usize, out: &mut [u8]) -> Reached
+    requires { (from < length s.now) × (start + 6 * (length s.now - from) ≤ length out.old) }
     ensures { (from < result.at) × (result.at ≤ length s.now) × Texted s.now from result.at start out.old result.o out.new }
 {
     let mut at = from;
     let mut o = start;
     while at < s.len() {
         let b = s[at];
-        if classes::class_in(t, b) == 1 {
+        if t.class(b) == 1 {
             let e = put_control(b, o, out);
             return Reached { at: at + 1, o: e };
         }
@@ -140,8 +139,8 @@ fn put_past(t: &[u8; 256], s: &[u8], from: usize, start: usize, out: &mut [u8]) 
 }
 
 // The same of all bytes, by eights: one that has a control goes byte by byte through it, one that stands as it is is stored at once.
-pub fn put_rest(t: &[u8; 256], s: &[u8], from: usize, start: usize, out: &mut [u8]) -> usize
-    requires { IsTable t.now × (from ≤ length s.now) × (start + 6 * (length s.now - from) ≤ length out.old) }
+pub fn put_rest(t: &Classes, s: &[u8], from: usize, start: usize, out: &mut [u8]) -> usize
+    requires { (from ≤ length s.now) × (start + 6 * (length s.now - from) ≤ length out.old) }
     ensures { Texted s.now from (length s.now) start out.old result out.new }
 {
     let mut at = from;

@@ -1,6 +1,6 @@
 // Runs of literal characters, which stand for themselves.
 ghost use Rattle.std.specs.Prelude.{true, ◌≡◌, ◌+◌, ◌<◌, ◌≤◌, length, get_or, drop};
-ghost use Rattle.utf8.specs.Class.{class_of, IsTable};
+ghost use Rattle.utf8.specs.Class.{class_of};
 ghost use Rattle.utf8.specs.Utf8.{tail};
 ghost use Rattle.notation.specs.declared.styles.Style.{Style};
 ghost use Rattle.notation.specs.Styles.{bare_class};
@@ -11,6 +11,7 @@ use crate::blocks;
 use notation::styles;
 use notation::styles::Style;
 use prelude::slices;
+use utf8::classes::Classes;
 use utf8::{chars, classes};
 
 fn bare_class(style: Style) -> u8
@@ -64,13 +65,13 @@ fn two_follow(s: &[u8], at: usize) -> bool
 
 // A place behind characters of the common lengths that are literal in every style. A length is added as a number and not as an
 // answer, so that the next byte needn't wait for this one's test.
-fn common_before(t: &[u8; 256], s: &[u8], from: usize, end: usize) -> usize
-    requires { IsTable t.now × (from ≤ length s.now) × (end ≤ length s.now) }
+fn common_before(t: &Classes, s: &[u8], from: usize, end: usize) -> usize
+    requires { (from ≤ length s.now) × (end ≤ length s.now) }
     ensures { (st : Style) → Running st s.now from result }
 {
     let mut at = from;
     while at < end {
-        let k = classes::class_in(t, s[at]);
+        let k = t.class(s[at]);
         if k == 0 {
             at += 1;
             continue;
@@ -94,13 +95,13 @@ fn common_before(t: &[u8; 256], s: &[u8], from: usize, end: usize) -> usize
 
 // The place behind the literal characters from a place on, one by one until an end is reached. Plain bytes never call: they are the
 // common case.
-fn chars_before(t: &[u8; 256], s: &[u8], from: usize, style: Style, end: usize) -> usize
-    requires { IsTable t.now × (from ≤ length s.now) × (end ≤ length s.now) }
+fn chars_before(t: &Classes, s: &[u8], from: usize, style: Style, end: usize) -> usize
+    requires { (from ≤ length s.now) × (end ≤ length s.now) }
     ensures { Ran style s.now from end result }
 {
     let mut at = from;
     while at < end {
-        let k = classes::class_in(t, s[at]);
+        let k = t.class(s[at]);
         if k == 0 {
             at += 1;
             continue;
@@ -115,8 +116,8 @@ fn chars_before(t: &[u8; 256], s: &[u8], from: usize, style: Style, end: usize) 
 }
 
 // Several literal characters at a time: by blocks, or by eights where less than a block is left.
-fn several(t: &[u8; 256], s: &[u8], from: usize, style: Style) -> usize
-    requires { IsTable t.now × (from ≤ length s.now) }
+fn several(t: &Classes, s: &[u8], from: usize, style: Style) -> usize
+    requires { from ≤ length s.now }
     ensures { Running style s.now from result }
 {
     if s.len() - from < 33 {
@@ -127,8 +128,8 @@ fn several(t: &[u8; 256], s: &[u8], from: usize, style: Style) -> usize
 
 // The place behind the literal characters from a place on, in a text most of which is likely to be one run. What ends the blocks is
 // passed one by one, 64 bytes of it, and then they are tried again.
-pub fn literal_run(t: &[u8; 256], s: &[u8], from: usize, style: Style) -> usize
-    requires { IsTable t.now × (from ≤ length s.now) }
+pub fn literal_run(t: &Classes, s: &[u8], from: usize, style: Style) -> usize
+    requires { from ≤ length s.now }
     ensures { result ≡ from + literal_run style 0 (drop from s.now) }
 {
     let mut at = from;
@@ -146,8 +147,8 @@ pub fn literal_run(t: &[u8; 256], s: &[u8], from: usize, style: Style) -> usize
 }
 
 // The same by blocks of 32, which tell where they end.
-fn run_on(t: &[u8; 256], s: &[u8], from: usize, style: Style) -> usize
-    requires { IsTable t.now × (from ≤ length s.now) }
+fn run_on(t: &Classes, s: &[u8], from: usize, style: Style) -> usize
+    requires { from ≤ length s.now }
     ensures { result ≡ from + literal_run style 0 (drop from s.now) }
 {
     let mut at = from;
@@ -169,8 +170,8 @@ fn run_on(t: &[u8; 256], s: &[u8], from: usize, style: Style) -> usize
 
 // The same inside a longer text, where a run is likely to end soon. The first block is tried here, so that a run that ends in it needs no
 // call.
-pub fn inner_run(t: &[u8; 256], s: &[u8], from: usize, style: Style) -> usize
-    requires { IsTable t.now × (from ≤ length s.now) }
+pub fn inner_run(t: &Classes, s: &[u8], from: usize, style: Style) -> usize
+    requires { from ≤ length s.now }
     ensures { result ≡ from + literal_run style 0 (drop from s.now) }
 {
     if s.len() - from < 32 {
@@ -187,8 +188,8 @@ pub fn inner_run(t: &[u8; 256], s: &[u8], from: usize, style: Style) -> usize
 }
 
 // The same where few are likely, as behind an escape: blocks come only behind the first sixteen bytes.
-pub fn short_run(t: &[u8; 256], s: &[u8], from: usize, style: Style) -> usize
-    requires { IsTable t.now × (from ≤ length s.now) }
+pub fn short_run(t: &Classes, s: &[u8], from: usize, style: Style) -> usize
+    requires { from ≤ length s.now }
     ensures { result ≡ from + literal_run style 0 (drop from s.now) }
 {
     let end = slices::soon(s.len(), from, 16);
@@ -200,8 +201,8 @@ pub fn short_run(t: &[u8; 256], s: &[u8], from: usize, style: Style) -> usize
 }
 
 // The same where the run is likely to have ended already.
-pub fn run_there(t: &[u8; 256], s: &[u8], from: usize, style: Style) -> usize
-    requires { IsTable t.now × (from ≤ length s.now) }
+pub fn run_there(t: &Classes, s: &[u8], from: usize, style: Style) -> usize
+    requires { from ≤ length s.now }
     ensures { result ≡ from + literal_run style 0 (drop from s.now) }
 {
     if blocks::ends(s, from, style) {

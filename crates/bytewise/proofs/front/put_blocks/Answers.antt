@@ -1,5 +1,4 @@
 use native.Mathlib.Omega.{arith}
-use Prim.Native.Nat.{◌-◌}
 use mathlib.Core.Path.{refl, ◌∙◌}
 use Rattle.bytewise.proofs.Fronts.{front_block, onward_then}
 use Rattle.bytewise.proofs.front.put_blocks.Goals as goal

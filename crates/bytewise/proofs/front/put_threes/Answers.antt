@@ -1,5 +1,4 @@
 use native.Mathlib.Omega.{arith}
-use Prim.Native.Nat.{◌-◌}
 use mathlib.Core.Path.{refl, ◌∙◌}
 use Rattle.bytewise.proofs.Fronts.{front_block, front_threes, threes_inside, onward_then}
 use Rattle.bytewise.proofs.front.put_threes.Goals as goal

@@ -1,5 +1,4 @@
 use native.Mathlib.Omega.{arith}
-use Prim.Native.Nat.{◌-◌}
 use Rattle.bytewise.proofs.ByteTexts.{texted_start, texted_next, texted_length, texted_bound, texted_end}
 use Rattle.bytewise.proofs.rest.put_eight.Goals as goal
 
@@ -7,14 +6,14 @@ pub loop-k-init : goal.loop-k-init
 loop-k-init c = (omega arith, texted_start _ _ _ _)
 
 pub overflow_add-from : goal.overflow_add-from
-overflow_add-from c = omega (arith, c.requires.1)
+overflow_add-from c = omega (arith, c.requires.0)
 
 pub bounds-s-from : goal.bounds-s-from
-bounds-s-from c = omega (arith, c.requires.1)
+bounds-s-from c = omega (arith, c.requires.0)
 
 pub put_slashed-o-requires : goal.put_slashed-o-requires
 put_slashed-o-requires c =
-    (c.requires.0, c.requires.2 _ (omega arith), omega (arith, c.requires.3, texted_bound _ _ _ _ _ _ _ c.loop-k.invariant.1, texted_length _ _ _ _ _ _ _ c.loop-k.invariant.1))
+    (c.requires.1 _ (omega arith), omega (arith, c.requires.2, texted_bound _ _ _ _ _ _ _ c.loop-k.invariant.1, texted_length _ _ _ _ _ _ _ c.loop-k.invariant.1))
 
 pub overflow_add-k : goal.overflow_add-k
 overflow_add-k c = omega arith
@@ -23,7 +22,7 @@ pub loop-k-smaller : goal.loop-k-smaller
 loop-k-smaller c = omega arith
 
 pub loop-k-preserved : goal.loop-k-preserved
-loop-k-preserved c = (omega arith, texted_next _ _ _ _ _ _ _ _ _ (omega (arith, c.requires.1)) c.loop-k.invariant.1 c.put_slashed-o.ensures)
+loop-k-preserved c = (omega arith, texted_next _ _ _ _ _ _ _ _ _ (omega (arith, c.requires.0)) c.loop-k.invariant.1 c.put_slashed-o.ensures)
 
 pub shape_of-out : goal.shape_of-out
 shape_of-out c = texted_length _ _ _ _ _ _ _ c.loop-k.invariant.1

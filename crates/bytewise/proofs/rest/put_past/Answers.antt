@@ -1,35 +1,31 @@
 use native.Mathlib.Omega.{arith}
-use Prim.Native.Nat.{◌-◌}
 use mathlib.Core.Path.{◌∙◌}
 use Rattle.bytewise.proofs.ByteTexts.{is_control, no_control, texted_none, texted_one, texted_then, texted_length, texted_bound}
 use Rattle.bytewise.proofs.rest.put_past.Goals as goal
 
 pub loop-at-init : goal.loop-at-init
-loop-at-init c = (omega arith, omega (arith, c.requires.1), texted_none _ _ _ _)
+loop-at-init c = (omega arith, omega (arith, c.requires.0), texted_none _ _ _ _)
 
 pub bounds-s-at : goal.bounds-s-at
 bounds-s-at c = omega arith
 
-pub class_in-requires : goal.class_in-requires
-class_in-requires c = c.requires.0
-
 pub put_control-e-requires : goal.put_control-e-requires
 put_control-e-requires c =
-    (is_control _ _ c.class_in.ensures c.if-class_in-eq1.true, omega (arith, c.requires.1, texted_bound _ _ _ _ _ _ _ c.loop-at.invariant.2, texted_length _ _ _ _ _ _ _ c.loop-at.invariant.2))
+    (is_control _ _ c.class.ensures c.if-class-eq1.true, omega (arith, c.requires.0, texted_bound _ _ _ _ _ _ _ c.loop-at.invariant.2, texted_length _ _ _ _ _ _ _ c.loop-at.invariant.2))
 
 pub overflow_add-result : goal.overflow_add-result
 overflow_add-result c = omega arith
 
-pub shape_of-out-then-class_in-eq1 : goal.shape_of-out-then-class_in-eq1
-shape_of-out-then-class_in-eq1 c = c.put_control-e.auto.out ∙ texted_length _ _ _ _ _ _ _ c.loop-at.invariant.2
+pub shape_of-out-then-class-eq1 : goal.shape_of-out-then-class-eq1
+shape_of-out-then-class-eq1 c = c.put_control-e.auto.out ∙ texted_length _ _ _ _ _ _ _ c.loop-at.invariant.2
 
-pub returns-then-class_in-eq1 : goal.returns-then-class_in-eq1
-returns-then-class_in-eq1 c =
+pub returns-then-class-eq1 : goal.returns-then-class-eq1
+returns-then-class-eq1 c =
     (omega (arith, c.loop-at.invariant.0), omega arith, texted_then _ _ _ _ _ _ _ _ _ _ c.loop-at.invariant.0 (omega arith) c.loop-at.invariant.2 (texted_one _ _ _ _ _ _ (omega arith) c.put_control-e.ensures))
 
 pub put_slashed-o-requires : goal.put_slashed-o-requires
 put_slashed-o-requires c =
-    (c.requires.0, no_control _ _ c.class_in.ensures c.if-class_in-eq1.false, omega (arith, c.requires.1, texted_bound _ _ _ _ _ _ _ c.loop-at.invariant.2, texted_length _ _ _ _ _ _ _ c.loop-at.invariant.2))
+    (no_control _ _ c.class.ensures c.if-class-eq1.false, omega (arith, c.requires.0, texted_bound _ _ _ _ _ _ _ c.loop-at.invariant.2, texted_length _ _ _ _ _ _ _ c.loop-at.invariant.2))
 
 pub overflow_add-at : goal.overflow_add-at
 overflow_add-at c = omega arith
@@ -45,4 +41,4 @@ pub shape_of-out : goal.shape_of-out
 shape_of-out c = texted_length _ _ _ _ _ _ _ c.loop-at.invariant.2
 
 pub returns : goal.returns
-returns c = (omega (arith, c.requires.1), c.loop-at.invariant.1, c.loop-at.invariant.2)
+returns c = (omega (arith, c.requires.0), c.loop-at.invariant.1, c.loop-at.invariant.2)

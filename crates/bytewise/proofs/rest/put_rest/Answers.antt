@@ -1,11 +1,10 @@
 use native.Mathlib.Omega.{arith}
-use Prim.Native.Nat.{◌-◌}
 use mathlib.Core.Path.{◌∙◌}
 use Rattle.bytewise.proofs.ByteTexts.{texted_none, texted_same, texted_then, texted_length, texted_bound}
 use Rattle.bytewise.proofs.rest.put_rest.Goals as goal
 
 pub loop-at-init : goal.loop-at-init
-loop-at-init c = (omega arith, omega (arith, c.requires.1), texted_none _ _ _ _)
+loop-at-init c = (omega arith, omega (arith, c.requires.0), texted_none _ _ _ _)
 
 pub overflow_sub-s : goal.overflow_sub-s
 overflow_sub-s c = omega (arith, c.loop-at.invariant.1)
@@ -15,7 +14,7 @@ any_control-requires c = omega (arith, c.loop-at.invariant.1)
 
 pub put_past-p-requires : goal.put_past-p-requires
 put_past-p-requires c =
-    (c.requires.0, omega arith, omega (arith, c.requires.1, c.loop-at.invariant.0, c.loop-at.invariant.1, texted_bound _ _ _ _ _ _ _ c.loop-at.invariant.2, texted_length _ _ _ _ _ _ _ c.loop-at.invariant.2))
+    (omega arith, omega (arith, c.requires.0, c.loop-at.invariant.0, c.loop-at.invariant.1, texted_bound _ _ _ _ _ _ _ c.loop-at.invariant.2, texted_length _ _ _ _ _ _ _ c.loop-at.invariant.2))
 
 pub loop-at-smaller-then-any_control : goal.loop-at-smaller-then-any_control
 loop-at-smaller-then-any_control c = omega (arith, c.put_past-p.ensures.0, c.put_past-p.ensures.1)
@@ -29,7 +28,7 @@ any_slashed-requires c = omega (arith, c.loop-at.invariant.1)
 
 pub put_eight-o-requires : goal.put_eight-o-requires
 put_eight-o-requires c =
-    (c.requires.0, omega (arith, c.loop-at.invariant.1), c.any_control.ensures c.if-any_control.false, omega (arith, c.requires.1, c.loop-at.invariant.0, c.loop-at.invariant.1, texted_bound _ _ _ _ _ _ _ c.loop-at.invariant.2, texted_length _ _ _ _ _ _ _ c.loop-at.invariant.2))
+    (omega (arith, c.loop-at.invariant.1), c.any_control.ensures c.if-any_control.false, omega (arith, c.requires.0, c.loop-at.invariant.0, c.loop-at.invariant.1, texted_bound _ _ _ _ _ _ _ c.loop-at.invariant.2, texted_length _ _ _ _ _ _ _ c.loop-at.invariant.2))
 
 pub overflow_add-at : goal.overflow_add-at
 overflow_add-at c = omega (arith, c.loop-at.invariant.1)
@@ -43,14 +42,14 @@ loop-at-preserved-then-any_slashed c =
 
 pub copy-requires : goal.copy-requires
 copy-requires c =
-    (omega (arith, c.loop-at.invariant.1), omega (arith, c.requires.1, c.loop-at.invariant.0, c.loop-at.invariant.1, texted_bound _ _ _ _ _ _ _ c.loop-at.invariant.2, texted_length _ _ _ _ _ _ _ c.loop-at.invariant.2))
+    (omega (arith, c.loop-at.invariant.1), omega (arith, c.requires.0, c.loop-at.invariant.0, c.loop-at.invariant.1, texted_bound _ _ _ _ _ _ _ c.loop-at.invariant.2, texted_length _ _ _ _ _ _ _ c.loop-at.invariant.2))
 
 pub overflow_add-at-in-loop-at : goal.overflow_add-at-in-loop-at
 overflow_add-at-in-loop-at c = omega (arith, c.loop-at.invariant.1)
 
 pub overflow_add-o : goal.overflow_add-o
 overflow_add-o c =
-    omega (arith, c.requires.1, c.loop-at.invariant.0, c.loop-at.invariant.1, texted_bound _ _ _ _ _ _ _ c.loop-at.invariant.2, texted_length _ _ _ _ _ _ _ c.loop-at.invariant.2)
+    omega (arith, c.requires.0, c.loop-at.invariant.0, c.loop-at.invariant.1, texted_bound _ _ _ _ _ _ _ c.loop-at.invariant.2, texted_length _ _ _ _ _ _ _ c.loop-at.invariant.2)
 
 pub loop-at-smaller : goal.loop-at-smaller
 loop-at-smaller c = omega (arith, c.loop-at.invariant.1)
@@ -61,7 +60,7 @@ loop-at-preserved c =
 
 pub put_texts-requires : goal.put_texts-requires
 put_texts-requires c =
-    (c.requires.0, c.loop-at.invariant.1, omega (arith, c.requires.1, c.loop-at.invariant.0, c.loop-at.invariant.1, texted_bound _ _ _ _ _ _ _ c.loop-at.invariant.2, texted_length _ _ _ _ _ _ _ c.loop-at.invariant.2))
+    (c.loop-at.invariant.1, omega (arith, c.requires.0, c.loop-at.invariant.0, c.loop-at.invariant.1, texted_bound _ _ _ _ _ _ _ c.loop-at.invariant.2, texted_length _ _ _ _ _ _ _ c.loop-at.invariant.2))
 
 pub shape_of-out : goal.shape_of-out
 shape_of-out c = c.put_texts.auto.out ∙ texted_length _ _ _ _ _ _ _ c.loop-at.invariant.2

@@ -6,7 +6,7 @@ use Rattle.bytewise.proofs.ByteTexts.{text_stored, slash_within, slash_class, cl
 use Rattle.bytewise.proofs.rest.put_slashed.Goals as goal
 
 pub slashes-requires : goal.slashes-requires
-slashes-requires c = class_few _ _ c.class_in.ensures
+slashes-requires c = class_few _ _ c.class.ensures
 
 pub overflow_add-e : goal.overflow_add-e
 overflow_add-e c = omega (arith, slash_within _ _ c.slashes.ensures)
@@ -24,4 +24,4 @@ pub shape_of-out : goal.shape_of-out
 shape_of-out c = simp length-set refl
 
 pub returns : goal.returns
-returns c = text_stored _ _ _ c.args.out.now c.requires.1 (slash_class _ _ _ c.class_in.ensures c.slashes.ensures)
+returns c = text_stored _ _ _ c.args.out.now c.requires.0 (slash_class _ _ _ c.class.ensures c.slashes.ensures)

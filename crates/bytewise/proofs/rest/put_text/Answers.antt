@@ -4,13 +4,13 @@ use Rattle.bytewise.proofs.ByteTexts.{is_control, no_control}
 use Rattle.bytewise.proofs.rest.put_text.Goals as goal
 
 pub put_control-requires : goal.put_control-requires
-put_control-requires c = (is_control _ _ c.class_in.ensures c.if-class_in-eq1.true, omega arith)
+put_control-requires c = (is_control _ _ c.class.ensures c.if-class-eq1.true, omega arith)
 
-pub returns-then-class_in-eq1 : goal.returns-then-class_in-eq1
-returns-then-class_in-eq1 c = c.put_control.ensures
+pub returns-then-class-eq1 : goal.returns-then-class-eq1
+returns-then-class-eq1 c = c.put_control.ensures
 
 pub put_slashed-requires : goal.put_slashed-requires
-put_slashed-requires c = (c.requires.0, no_control _ _ c.class_in.ensures c.if-class_in-eq1.false, omega arith)
+put_slashed-requires c = (no_control _ _ c.class.ensures c.if-class-eq1.false, omega arith)
 
 pub returns : goal.returns
 returns c = c.put_slashed.ensures

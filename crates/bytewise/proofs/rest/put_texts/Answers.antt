@@ -1,26 +1,25 @@
 use native.Mathlib.Omega.{arith}
-use Prim.Native.Nat.{◌-◌}
 use Rattle.bytewise.proofs.ByteTexts.{texted_none, texted_one, texted_then, texted_length, texted_bound, texted_end}
 use Rattle.bytewise.proofs.rest.put_texts.Goals as goal
 
 pub loop-at-init : goal.loop-at-init
-loop-at-init c = (omega arith, omega (arith, c.requires.1), texted_none _ _ _ _)
+loop-at-init c = (omega arith, omega (arith, c.requires.0), texted_none _ _ _ _)
 
 pub bounds-s-at : goal.bounds-s-at
-bounds-s-at c = omega (arith, c.requires.1)
+bounds-s-at c = omega (arith, c.requires.0)
 
 pub put_text-o-requires : goal.put_text-o-requires
-put_text-o-requires c = (c.requires.0, omega (arith, c.requires.1, texted_bound _ _ _ _ _ _ _ c.loop-at.invariant.2, texted_length _ _ _ _ _ _ _ c.loop-at.invariant.2))
+put_text-o-requires c = (omega (arith, c.requires.0, texted_bound _ _ _ _ _ _ _ c.loop-at.invariant.2, texted_length _ _ _ _ _ _ _ c.loop-at.invariant.2))
 
 pub overflow_add-at : goal.overflow_add-at
-overflow_add-at c = omega (arith, c.requires.1)
+overflow_add-at c = omega (arith, c.requires.0)
 
 pub loop-at-smaller : goal.loop-at-smaller
 loop-at-smaller c = omega arith
 
 pub loop-at-preserved : goal.loop-at-preserved
 loop-at-preserved c =
-    (omega arith, omega arith, texted_then _ _ _ _ _ _ _ _ _ _ c.loop-at.invariant.0 (omega arith) c.loop-at.invariant.2 (texted_one _ _ _ _ _ _ (omega (arith, c.requires.1)) c.put_text-o.ensures))
+    (omega arith, omega arith, texted_then _ _ _ _ _ _ _ _ _ _ c.loop-at.invariant.0 (omega arith) c.loop-at.invariant.2 (texted_one _ _ _ _ _ _ (omega (arith, c.requires.0)) c.put_text-o.ensures))
 
 pub shape_of-out : goal.shape_of-out
 shape_of-out c = texted_length _ _ _ _ _ _ _ c.loop-at.invariant.2

@@ -1,4 +1,3 @@
-use Prim.Native.Nat.{◌-◌}
 use native.Mathlib.Omega.{arith}
 use Rattle.runs.proofs.LiteralRuns.{here, further}
 use Rattle.runs.proofs.BlockLaws.{over_block}

@@ -1,4 +1,4 @@
-use Prim.Native.Nat.{◌-◌, ◌<◌}
+use Prim.Native.Nat.{◌<◌}
 use mathlib.Core.Path.{sym, ◌∙◌}
 use native.Mathlib.Omega.{arith}
 use lib.ListN.{length}
@@ -7,13 +7,10 @@ use Rattle.runs.proofs.LiteralRuns.{here, moved}
 use Rattle.runs.proofs.literals.chars_before.Goals as goal
 
 pub loop-at-init : goal.loop-at-init
-loop-at-init c = here _ _ _ c.requires.1
+loop-at-init c = here _ _ _ c.requires.0
 
 pub bounds-s-at : goal.bounds-s-at
 bounds-s-at c = omega arith
-
-pub class_in-k-requires : goal.class_in-k-requires
-class_in-k-requires c = c.requires.0
 
 pub overflow_add-at : goal.overflow_add-at
 overflow_add-at c = omega arith
@@ -24,10 +21,10 @@ loop-at-smaller-then-k-eq0 c = omega arith
 pub loop-at-preserved-then-k-eq0 : goal.loop-at-preserved-then-k-eq0
 loop-at-preserved-then-k-eq0 c =
     let h : c.loop-at.at < length c.args.s.now = omega arith in
-    moved _ _ _ _ 1 c.loop-at.invariant (plain_char _ _ _ _ h c.class_in-k.ensures c.if-k-eq0.true)
+    moved _ _ _ _ 1 c.loop-at.invariant (plain_char _ _ _ _ h c.class-k.ensures c.if-k-eq0.true)
 
 pub literal_len-n-requires : goal.literal_len-n-requires
-literal_len-n-requires c = (omega arith, c.class_in-k.ensures)
+literal_len-n-requires c = (omega arith, c.class-k.ensures)
 
 pub returns-then-n-eq0 : goal.returns-then-n-eq0
 returns-then-n-eq0 c = record { run = c.loop-at.invariant; stop = λ h. sym c.if-n-eq0.true ∙ c.literal_len-n.ensures }

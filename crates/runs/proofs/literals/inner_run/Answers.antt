@@ -10,12 +10,12 @@ returns-then-s-from-lt32 c = c.run_on.ensures
 
 pub returns-then-k-ge32 : goal.returns-then-k-ge32
 returns-then-k-ge32 c =
-    c.run_on-then-k-ge32.ensures ∙ (over_block _ _ _ _ c.quote_of.ensures 32 _ (here _ _ _ c.requires.1) (omega arith) (λ j h. c.first_odd-k.ensures j h (omega arith))).same
+    c.run_on-then-k-ge32.ensures ∙ (over_block _ _ _ _ c.quote_of.ensures 32 _ (here _ _ _ c.requires) (omega arith) (λ j h. c.first_odd-k.ensures j h (omega arith))).same
 
 pub returns-then-ends : goal.returns-then-ends
 returns-then-ends c =
-    stopped _ _ _ _ (over_block _ _ _ _ c.quote_of.ensures c.first_odd-k.result _ (here _ _ _ c.requires.1) (omega arith) (λ j h. c.first_odd-k.ensures j (omega arith) h)) (c.ends.ensures c.if-ends.true)
+    stopped _ _ _ _ (over_block _ _ _ _ c.quote_of.ensures c.first_odd-k.result _ (here _ _ _ c.requires) (omega arith) (λ j h. c.first_odd-k.ensures j (omega arith) h)) (c.ends.ensures c.if-ends.true)
 
 pub returns : goal.returns
 returns c =
-    c.run_on-2.ensures ∙ (over_block _ _ _ _ c.quote_of.ensures c.first_odd-k.result _ (here _ _ _ c.requires.1) (omega arith) (λ j h. c.first_odd-k.ensures j (omega arith) h)).same
+    c.run_on-2.ensures ∙ (over_block _ _ _ _ c.quote_of.ensures c.first_odd-k.result _ (here _ _ _ c.requires) (omega arith) (λ j h. c.first_odd-k.ensures j (omega arith) h)).same

@@ -1,22 +1,21 @@
-use Prim.Native.Nat.{◌-◌}
 use native.Mathlib.Omega.{arith}
 use Rattle.runs.proofs.LiteralRuns.{here, at_end_lem, turn_stopped, turn_on, turn_less}
 use Rattle.runs.proofs.literals.literal_run.Goals as goal
 
 pub loop-at-init : goal.loop-at-init
-loop-at-init c = here _ _ _ c.requires.1
+loop-at-init c = here _ _ _ c.requires
 
 pub several-mid-requires : goal.several-mid-requires
-several-mid-requires c = (c.requires.0, c.loop-at.invariant.inside)
+several-mid-requires c = c.loop-at.invariant.inside
 
 pub soon-end-requires : goal.soon-end-requires
 soon-end-requires c = (c.several-mid.ensures.inside, omega arith)
 
 pub common_before-most-requires : goal.common_before-most-requires
-common_before-most-requires c = (c.requires.0, c.several-mid.ensures.inside, c.soon-end.ensures.within.0)
+common_before-most-requires c = (c.several-mid.ensures.inside, c.soon-end.ensures.within.0)
 
 pub chars_before-next-requires : goal.chars_before-next-requires
-chars_before-next-requires c = (c.requires.0, (c.common_before-most.ensures c.args.style).inside, c.soon-end.ensures.within.0)
+chars_before-next-requires c = ((c.common_before-most.ensures c.args.style).inside, c.soon-end.ensures.within.0)
 
 pub returns-then-next-end : goal.returns-then-next-end
 returns-then-next-end c = search turn_stopped

@@ -1,10 +1,9 @@
-use Prim.Native.Nat.{◌-◌}
 use native.Mathlib.Omega.{arith}
 use Rattle.runs.proofs.LiteralRuns.{here, further, stopped, at_end_lem, turn_stopped, turn_on, turn_less}
 use Rattle.runs.proofs.literals.run_on.Goals as goal
 
 pub loop-at-init : goal.loop-at-init
-loop-at-init c = here _ _ _ c.requires.1
+loop-at-init c = here _ _ _ c.requires
 
 pub thirty_twos-mid-requires : goal.thirty_twos-mid-requires
 thirty_twos-mid-requires c = c.loop-at.invariant.inside
@@ -19,10 +18,10 @@ pub soon-end-requires : goal.soon-end-requires
 soon-end-requires c = (c.thirty_twos-mid.ensures.inside, omega arith)
 
 pub common_before-most-requires : goal.common_before-most-requires
-common_before-most-requires c = (c.requires.0, c.thirty_twos-mid.ensures.inside, c.soon-end.ensures.within.0)
+common_before-most-requires c = (c.thirty_twos-mid.ensures.inside, c.soon-end.ensures.within.0)
 
 pub chars_before-next-requires : goal.chars_before-next-requires
-chars_before-next-requires c = (c.requires.0, (c.common_before-most.ensures c.args.style).inside, c.soon-end.ensures.within.0)
+chars_before-next-requires c = ((c.common_before-most.ensures c.args.style).inside, c.soon-end.ensures.within.0)
 
 pub returns-then-next-end : goal.returns-then-next-end
 returns-then-next-end c = search turn_stopped

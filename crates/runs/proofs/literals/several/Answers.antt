@@ -3,4 +3,4 @@ use Rattle.runs.proofs.LiteralRuns.{begun}
 use Rattle.runs.proofs.literals.several.Goals as goal
 
 pub returns-then-s-from-lt33 : goal.returns-then-s-from-lt33
-returns-then-s-from-lt33 c = begun _ _ _ _ c.requires.1 c.plain_eights.ensures
+returns-then-s-from-lt33 c = begun _ _ _ _ c.requires c.plain_eights.ensures

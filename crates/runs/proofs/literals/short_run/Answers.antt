@@ -5,16 +5,16 @@ use Rattle.runs.proofs.LiteralRuns.{stopped}
 use Rattle.runs.proofs.literals.short_run.Goals as goal
 
 pub soon-end-requires : goal.soon-end-requires
-soon-end-requires c = (c.requires.1, omega arith)
+soon-end-requires c = (c.requires, omega arith)
 
 pub chars_before-at-requires : goal.chars_before-at-requires
-chars_before-at-requires c = (c.requires.0, c.requires.1, c.soon-end.ensures.within.0)
+chars_before-at-requires c = (c.requires, c.soon-end.ensures.within.0)
 
 pub returns-then-at-end : goal.returns-then-at-end
 returns-then-at-end c = stopped _ _ _ _ c.chars_before-at.ensures.run (c.chars_before-at.ensures.stop c.if-at-end.true)
 
 pub run_on-requires : goal.run_on-requires
-run_on-requires c = (c.requires.0, c.chars_before-at.ensures.run.inside)
+run_on-requires c = c.chars_before-at.ensures.run.inside
 
 pub returns : goal.returns
 returns c = c.run_on.ensures ∙ c.chars_before-at.ensures.run.same
