@@ -21,7 +21,7 @@ use Rattle.strings.proofs.Steps.{read_skip, read_closes, read_took, read_fault}
 
 abbrev pub Raw : ℕ → List ℕ → StringRead → Type 0
 Raw p s (accepted bs e) = (p + length bs + 1 ≤ e) × (p + length bs + 1 ≡ e → bs ≡ take (length bs) s)
-Raw p s (refused number at) = Unit
+Raw p s (refused refusal at) = Unit
 
 raw_more : (p n : ℕ) (bs s : List ℕ) (r : StringRead) → length bs ≤ n → (length bs ≡ n → bs ≡ take n s) → Raw (p + n) (drop n s) r → Raw p s (more bs r)
 raw_more p n bs s (accepted cs e) l f b =
@@ -31,7 +31,7 @@ raw_more p n bs s (accepted cs e) l f b =
           let c : cs ≡ take (length cs) (drop n s) = b.1 (omega arith) in
           (λ i. f m i ++ c i) ∙ sym (take-add n (length cs) s) ∙ ap (λ (k : ℕ). take k s) (let q : n + length cs ≡ length (bs ++ cs) = omega arith in q),
     )
-raw_more p n bs s (refused number at) l f b = tt
+raw_more p n bs s (refused refusal at) l f b = tt
 
 raw_one : (st : Style) (x : ℕ) (r : List ℕ) → ((k p : ℕ) → Raw p (drop k r) (read_units st p 0 (drop k r))) → (p : ℕ) → Raw p (x ∷ r) (read_units st p 0 (x ∷ r))
 raw_one st x r ih p = go (unit_at st (x ∷ r)) refl
@@ -42,7 +42,7 @@ raw_one st x r ih p = go (unit_at st (x ∷ r)) refl
     go (took (suc n) bs) e =
         let t = took_raw st (x ∷ r) (suc n) bs e in
         rw (read_took st p (x ∷ r) (suc n) bs e) (raw_more p (suc n) bs (x ∷ r) (read_units st (p + suc n) 0 (drop n r)) t.0 t.1 (ih n (p + suc n)))
-    go (fault number) e = rw (read_fault st p (x ∷ r) number e) tt
+    go (fault refusal) e = rw (read_fault st p (x ∷ r) refusal e) tt
 
 pub units_raw : (st : Style) (s : List ℕ) (p : ℕ) → Raw p s (read_units st p 0 s)
 unfolding read_units
@@ -51,11 +51,11 @@ units_raw st = by_suffix (λ s. (p : ℕ) → Raw p s (read_units st p 0 s)) (λ
 -- bytes denoted in front of the end
 abbrev pub Less : StringRead → Type 0
 Less (accepted bs e) = length bs < e
-Less (refused number at) = Unit
+Less (refused refusal at) = Unit
 
 less_raw : (p : ℕ) (s : List ℕ) (r : StringRead) → Raw p s r → Less r
 less_raw p s (accepted bs e) h = omega (arith, h.0)
-less_raw p s (refused number at) h = tt
+less_raw p s (refused refusal at) h = tt
 
 from_less : (o : Opening) (s : List ℕ) → Less (read_from o s)
 from_less (opens st n) s = rw (read_skip st n n s) (less_raw n (drop n s) (read_units st n 0 (drop n s)) (units_raw st (drop n s) n))
@@ -63,7 +63,7 @@ from_less unopened s = tt
 
 whole_less : (m : ℕ) (r : StringRead) → Less r → Less (nothing_behind m r)
 whole_less m (accepted bs e) h = pick_case Less (eqb e m) _ _ (λ q. h) (λ q. tt)
-whole_less m (refused number at) h = tt
+whole_less m (refused refusal at) h = tt
 
 pub token_length : (s : List ℕ) → Less (read_token s)
 unfolding read_token

@@ -1,4 +1,4 @@
--- The numbers of a string's refusals: a unit's own, or that the text ends, or that it goes on behind the string; unit by unit.
+-- A string's refusals: a unit's own, or that the text ends, or that it goes on behind the string; unit by unit.
 -- Assumes nothing.
 use Prim.Native.Nat.{ℕ, pred, ◌+◌}
 use mathlib.Core.List.{List, [], ◌∷◌}
@@ -19,11 +19,11 @@ use Rattle.strings.proofs.Steps.{read_skip}
 
 abbrev pub StringFault : StringRead → Type 0
 StringFault (accepted bs e) = Unit
-StringFault (refused number at) = TextFault number
+StringFault (refused refusal at) = TextFault refusal
 
 more_fault : (bs : List ℕ) (r : StringRead) → StringFault r → StringFault (more bs r)
 more_fault bs (accepted cs e) h = h
-more_fault bs (refused number at) h = h
+more_fault bs (refused refusal at) h = h
 
 abbrev UnitsFault : Style → List ℕ → Type 0
 UnitsFault st s = (p : ℕ) → StringFault (read_units st p 0 s)
@@ -40,14 +40,14 @@ fault_one st x r ih p = go (unit_at st (x ∷ r)) refl
     go close e = tt
     go (took n bs) e =
         rw (read_skip st (p + n) (pred n) r) (more_fault bs (read_units st (p + n) 0 (drop (pred n) r)) (ih (pred n) (p + n)))
-    go (fault number) e = inr (inr (unit_fault st x r number e))
+    go (fault refusal) e = inr (inr (unit_fault st x r refusal e))
 
 from_fault : (st : Style) (n : ℕ) (s : List ℕ) → StringFault (read_from (opens st n) s)
 from_fault st n s = rw (read_skip st n n s) (by_suffix (UnitsFault st) (fault_none st) (fault_one st) (drop n s) n)
 
 whole_fault : (m : ℕ) (r : StringRead) → StringFault r → StringFault (nothing_behind m r)
 whole_fault m (accepted bs e) h = pick_case StringFault (eqb e m) _ _ (λ q. tt) (λ q. inr (inl refl))
-whole_fault m (refused number at) h = h
+whole_fault m (refused refusal at) h = h
 
 -- where an opening mark stands: of a string in front of any text, and of a text
 pub token_fault : (st : Style) (n : ℕ) (s : List ℕ) → opening s ≡ opens st n → StringFault (read_token s)
@@ -61,11 +61,11 @@ string_fault st n s e = whole_fault (length s) (read_token s) (token_fault st n 
 -- of any text
 abbrev pub StringNumber : StringRead → Type 0
 StringNumber (accepted bs e) = Unit
-StringNumber (refused number at) = (number ≡ no_opening) ⊎ TextFault number
+StringNumber (refused refusal at) = (refusal ≡ no_opening) ⊎ TextFault refusal
 
 opened_number : (r : StringRead) → StringFault r → StringNumber r
 opened_number (accepted bs e) f = tt
-opened_number (refused number at) f = inr f
+opened_number (refused refusal at) f = inr f
 
 pub string_number : (s : List ℕ) → StringNumber (read_string s)
 unfolding read_string read_token

@@ -4,13 +4,13 @@ use Prim.Native.Nat.{ℕ, pred, ◌+◌, ◌≤◌, ◌<◌}
 use Prim.Native.Char.{code}
 use mathlib.Core.Bool.{true, ◌&&◌}
 use mathlib.Core.List.{List, [], ◌∷◌}
-use mathlib.Core.Path.{◌≡◌, refl}
+use mathlib.Core.Path.{◌≡◌, refl, ap}
 use native.Mathlib.Omega.{arith}
 use lib.Dec.{ltb, eqb, lit<}
 use lib.ListN.{length, drop, get_or, length-drop}
 use borrow.Author.Tests.{eqb-true}
 use Rattle.prelude.specs.Bytes.{double_quote, single_quote}
-use Rattle.prelude.specs.Refusals.{cut_off}
+use Rattle.prelude.specs.Refusals.{number_of, cut_off}
 use Rattle.prelude.proofs.Cases.{and_right}
 use Rattle.prelude.proofs.Numbers.{unit_apart}
 use Rattle.prelude.proofs.Picks.{pick_case}
@@ -28,11 +28,11 @@ use Rattle.strings.proofs.Steps.{read_skip}
 -- from the place p on, in a text of m bytes
 abbrev pub Inside : ℕ → ℕ → StringRead → Type 0
 Inside p m (accepted bs e) = (p < e) × (e ≤ m)
-Inside p m (refused number at) = ((p ≤ at) × (at ≤ m)) × (number ≡ cut_off → at ≡ m)
+Inside p m (refused refusal at) = ((p ≤ at) × (at ≤ m)) × (refusal ≡ cut_off → at ≡ m)
 
 inside_more : (p q m : ℕ) (bs : List ℕ) (r : StringRead) → p ≤ q → Inside q m r → Inside p m (more bs r)
 inside_more p q m bs (accepted cs e) h i = omega arith
-inside_more p q m bs (refused number at) h i = (omega (arith, i.0), i.1)
+inside_more p q m bs (refused refusal at) h i = (omega (arith, i.0), i.1)
 
 abbrev UnitsInside : Style → List ℕ → Type 0
 UnitsInside st s = (p m : ℕ) → m ≡ p + length s → Inside p m (read_units st p 0 s)
@@ -52,7 +52,7 @@ inside_one st x r ih p m h = go (unit_at st (x ∷ r)) refl
         rw (read_skip st (p + n) (pred n) r)
         (inside_more p (p + n) m bs (read_units st (p + n) 0 (drop (pred n) r)) (omega arith)
         (ih (pred n) (p + n) m (omega (arith, length-drop (pred n) r))))
-    go (fault number) e = (omega arith, λ q. absurd (unit_apart number (unit_fault st x r number e) q))
+    go (fault refusal) e = (omega arith, λ q. absurd (unit_apart refusal (unit_fault st x r refusal e) q))
 
 pub units_inside : (st : Style) (s : List ℕ) (p m : ℕ) → m ≡ p + length s → Inside p m (read_units st p 0 s)
 units_inside st = by_suffix (UnitsInside st) (inside_none st) (inside_one st)
@@ -83,27 +83,27 @@ from_inside s (opens st n) h =
   where
     weaken : (r : StringRead) → Inside n (length s) r → Inside 0 (length s) r
     weaken (accepted bs e) i = omega arith
-    weaken (refused number at) i = (omega (arith, i.0), i.1)
-from_inside s unopened h = (omega arith, λ e. absurd (omega arith))
+    weaken (refused refusal at) i = (omega (arith, i.0), i.1)
+from_inside s unopened h = (omega arith, λ e. absurd (omega (arith, ap number_of e)))
 
 pub token_inside : (s : List ℕ) → Inside 0 (length s) (read_token s)
 unfolding read_token
 token_inside s = from_inside s (opening s) (opening_fits s)
 
 whole_inside : (m : ℕ) (r : StringRead) → Inside 0 m r → Inside 0 m (nothing_behind m r)
-whole_inside m (accepted bs e) h = pick_case (Inside 0 m) (eqb e m) _ _ (λ q. h) (λ q. (omega arith, λ z. absurd (omega arith)))
-whole_inside m (refused number at) h = h
+whole_inside m (accepted bs e) h = pick_case (Inside 0 m) (eqb e m) _ _ (λ q. h) (λ q. (omega arith, λ z. absurd (omega (arith, ap number_of z))))
+whole_inside m (refused refusal at) h = h
 
 pub string_inside : (s : List ℕ) → Inside 0 (length s) (read_string s)
 unfolding read_string
 string_inside s = whole_inside (length s) (read_token s) (token_inside s)
 
 fitted_inside : (room m : ℕ) (r : StringRead) → Inside 0 m r → Inside 0 m (fitted room r)
-fitted_inside room m (accepted bs e) h = pick_case (Inside 0 m) (ltb room (length bs)) _ _ (λ q. (omega arith, λ z. absurd (omega arith))) (λ q. h)
-fitted_inside room m (refused number at) h = h
+fitted_inside room m (accepted bs e) h = pick_case (Inside 0 m) (ltb room (length bs)) _ _ (λ q. (omega arith, λ z. absurd (omega (arith, ap number_of z)))) (λ q. h)
+fitted_inside room m (refused refusal at) h = h
 
 pub text_inside : (room : ℕ) (s : List ℕ) → Inside 0 (length s) (read_text room s)
 unfolding read_text
 text_inside room s =
-    pick_case (Inside 0 (length s)) (ltb text_max (length s)) _ _ (λ q. (omega arith, λ z. absurd (omega arith)))
+    pick_case (Inside 0 (length s)) (ltb text_max (length s)) _ _ (λ q. (omega arith, λ z. absurd (omega (arith, ap number_of z))))
     (λ q. fitted_inside room (length s) (read_string s) (string_inside s))

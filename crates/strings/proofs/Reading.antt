@@ -5,12 +5,16 @@ use mathlib.Core.List.{List, [], ◌∷◌, ◌++◌, append_assoc}
 use mathlib.Core.Path.{◌≡◌, refl, sym, ap, ◌∙◌, subst}
 use native.Mathlib.Omega.{arith}
 use lib.ListN.{length, take, drop, length-drop, length-append}
+use Rattle.std.specs.Prelude.{Result, Ok, Err}
+use Rattle.prelude.specs.declared.refusals.Refusal.{Refusal}
+use Rattle.prelude.specs.declared.refusals.Refused.{Refused}
+use Rattle.prelude.specs.Refusals.{refused_at}
 use lib.Seq.{sets, drop-drop, length-take-le}
 use Rattle.prelude.proofs.Cases.{never}
 use Rattle.prelude.proofs.Stores.{sets_append}
 use Rattle.notation.specs.declared.styles.Style.{Style}
 use Rattle.notation.specs.declared.styles.Unit.{Unit as Found}
-use Rattle.notation.specs.declared.styles.Unit.TheVariants.{Close, Took, Fault}
+use Rattle.notation.specs.declared.styles.Unit.TheVariants.{Close, Took}
 use Rattle.utf8.specs.declared.encoding.Few.{Few}
 use Rattle.utf8.specs.Utf8.{few_of}
 use Rattle.notation.specs.Styles.{StringUnit, close, took, fault, unit_of, FewOf}
@@ -19,40 +23,39 @@ use Rattle.units.specs.Units.{unit_at}
 use Rattle.notation.proofs.LiteralLaws.{run_fits}
 use Rattle.units.proofs.Sizes.{took_size, took_raw}
 use Rattle.strings.specs.declared.answers.Token.{Token}
-use Rattle.strings.specs.declared.answers.Token.TheVariants.{Ended, Failed}
 use Rattle.strings.specs.declared.read.Turned.{Turned}
-use Rattle.strings.specs.declared.read.Turned.TheVariants.{On, Finish, Refuse}
-use Rattle.strings.specs.Read.{StringRead, accepted, refused, more, read_units, token_of}
+use Rattle.strings.specs.declared.read.Turned.TheVariants.{On, Finish}
+use Rattle.strings.specs.Read.{StringRead, accepted, refused, more, read_units, token_at, token_of}
 use Rattle.strings.specs.inner.Turns.{unit_turn, unit_bytes, turn_of, turn_bytes, units_bytes, Advanced}
 use Rattle.strings.proofs.Steps.{read_closes, read_fault, read_took, more_none, more_more}
 use Rattle.strings.proofs.Runs.{run_law}
 use Rattle.strings.proofs.UnitBytes.{bytes_close, bytes_fault, bytes_took, bytes_then, bytes_run}
 
-pub took_few : (u : Found) (n : ℕ) (few : Few) → u ≡ Took n few → FewOf u → few.count ≤ 4
+pub took_few : (u : Result Found Refusal) (n : ℕ) (few : Few) → u ≡ Ok (Took n few) → FewOf u → few.count ≤ 4
 took_few u n few e h = rw e at h
 
 few_length : (few : Few) → few.count ≤ 4 → few.count ≡ length (few_of few)
 few_length few h = sym (length-take-le few.count (few.a ∷ few.b ∷ few.c ∷ few.d ∷ []) h)
 
 -- one unit in code
-abbrev TurnedTo : StringUnit → ℕ → ℕ → List ℕ → Turned → List ℕ → Type 0
+abbrev TurnedTo : StringUnit → ℕ → ℕ → List ℕ → Result Turned Refused → List ℕ → Type 0
 TurnedTo u at o out x new = (x ≡ unit_turn u at o) × (new ≡ sets out o (unit_bytes u))
 
-module _ (st : Style) (r : List ℕ) (at o : ℕ) (out : List ℕ) (u : Found) (i : unit_of u ≡ unit_at st r) where
-  pub on_close : u ≡ Close → TurnedTo (unit_at st r) at o out (Finish (at + 1) o) out
-  on_close e = subst (λ (v : StringUnit). TurnedTo v at o out (Finish (at + 1) o) out) (sym (ap unit_of e) ∙ i) (refl, refl)
+module _ (st : Style) (r : List ℕ) (at o : ℕ) (out : List ℕ) (u : Result Found Refusal) (i : unit_of u ≡ unit_at st r) where
+  pub on_close : u ≡ Ok Close → TurnedTo (unit_at st r) at o out (Ok (Finish (at + 1) o)) out
+  on_close e = subst (λ (v : StringUnit). TurnedTo v at o out (Ok (Finish (at + 1) o)) out) (sym (ap unit_of e) ∙ i) (refl, refl)
 
-  pub on_took : (n : ℕ) (few : Few) (new : List ℕ) → u ≡ Took n few → FewOf u → new ≡ sets out o (few_of few)
-      → TurnedTo (unit_at st r) at o out (On (at + n) (o + few.count)) new
+  pub on_took : (n : ℕ) (few : Few) (new : List ℕ) → u ≡ Ok (Took n few) → FewOf u → new ≡ sets out o (few_of few)
+      → TurnedTo (unit_at st r) at o out (Ok (On (at + n) (o + few.count))) new
   on_took n few new e f w =
-      subst (λ (v : StringUnit). TurnedTo v at o out (On (at + n) (o + few.count)) new) (sym (ap unit_of e) ∙ i)
-      (ap (λ (k : ℕ). On (at + n) (o + k)) (few_length few (took_few u n few e f)), w)
+      subst (λ (v : StringUnit). TurnedTo v at o out (Ok (On (at + n) (o + few.count))) new) (sym (ap unit_of e) ∙ i)
+      (ap (λ (k : ℕ). Ok (On (at + n) (o + k))) (few_length few (took_few u n few e f)), w)
 
-  pub on_fault : (number : ℕ) → u ≡ Fault number → TurnedTo (unit_at st r) at o out (Refuse number at) out
-  on_fault number e = subst (λ (v : StringUnit). TurnedTo v at o out (Refuse number at) out) (sym (ap unit_of e) ∙ i) (refl, refl)
+  pub on_fault : (refusal : Refusal) → u ≡ Err refusal → TurnedTo (unit_at st r) at o out (Err (refused_at refusal at)) out
+  on_fault refusal e = subst (λ (v : StringUnit). TurnedTo v at o out (Err (refused_at refusal at)) out) (sym (ap unit_of e) ∙ i) (refl, refl)
 
 -- a unit stays in the text
-pub took_inside : (st : Style) (s : List ℕ) (at n : ℕ) (few : Few) (u : Found) → unit_of u ≡ unit_at st (drop at s) → u ≡ Took n few → at ≤ length s → at + n ≤ length s
+pub took_inside : (st : Style) (s : List ℕ) (at n : ℕ) (few : Few) (u : Result Found Refusal) → unit_of u ≡ unit_at st (drop at s) → u ≡ Ok (Took n few) → at ≤ length s → at + n ≤ length s
 took_inside st s at n few u i e h =
     omega (arith, (took_size st (drop at s) n (few_of few) (sym i ∙ ap unit_of e)).1, length-drop at s)
 
@@ -70,7 +73,7 @@ module _ (st : Style) (s : List ℕ) (at o e : ℕ) (out o1 : List ℕ) (h : at 
   rest_is : drop skip (drop at s) ≡ drop e s
   rest_is = drop-drop skip at s ∙ ap (λ (k : ℕ). drop k s) (sym ee)
 
-  pub run_turned : (x : Turned) (new : List ℕ) → o1 ≡ sets out o (take (e - at) (drop at s)) → TurnedTo (unit_at st (drop e s)) e (o + (e - at)) o1 x new
+  pub run_turned : (x : Result Turned Refused) (new : List ℕ) → o1 ≡ sets out o (take (e - at) (drop at s)) → TurnedTo (unit_at st (drop e s)) e (o + (e - at)) o1 x new
       → (x ≡ turn_of st (drop at s) at o) × (new ≡ sets out o (turn_bytes st (drop at s)))
   unfolding turn_of turn_bytes
   run_turned x new w (ex, en) =
@@ -110,7 +113,7 @@ and_more {st} {s} {out₀} {from} {out} {at} {o} k {to} {p} {new} d =
     }
 
 module _ {st : Style} {s out₀ : List ℕ} {from : ℕ} {out : List ℕ} {at o : ℕ} (k : Kept st s out₀ from out at o)
-    (x : Turned) (new : List ℕ) (ex : x ≡ turn_of st (drop at s) at o) (en : new ≡ sets out o (turn_bytes st (drop at s))) where
+    (x : Result Turned Refused) (new : List ℕ) (ex : x ≡ turn_of st (drop at s) at o) (en : new ≡ sets out o (turn_bytes st (drop at s))) where
   abbrev run : ℕ
   run = literal_run st 0 (drop at s)
 
@@ -167,49 +170,48 @@ module _ {st : Style} {s out₀ : List ℕ} {from : ℕ} {out : List ℕ} {at o 
         omega (arith, size.0),
       )
 
-  pub moved : (next count : ℕ) → x ≡ On next count → Moved next count
+  pub moved : (next count : ℕ) → x ≡ Ok (On next count) → Moved next count
   moved next count h = go (unit_at st rest) refl
     where
       go : (u : StringUnit) → unit_at st rest ≡ u → Moved next count
-      go close e = let z : On next count ≡ Finish (at + run + 1) (o + run) = sym h ∙ step_is close e in never (cc)
+      go close e = let z : Ok (On next count) ≡ unit_turn close (at + run) (o + run) = sym h ∙ step_is close e in never (cc)
       go (took n bs) e =
-          let z : On (at + run + n) (o + run + length bs) ≡ On next count = sym (step_is (took n bs) e) ∙ h in
+          let z : unit_turn (took n bs) (at + run) (o + run) ≡ Ok (On next count) = sym (step_is (took n bs) e) ∙ h in
           let a : at + run + n ≡ next = cc in
           let b : o + run + length bs ≡ count = cc in
           rw (a, b) at (move_took n bs e)
-      go (fault number) e = let z : On next count ≡ Refuse number (at + run) = sym h ∙ step_is (fault number) e in never (cc)
+      go (fault refusal) e = let z : Ok (On next count) ≡ Err (refused_at refusal (at + run)) = sym h ∙ step_is (fault refusal) e in never (cc)
 
-  abbrev Last : Token → Type 0
+  abbrev Last : Result Token Refused → Type 0
   Last r = (r ≡ token_of all) × (new ≡ sets out₀ 0 (units_bytes st 0 (drop from s)))
 
-  last_of : (r : Token) (v : StringRead) (u : StringUnit) → all ≡ v → r ≡ token_of v → unit_at st rest ≡ u → units_bytes st 0 rest ≡ unit_bytes u → Last r
+  last_of : (r : Result Token Refused) (v : StringRead) (u : StringUnit) → all ≡ v → r ≡ token_of v → unit_at st rest ≡ u → units_bytes st 0 rest ≡ unit_bytes u → Last r
   last_of r v u e w i b = (w ∙ ap token_of (sym e), new_is u i ∙ ap (sets out₀ 0) (sym (bytes_behind ∙ ap (λ (l : List ℕ). k.done ++ (lit ++ l)) b)))
 
-  pub ended : (end count : ℕ) → x ≡ Finish end count → Last (Ended end count)
+  pub ended : (end count : ℕ) → x ≡ Ok (Finish end count) → Last (Ok (token_at end count))
   ended end count h = go (unit_at st rest) refl
     where
-      go : (u : StringUnit) → unit_at st rest ≡ u → Last (Ended end count)
+      go : (u : StringUnit) → unit_at st rest ≡ u → Last (Ok (token_at end count))
       go close e =
-          let z : Finish end count ≡ Finish (at + run + 1) (o + run) = sym h ∙ step_is close e in
+          let z : Ok (Finish end count) ≡ unit_turn close (at + run) (o + run) = sym h ∙ step_is close e in
           let a : end ≡ at + run + 1 = cc in
           let b : count ≡ o + run = cc in
           let l : count ≡ length ((k.done ++ lit) ++ []) = omega (arith, b, k.count, length-append (k.done ++ lit) [], length-append k.done lit, lit_length) in
-          last_of (Ended end count) (accepted ((k.done ++ lit) ++ []) (at + run + 1)) close
+          last_of (Ok (token_at end count)) (accepted ((k.done ++ lit) ++ []) (at + run + 1)) close
           (behind ∙ ap (more (k.done ++ lit)) (read_closes st (at + run) rest e))
-          (λ i. Ended (a i) (l i))
+          (λ i. Ok (token_at (a i) (l i)))
           e (bytes_close st rest e)
-      go (took n bs) e = let z : Finish end count ≡ On (at + run + n) (o + run + length bs) = sym h ∙ step_is (took n bs) e in never (cc)
-      go (fault number) e = let z : Finish end count ≡ Refuse number (at + run) = sym h ∙ step_is (fault number) e in never (cc)
+      go (took n bs) e = let z : Ok (Finish end count) ≡ unit_turn (took n bs) (at + run) (o + run) = sym h ∙ step_is (took n bs) e in never (cc)
+      go (fault refusal) e = let z : Ok (Finish end count) ≡ Err (refused_at refusal (at + run)) = sym h ∙ step_is (fault refusal) e in never (cc)
 
-  pub failed : (number place : ℕ) → x ≡ Refuse number place → Last (Failed number place)
-  failed number place h = go (unit_at st rest) refl
+  pub failed : (f : Refused) → x ≡ Err f → Last (Err f)
+  failed f h = go (unit_at st rest) refl
     where
-      go : (u : StringUnit) → unit_at st rest ≡ u → Last (Failed number place)
-      go close e = let z : Refuse number place ≡ Finish (at + run + 1) (o + run) = sym h ∙ step_is close e in never (cc)
-      go (took n bs) e = let z : Refuse number place ≡ On (at + run + n) (o + run + length bs) = sym h ∙ step_is (took n bs) e in never (cc)
+      go : (u : StringUnit) → unit_at st rest ≡ u → Last (Err f)
+      go close e = let z : Err f ≡ unit_turn close (at + run) (o + run) = sym h ∙ step_is close e in never (cc)
+      go (took n bs) e = let z : Err f ≡ unit_turn (took n bs) (at + run) (o + run) = sym h ∙ step_is (took n bs) e in never (cc)
       go (fault m) e =
-          let z : Refuse number place ≡ Refuse m (at + run) = sym h ∙ step_is (fault m) e in
-          let a : number ≡ m = cc in
-          let b : place ≡ at + run = cc in
-          last_of (Failed number place) (refused m (at + run)) (fault m) (behind ∙ ap (more (k.done ++ lit)) (read_fault st (at + run) rest m e))
-          (λ i. Failed (a i) (b i)) e (bytes_fault st rest m e)
+          let z : ◌≡◌ {A = Result Turned Refused} (Err f) (Err (refused_at m (at + run))) = sym h ∙ step_is (fault m) e in
+          let a : f ≡ refused_at m (at + run) = cc in
+          last_of (Err f) (refused m (at + run)) (fault m) (behind ∙ ap (more (k.done ++ lit)) (read_fault st (at + run) rest m e))
+          (ap Err a) e (bytes_fault st rest m e)

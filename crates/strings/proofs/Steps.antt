@@ -7,6 +7,7 @@ use native.Mathlib.Omega.{arith}
 use lib.ListN.{drop}
 use lib.Seq.{drop-drop}
 use Rattle.prelude.specs.Pick.{pick}
+use Rattle.prelude.specs.declared.refusals.Refusal.{Refusal}
 use Rattle.notation.specs.declared.styles.Style.{Style}
 use Rattle.notation.specs.declared.styles.Style.TheVariants.{Json, Unicode, Bytes}
 use Rattle.notation.specs.Styles.{quote, close, took, fault}
@@ -26,10 +27,10 @@ unfolding read_units unit_at
 read_closes st p [] e = cc
 read_closes st p (x ∷ r) e = rw e
 
-pub read_fault : (st : Style) (p : ℕ) (s : List ℕ) (number : ℕ) → unit_at st s ≡ fault number → read_units st p 0 s ≡ refused number p
+pub read_fault : (st : Style) (p : ℕ) (s : List ℕ) (refusal : Refusal) → unit_at st s ≡ fault refusal → read_units st p 0 s ≡ refused refusal p
 unfolding read_units unit_at
-read_fault st p [] number e = cc
-read_fault st p (x ∷ r) number e = rw e
+read_fault st p [] refusal e = cc
+read_fault st p (x ∷ r) refusal e = rw e
 
 pub read_took : (st : Style) (p : ℕ) (s : List ℕ) (n : ℕ) (bs : List ℕ) → unit_at st s ≡ took n bs
     → read_units st p 0 s ≡ more bs (read_units st (p + n) 0 (drop n s))
@@ -47,11 +48,11 @@ read_close Bytes p t = refl
 -- bytes in front of bytes
 pub more_none : (r : StringRead) → more [] r ≡ r
 more_none (accepted bs e) = refl
-more_none (refused number at) = refl
+more_none (refused refusal at) = refl
 
 pub more_more : (a b : List ℕ) (r : StringRead) → more a (more b r) ≡ more (a ++ b) r
 more_more a b (accepted bs e) = ap (λ (l : List ℕ). accepted l e) (sym (append_assoc a b bs))
-more_more a b (refused number at) = refl
+more_more a b (refused refusal at) = refl
 
 -- a reading that has come to a place goes on by one unit
 pub read_on : (st : Style) (w : StringRead) (s done : List ℕ) (at n : ℕ) (bs : List ℕ)

@@ -7,6 +7,7 @@ use mathlib.Core.Path.{◌≡◌, refl, sym, ap, ◌∙◌}
 use native.Mathlib.Omega.{arith}
 use lib.ListN.{take, drop}
 use lib.Seq.{sets, drop-drop, take-add}
+use Rattle.prelude.specs.declared.refusals.Refusal.{Refusal}
 use Rattle.notation.specs.declared.styles.Style.{Style}
 use Rattle.notation.specs.Styles.{StringUnit, close, took, fault}
 use Rattle.notation.specs.Literals.{literal_len, literal_run}
@@ -30,10 +31,10 @@ unfolding units_bytes unit_at
 bytes_close st [] e = refl
 bytes_close st (x ∷ r) e = rw e
 
-pub bytes_fault : (st : Style) (s : List ℕ) (number : ℕ) → unit_at st s ≡ fault number → units_bytes st 0 s ≡ []
+pub bytes_fault : (st : Style) (s : List ℕ) (refusal : Refusal) → unit_at st s ≡ fault refusal → units_bytes st 0 s ≡ []
 unfolding units_bytes unit_at
-bytes_fault st [] number e = refl
-bytes_fault st (x ∷ r) number e = rw e
+bytes_fault st [] refusal e = refl
+bytes_fault st (x ∷ r) refusal e = rw e
 
 pub bytes_took : (st : Style) (s : List ℕ) (n : ℕ) (bs : List ℕ) → unit_at st s ≡ took n bs → units_bytes st 0 s ≡ bs ++ units_bytes st 0 (drop n s)
 unfolding units_bytes unit_at
@@ -66,16 +67,16 @@ bytes_run st = by_run st (Ran st) (λ s e. refl) (λ s n m e f h. ran_more st s 
 -- what an accepted text denotes
 abbrev pub Denoted : StringRead → List ℕ → Type 0
 Denoted (accepted bs e) us = us ≡ bs
-Denoted (refused number at) us = Unit
+Denoted (refused refusal at) us = Unit
 
 denoted_more : (bs : List ℕ) (r : StringRead) (us : List ℕ) → Denoted r us → Denoted (more bs r) (bs ++ us)
 denoted_more bs (accepted cs e) us d = ap (λ (l : List ℕ). bs ++ l) d
-denoted_more bs (refused number at) us d = tt
+denoted_more bs (refused refusal at) us d = tt
 
 denoted_after : (p : ℕ) (u : StringUnit) (g : ℕ → ℕ → StringRead) (h : ℕ → List ℕ) → ((q m : ℕ) → Denoted (g q m) (h m)) → Denoted (after p u g) (unit_then u h)
 denoted_after p close g h f = refl
 denoted_after p (took n bs) g h f = denoted_more bs (g (p + n) (pred n)) (h (pred n)) (f (p + n) (pred n))
-denoted_after p (fault number) g h f = tt
+denoted_after p (fault refusal) g h f = tt
 
 pub units_denoted : (st : Style) (p k : ℕ) (s : List ℕ) → Denoted (read_units st p k s) (units_bytes st k s)
 unfolding read_units units_bytes
@@ -95,11 +96,11 @@ token_denoted s = from_denoted (opening s) s
 -- an accepted text's bytes stored as far as there is room
 abbrev pub Stored : StringRead → List ℕ → List ℕ → Type 0
 Stored (accepted bs e) out new = new ≡ sets out 0 bs
-Stored (refused number at) out new = Unit
+Stored (refused refusal at) out new = Unit
 
 stored_as : (v : StringRead) (us out new : List ℕ) → Denoted v us → new ≡ sets out 0 us → Stored v out new
 stored_as (accepted bs e) us out new d w = w ∙ ap (sets out 0) d
-stored_as (refused number at) us out new d w = tt
+stored_as (refused refusal at) us out new d w = tt
 
 pub units_stored : (st : Style) (p : ℕ) (s out new : List ℕ) → new ≡ sets out 0 (units_bytes st 0 s) → Stored (read_units st p 0 s) out new
 units_stored st p s out new w = stored_as (read_units st p 0 s) (units_bytes st 0 s) out new (units_denoted st p 0 s) w

@@ -21,12 +21,12 @@ use Rattle.strings.proofs.Steps.{read_skip}
 
 abbrev pub Valid : StringRead → Type 0
 Valid (accepted bs e) = valid_utf8 bs ≡ true
-Valid (refused number at) = Unit
+Valid (refused refusal at) = Unit
 
 valid_more : (bs : List ℕ) (r : StringRead) → OneChar bs → Valid r → Valid (more bs r)
 valid_more [] r c v = absurd c
 valid_more (a ∷ bs) (accepted cs e) c v = valid_char a bs cs c ∙ v
-valid_more (a ∷ bs) (refused number at) c v = tt
+valid_more (a ∷ bs) (refused refusal at) c v = tt
 
 valid_one : (x : ℕ) (r : List ℕ) → ((k p : ℕ) → Valid (read_units Unicode p 0 (drop k r))) → (p : ℕ) → Valid (read_units Unicode p 0 (x ∷ r))
 unfolding read_units valid_from
@@ -35,7 +35,7 @@ valid_one x r ih p = go (unit_at Unicode (x ∷ r)) (unit_whole (x ∷ r))
     go : (u : StringUnit) → Whole u → Valid (after p u (λ q k. read_units Unicode q k r))
     go close w = refl
     go (took n bs) w = rw (read_skip Unicode (p + n) (pred n) r) (valid_more bs (read_units Unicode (p + n) 0 (drop (pred n) r)) w (ih (pred n) (p + n)))
-    go (fault number) w = tt
+    go (fault refusal) w = tt
 
 pub units_valid : (s : List ℕ) (p : ℕ) → Valid (read_units Unicode p 0 s)
 unfolding read_units
@@ -43,7 +43,7 @@ units_valid = by_suffix (λ s. (p : ℕ) → Valid (read_units Unicode p 0 s)) (
 
 pub valid_whole : (m : ℕ) (r : StringRead) → Valid r → Valid (nothing_behind m r)
 valid_whole m (accepted bs e) v = pick_case Valid (eqb e m) _ _ (λ q. v) (λ q. tt)
-valid_whole m (refused number at) v = tt
+valid_whole m (refused refusal at) v = tt
 
 pub unicode_valid : (s : List ℕ) (n : ℕ) → opening s ≡ opens Unicode n → Valid (read_string s)
 unfolding read_string read_token

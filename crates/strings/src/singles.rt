@@ -1,12 +1,11 @@
 // Units that denote a single byte, one by one. Where escapes are many, this costs less than a run and a unit at a time.
 ghost use Rattle.std.specs.Prelude.{◌<◌, ◌≤◌, length};
-ghost use Rattle.utf8.specs.Class.{IsTable};
 ghost use Rattle.strings.specs.inner.Turns.{Advanced};
 
 use notation::styles::Style;
 use prelude::slices;
 use units::single_escapes;
-use utf8::classes;
+use utf8::classes::Classes;
 
 // How many bytes are read one by one before an escape must have come; longer runs are read by blocks.
 const STRETCH: usize = 32;
@@ -20,7 +19,7 @@ pub(crate) struct Moved {
 
 // The units that begin before an end, up to one of another kind. Plain bytes never call: they are the common case.
 fn singles_before(
-    t: &[u8; 256],
+    t: &Classes,
     s: &[u8],
     from: usize,
     end: usize,
@@ -28,14 +27,14 @@ fn singles_before(
     o: usize,
     out: &mut [u8],
 ) -> Moved
-    requires { IsTable t.now × (from ≤ length s.now) × (o ≤ from) × (from < end → end < length s.now) }
+    requires { (from ≤ length s.now) × (o ≤ from) × (from < end → end < length s.now) }
     ensures { Advanced style s.now from o out.old result.at result.count out.new }
 {
     let mut at = from;
     let mut count = o;
     while at < end {
         let b = s[at];
-        if classes::class_in(t, b) == 0 {
+        if t.class(b) == 0 {
             slices::put(b, count, out);
             at += 1;
             count += 1;
@@ -44,14 +43,16 @@ fn singles_before(
         if b != b'\\' {
             return Moved { at, count };
         }
-        let unit = single_escapes::single_at(s, at + 1, style);
-        let n = unit.len;
-        if n == 0 {
-            return Moved { at, count };
+        match single_escapes::single_at(s, at + 1, style) {
+            Some(unit) => {
+                slices::put(unit.byte, count, out);
+                at += unit.len;
+                count += 1;
+            }
+            None => {
+                return Moved { at, count };
+            }
         }
-        slices::put(unit.byte, count, out);
-        at += n;
-        count += 1;
     }
     Moved { at, count }
 }
@@ -72,15 +73,8 @@ fn stretch(s: &[u8], at: usize) -> usize
 }
 
 // The units from a place on, up to one of another kind or a stretch without an escape.
-fn singles_from(
-    t: &[u8; 256],
-    s: &[u8],
-    from: usize,
-    style: Style,
-    o: usize,
-    out: &mut [u8],
-) -> Moved
-    requires { IsTable t.now × (from ≤ length s.now) × (o ≤ from) }
+fn singles_from(t: &Classes, s: &[u8], from: usize, style: Style, o: usize, out: &mut [u8]) -> Moved
+    requires { (from ≤ length s.now) × (o ≤ from) }
     ensures { Advanced style s.now from o out.old result.at result.count out.new }
 {
     let mut at = from;
@@ -101,7 +95,7 @@ fn singles_from(
 
 // The same behind a run of literal characters and a unit: where the run was long, the next one is likely to be long too.
 pub(crate) fn singles_behind(
-    t: &[u8; 256],
+    t: &Classes,
     s: &[u8],
     from: usize,
     style: Style,
@@ -109,7 +103,7 @@ pub(crate) fn singles_behind(
     o: usize,
     out: &mut [u8],
 ) -> Moved
-    requires { IsTable t.now × (from ≤ length s.now) × (o ≤ from) }
+    requires { (from ≤ length s.now) × (o ≤ from) }
     ensures { Advanced style s.now from o out.old result.at result.count out.new }
 {
     if STRETCH <= run {

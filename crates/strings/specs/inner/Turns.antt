@@ -1,13 +1,15 @@
 -- The reader's own steps, which no caller sees: a run of literal characters and one unit, at a place of the text.
 -- Assumes nothing.
-use Rattle.std.specs.Prelude.{ℕ, zero, suc, pred, ◌+◌, ◌≤◌, List, [], ◌∷◌, ◌++◌, ◌≡◌, length, get_or, take, drop}
+use Rattle.std.specs.Prelude.{ℕ, zero, suc, pred, ◌+◌, ◌≤◌, List, [], ◌∷◌, ◌++◌, ◌≡◌, length, get_or, take, drop, Result, Ok, Err}
 use Rattle.std.proofs.lemmas.List.Edits.{sets}
+use Rattle.prelude.specs.declared.refusals.Refused.{Refused}
+use Rattle.prelude.specs.Refusals.{refused_at}
 use Rattle.notation.specs.declared.styles.Style.{Style}
 use Rattle.notation.specs.Styles.{quote, StringUnit, close, took, fault}
 use Rattle.notation.specs.Literals.{literal_run}
 use Rattle.units.specs.Units.{unit_at}
 use Rattle.strings.specs.declared.read.Turned.{Turned}
-use Rattle.strings.specs.declared.read.Turned.TheVariants.{On, Finish, Refuse}
+use Rattle.strings.specs.declared.read.Turned.TheVariants.{On, Finish}
 use Rattle.notation.specs.Marks.{Opening, opens, unopened, opening}
 use Rattle.strings.specs.Read.{StringRead, more, read_units, nothing_behind, fitted}
 
@@ -16,18 +18,18 @@ abbrev pub read_behind : Style → ℕ → ℕ → List ℕ → StringRead
 read_behind st n room s = fitted room (nothing_behind (length s) (read_units st n 0 (drop n s)))
 
 -- behind a unit at the place `at`, with o bytes before it
-abbrev pub unit_turn : StringUnit → ℕ → ℕ → Turned
-unit_turn close at o = Finish (at + 1) o
-unit_turn (took n bs) at o = On (at + n) (o + length bs)
-unit_turn (fault number) at o = Refuse number at
+abbrev pub unit_turn : StringUnit → ℕ → ℕ → Result Turned Refused
+unit_turn close at o = Ok (Finish (at + 1) o)
+unit_turn (took n bs) at o = Ok (On (at + n) (o + length bs))
+unit_turn (fault refusal) at o = Err (refused_at refusal at)
 
 abbrev pub unit_bytes : StringUnit → List ℕ
 unit_bytes close = []
 unit_bytes (took n bs) = bs
-unit_bytes (fault number) = []
+unit_bytes (fault refusal) = []
 
 -- behind the run and the unit at the head of r, and the bytes that they denote
-unfoldable pub turn_of : Style → List ℕ → ℕ → ℕ → Turned
+unfoldable pub turn_of : Style → List ℕ → ℕ → ℕ → Result Turned Refused
 turn_of st r at o = unit_turn (unit_at st (drop (literal_run st 0 r) r)) (at + literal_run st 0 r) (o + literal_run st 0 r)
 
 unfoldable pub turn_bytes : Style → List ℕ → List ℕ
@@ -37,7 +39,7 @@ turn_bytes st r = take (literal_run st 0 r) r ++ unit_bytes (unit_at st (drop (l
 abbrev pub unit_then : StringUnit → (ℕ → List ℕ) → List ℕ
 unit_then close go = []
 unit_then (took n bs) go = bs ++ go (pred n)
-unit_then (fault number) go = []
+unit_then (fault refusal) go = []
 
 -- the bytes of the units before the closing quote or the first fault: what a reader of units stores; k bytes come before the next unit
 unfoldable pub units_bytes : Style → ℕ → List ℕ → List ℕ

@@ -8,4 +8,4 @@ pub read_run-requires : goal.read_run-requires
 read_run-requires c = (c.requires, c.strides-at.ensures, c.closes.ensures.0 c.if-closes.true)
 
 pub read_marked-requires : goal.read_marked-requires
-read_marked-requires c = (c.table-t.ensures, c.requires, c.strides-at.ensures)
+read_marked-requires c = (c.requires, c.strides-at.ensures)

@@ -1,18 +1,17 @@
 use native.Mathlib.Omega.{arith}
 use mathlib.Core.Path.{refl, ◌∙◌}
-use Prim.Native.Nat.{◌-◌}
 use Rattle.strings.proofs.Advancing.{nothing_yet, and_part}
 use Rattle.strings.proofs.singles.singles_from.Goals as goal
 
 pub loop-style-init : goal.loop-style-init
-loop-style-init c = (nothing_yet c.args.style c.args.s.now c.args.from c.args.o c.args.out.now c.requires.1, refl)
+loop-style-init c = (nothing_yet c.args.style c.args.s.now c.args.from c.args.o c.args.out.now c.requires.0, refl)
 
 pub stretch-end-requires : goal.stretch-end-requires
 stretch-end-requires c = c.loop-style.invariant.0.inside
 
 pub singles_before-next-requires : goal.singles_before-next-requires
 singles_before-next-requires c =
-    (c.requires.0, c.loop-style.invariant.0.inside, omega (arith, c.loop-style.invariant.0.less, c.loop-style.invariant.0.onward, c.requires.2), c.stretch-end.ensures)
+    (c.loop-style.invariant.0.inside, omega (arith, c.loop-style.invariant.0.less, c.loop-style.invariant.0.onward, c.requires.1), c.stretch-end.ensures)
 
 pub shape_of-out-then-next-end : goal.shape_of-out-then-next-end
 shape_of-out-then-next-end c = c.singles_before-next.auto.out ∙ c.loop-style.invariant.1
