@@ -27,8 +27,9 @@ use Rattle.notation.proofs.LiteralLaws.{run_fits, run_ends, run_valid, all_liter
 use Rattle.runs.proofs.LiteralRuns.{at_end_lem}
 use Rattle.units.proofs.EscapeStores.{escape_written}
 use Rattle.units.proofs.WrittenUnits.{limit}
-use Rattle.prelude.specs.declared.answers.Written.{Written}
-use Rattle.prelude.specs.declared.answers.Written.TheVariants.{Wrote, Refused}
+use Rattle.std.specs.Prelude.{Result, Ok, Err}
+use Rattle.prelude.specs.declared.refusals.Refusal.{Refusal}
+use Rattle.prelude.specs.Refusals.{no_room}
 use Rattle.strings_write.specs.Write.{write_units, mark, quoted, write_string, written_in, wrote_into}
 use Rattle.strings_write.specs.inner.Passes.{Passed}
 use Rattle.strings_write.proofs.WriteLengths.{quoted_length}
@@ -183,19 +184,19 @@ module _ {form : Form} {s : List ℕ} {room : ℕ} {out₀ : List ℕ} {at o : �
       (w ∙ ap (λ (x : List ℕ). set x o (quote (style_of form))) (i.stored t g) ∙ sets_append i.done (quote (style_of form) ∷ []) t 0 o (omega (arith, i.size)) ∙ ap (sets t 0) (sym (ended h)))
 
 -- what a call answers and leaves
-abbrev WroteIt : List ℕ → List ℕ → Written → List ℕ → Type 0
+abbrev WroteIt : List ℕ → List ℕ → Result ℕ Refusal → List ℕ → Type 0
 WroteIt text out r new = (r ≡ written_in (length out) text) × (new ≡ wrote_into text out)
 
-pub full : (text out : List ℕ) → length out < length text → WroteIt text out (Refused 12) out
+pub full : (text out : List ℕ) → length out < length text → WroteIt text out (Err no_room) out
 unfolding written_in wrote_into pick
 full text out h = simp (lt-leb (length text) (length out) h) (refl, refl)
 
-pub wrote : (text out : List ℕ) (n : ℕ) (new : List ℕ) → length text ≤ length out → n ≡ length text → new ≡ sets out 0 text → WroteIt text out (Wrote n) new
+pub wrote : (text out : List ℕ) (n : ℕ) (new : List ℕ) → length text ≤ length out → n ≡ length text → new ≡ sets out 0 text → WroteIt text out (Ok n) new
 unfolding written_in wrote_into pick
-wrote text out n new h e w = simp (le-leb (length text) (length out) h) (ap Wrote e, w ∙ sets_over text out h)
+wrote text out n new h e w = simp (le-leb (length text) (length out) h) (ap Ok e, w ∙ sets_over text out h)
 
 -- one pass, where the text is known to fit
-pub one_pass : (text out : List ℕ) {n : ℕ} {new : List ℕ} → length text ≤ length out → Passed text (length out) n out new → WroteIt text out (Wrote n) new
+pub one_pass : (text out : List ℕ) {n : ℕ} {new : List ℕ} → length text ≤ length out → Passed text (length out) n out new → WroteIt text out (Ok n) new
 unfolding pick
 one_pass text out {n} {new} h p = wrote text out n new h (p.answer ∙ rw (le-leb (length text) (length out) h)) (stored_whole p h)
 
@@ -221,10 +222,10 @@ module _ (text l out : List ℕ) {n : ℕ} {l₀ : List ℕ} (pos : 0 < length t
   unfolding pick
   count_is h = p.answer ∙ rw (le-leb (length text) (length out) h)
 
-  pub too_long_lem : n ≡ 0 → WroteIt text out (Refused 12) (l ++ out)
+  pub too_long_lem : n ≡ 0 → WroteIt text out (Err no_room) (l ++ out)
   too_long_lem h = let f = full text out (longer h) in (f.0, empty_front l out z ∙ f.1)
 
-  pub both_passes : {n2 : ℕ} {new : List ℕ} → (n ≡ 0 → ⊥) → Passed text (length out) n2 (l ++ out) new → WroteIt text out (Wrote n) new
+  pub both_passes : {n2 : ℕ} {new : List ℕ} → (n ≡ 0 → ⊥) → Passed text (length out) n2 (l ++ out) new → WroteIt text out (Ok n) new
   both_passes {n2} {new} h q =
       let e : l ++ out ≡ out = empty_front l out z in
       let f : length text ≤ length out = fits h in
@@ -260,11 +261,11 @@ module _ (s out : List ℕ) (e : literal_run Json 0 s ≡ length s) where
       r ∙ ap (λ (x : List ℕ). set x (length s + 1) double_quote) (q ∙ (λ i. sets (p i) 1 (take-length s i)))
       ∙ sets_append s (double_quote ∷ []) (set out 0 double_quote) 1 (length s + 1) (omega arith) ∙ ap (sets out 0) (sym (literal_text s e))
 
-  pub literal_full : length out < length s + 2 → WroteIt (quoted AsJson s) out (Refused 12) out
+  pub literal_full : length out < length s + 2 → WroteIt (quoted AsJson s) out (Err no_room) out
   literal_full h = full (quoted AsJson s) out (omega (arith, text_length))
 
   pub literal_wrote : {o1 o2 o3 : List ℕ} → length s + 2 ≤ length out → o1 ≡ set out 0 double_quote → o2 ≡ sets o1 1 (take (length s) s) → o3 ≡ set o2 (length s + 1) double_quote
-      → WroteIt (quoted AsJson s) out (Wrote (length s + 2)) o3
+      → WroteIt (quoted AsJson s) out (Ok (length s + 2)) o3
   literal_wrote {o1} {o2} {o3} h p q r = wrote (quoted AsJson s) out (length s + 2) o3 (omega (arith, text_length)) (sym text_length) (literal_stored p q r)
 
   -- the same as one pass, in a room
@@ -297,7 +298,7 @@ pub other_text : (s : List ℕ) → valid_utf8 s ≡ false → write_string s �
 unfolding write_string pick
 other_text s e = rw e
 
-module _ (s : List ℕ) (r : Written) (out new : List ℕ) where
+module _ (s : List ℕ) (r : Result ℕ Refusal) (out new : List ℕ) where
   pub valid_form : valid_utf8 s ≡ true → WroteIt (quoted AsJson s) out r new → WroteIt (write_string s) out r new
   valid_form e w = subst (λ (x : List ℕ). WroteIt x out r new) (sym (valid_text s e)) w
 

@@ -1,17 +1,16 @@
 -- Writing a J8 string: "one form for each byte string".
 -- Assumes nothing.
-use Rattle.std.specs.Prelude.{ℕ, zero, suc, pred, List, [], ◌∷◌, ◌++◌, leb, length, drop}
+use Rattle.std.specs.Prelude.{ℕ, zero, suc, pred, List, [], ◌∷◌, ◌++◌, leb, length, drop, Result, Ok, Err}
 use Prim.Native.Char.{code}
 use Rattle.prelude.specs.Bytes.{double_quote, single_quote}
 use Rattle.prelude.specs.Pick.{pick}
+use Rattle.prelude.specs.declared.refusals.Refusal.{Refusal}
 use Rattle.prelude.specs.Refusals.{no_room}
 use Rattle.utf8.specs.Utf8.{char_len, valid_utf8}
 use Rattle.notation.specs.declared.styles.Form.{Form}
 use Rattle.notation.specs.declared.styles.Form.TheVariants.{AsJson, AsBytes}
 use Rattle.notation.specs.Styles.{quote, style_of}
 use Rattle.units.specs.Written.{written}
-use Rattle.prelude.specs.declared.answers.Written.{Written}
-use Rattle.prelude.specs.declared.answers.Written.TheVariants.{Wrote, Refused}
 
 -- the units of a byte string; k bytes are skipped
 unfoldable pub write_units : Form → ℕ → List ℕ → List ℕ
@@ -37,8 +36,8 @@ unfoldable pub write_string : List ℕ → List ℕ
 write_string s = pick (valid_utf8 s) (quoted AsJson s) (write_bytes s)
 
 -- the answer for a text in a room: "Writing refuses only with 12"
-unfoldable pub written_in : ℕ → List ℕ → Written
-written_in room text = pick (leb (length text) room) (Wrote (length text)) (Refused no_room)
+unfoldable pub written_in : ℕ → List ℕ → Result ℕ Refusal
+written_in room text = pick (leb (length text) room) (Ok (length text)) (Err no_room)
 
 -- what a buffer holds afterwards: the text in front of what was there, or all as it was
 unfoldable pub wrote_into : List ℕ → List ℕ → List ℕ

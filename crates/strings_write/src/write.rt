@@ -1,7 +1,6 @@
 // The string writer: `""` for valid UTF-8, else `b''`; and the `b''` form by itself.
 ghost use Rattle.std.specs.Prelude.{true, List, ◌≡◌, ℕ, ◌+◌, ◌*◌, ◌≤◌, ◌<◌, length, take, drop};
 ghost use Rattle.std.proofs.lemmas.List.Edits.{sets};
-ghost use Rattle.utf8.specs.Class.{IsTable};
 ghost use Rattle.utf8.specs.Utf8.{valid_utf8};
 ghost use Rattle.notation.specs.declared.styles.Style.TheVariants.{Json};
 ghost use Rattle.notation.specs.declared.styles.Form.TheVariants.{AsJson};
@@ -14,11 +13,12 @@ ghost use Rattle.bytewise.specs.inner.Bytewise.{Fronted, Onward};
 use bytewise::{front, rest};
 use notation::styles;
 use notation::styles::{Form, Style};
-use prelude::answers::Written;
-use prelude::{copies, refusals, slices};
+use prelude::refusals::Refusal;
+use prelude::{copies, slices};
 use runs::{blocks, literals};
 use units::written;
-use utf8::{chars, classes};
+use utf8::chars;
+use utf8::classes::Classes;
 
 // Stores the opening mark of a form, as far as there is room; its length.
 fn put_mark(form: Form, out: &mut [u8]) -> usize
@@ -40,8 +40,8 @@ fn put_mark(form: Form, out: &mut [u8]) -> usize
 // Writes the data in a form into a buffer that isn't longer than the room: the text's length, or 0 as soon as it passes the room.
 // Every text has two bytes, so 0 is no length; and the count stops at the room, so it can't run over. What passes the room is stored as far
 // as the buffer reaches before the count stops.
-fn pass(t: &[u8; 256], form: Form, s: &[u8], room: usize, out: &mut [u8]) -> usize
-    requires { IsTable t.now × (length out.old ≤ room) }
+fn pass(t: &Classes, form: Form, s: &[u8], room: usize, out: &mut [u8]) -> usize
+    requires { length out.old ≤ room }
     ensures { Passed (quoted form s.now) room result out.old out.new }
 {
     let style = styles::style_of(form);
@@ -78,8 +78,7 @@ fn pass(t: &[u8; 256], form: Form, s: &[u8], room: usize, out: &mut [u8]) -> usi
 }
 
 // The same in any buffer: the part that lies in the room is lent.
-fn write_form(t: &[u8; 256], form: Form, s: &[u8], room: usize, out: &mut [u8]) -> usize
-    requires { IsTable t.now }
+fn write_form(t: &Classes, form: Form, s: &[u8], room: usize, out: &mut [u8]) -> usize
     ensures { Passed (quoted form s.now) room result out.old out.new }
 {
     let n = slices::least(room, out.len());
@@ -87,8 +86,8 @@ fn write_form(t: &[u8; 256], form: Form, s: &[u8], room: usize, out: &mut [u8]) 
 }
 
 // The same in the form that the data takes, by whether it is valid UTF-8.
-pub fn write_part(t: &[u8; 256], valid: bool, s: &[u8], room: usize, out: &mut [u8]) -> usize
-    requires { IsTable t.now × (valid ≡ valid_utf8 s.now) }
+pub fn write_part(t: &Classes, valid: bool, s: &[u8], room: usize, out: &mut [u8]) -> usize
+    requires { valid ≡ valid_utf8 s.now }
     ensures { Passed (write_string s.now) room result out.old out.new }
 {
     if valid {
@@ -126,8 +125,7 @@ fn literal_part(s: &[u8], room: usize, out: &mut [u8]) -> usize
 }
 
 // The same for any data: one run to the end needs no other look, and is valid so far where it ends before.
-fn write_tight(t: &[u8; 256], s: &[u8], room: usize, out: &mut [u8]) -> usize
-    requires { IsTable t.now }
+fn write_tight(t: &Classes, s: &[u8], room: usize, out: &mut [u8]) -> usize
     ensures { Passed (write_string s.now) room result out.old out.new }
 {
     let e = literals::inner_run(t, s, 0, Style::Json);
@@ -159,8 +157,8 @@ struct Judged {
 }
 
 // Judges what is behind the front's ASCII. If all of it is ASCII, it has an escape soon and the front ends here; else it goes on.
-fn judge(t: &[u8; 256], s: &[u8], at: usize, out: &mut [u8]) -> Judged
-    requires { IsTable t.now × (at ≤ length s.now) × (length s.now + 2 ≤ length out.old) }
+fn judge(t: &Classes, s: &[u8], at: usize, out: &mut [u8]) -> Judged
+    requires { (at ≤ length s.now) × (length s.now + 2 ≤ length out.old) }
     ensures { (result.at ≤ length s.now) × Onward s.now at result.at out.old out.new × (result.valid ≡ valid_utf8 (drop result.at s.now)) }
 {
     if chars::ascii_from(s, at) {
@@ -181,8 +179,8 @@ fn judge(t: &[u8; 256], s: &[u8], at: usize, out: &mut [u8]) -> Judged
 
 // The same in an ample room, where the front of the data is stored already. The rest is handed on from one place only: from two, the
 // compiler copies the slice in a way that waits for its stores.
-fn write_behind(t: &[u8; 256], s: &[u8], at: usize, room: usize, out: &mut [u8]) -> usize
-    requires { IsTable t.now × (at ≤ length s.now) × (6 * length s.now + 2 ≤ room) × (room ≤ length out.old) }
+fn write_behind(t: &Classes, s: &[u8], at: usize, room: usize, out: &mut [u8]) -> usize
+    requires { (at ≤ length s.now) × (6 * length s.now + 2 ≤ room) × (room ≤ length out.old) }
     ensures { (o : List ℕ) → Fronted s.now o at out.old → Passed (write_string s.now) room result o out.new }
 {
     let j = judge(t, s, at, out);
@@ -199,8 +197,7 @@ fn write_behind(t: &[u8; 256], s: &[u8], at: usize, room: usize, out: &mut [u8])
 }
 
 // The same for any data. In an ample room what stands as it is is stored as it is tested, and nothing is measured.
-pub fn write_run(t: &[u8; 256], s: &[u8], room: usize, out: &mut [u8]) -> usize
-    requires { IsTable t.now }
+pub fn write_run(t: &Classes, s: &[u8], room: usize, out: &mut [u8]) -> usize
     ensures { Passed (write_string s.now) room result out.old out.new }
 {
     if !ample(s.len(), room, out.len()) {
@@ -229,53 +226,52 @@ fn roomy(form: Form, n: usize, room: usize) -> bool
 
 // The text of the data in a form, or 12: one pass over no buffer to measure it, one to store it. Where the room is known to suffice,
 // nothing is measured.
-fn write_quoted(t: &[u8; 256], form: Form, s: &[u8], out: &mut [u8]) -> Written
-    requires { IsTable t.now }
+fn write_quoted(t: &Classes, form: Form, s: &[u8], out: &mut [u8]) -> Result<usize, Refusal>
     ensures answer { result ≡ written_in (length out.old) (quoted form s.now) }
     ensures stored { out.new ≡ wrote_into (quoted form s.now) out.old }
 {
     let room = out.len();
     if roomy(form, s.len(), room) {
-        return Written::Wrote(pass(t, form, s, room, out));
+        return Ok(pass(t, form, s, room, out));
     }
     let n = pass(t, form, s, room, &mut out[..0]);
     if n == 0 {
-        return Written::Refused(refusals::NO_ROOM);
+        return Err(Refusal::NoRoom);
     }
     pass(t, form, s, room, out);
-    Written::Wrote(n)
+    Ok(n)
 }
 
 // The text of data that is one run of literal characters: a quote, the data, a quote.
-fn write_literal(s: &[u8], out: &mut [u8]) -> Written
+fn write_literal(s: &[u8], out: &mut [u8]) -> Result<usize, Refusal>
     requires { literal_run Json 0 s.now ≡ length s.now }
     ensures answer { result ≡ written_in (length out.old) (quoted AsJson s.now) }
     ensures stored { out.new ≡ wrote_into (quoted AsJson s.now) out.old }
 {
     let n = s.len();
     if out.len() < n + 2 {
-        return Written::Refused(refusals::NO_ROOM);
+        return Err(Refusal::NoRoom);
     }
     slices::put(b'"', 0, out);
     copies::copy_long(s, 0, n, 1, out);
     slices::put(b'"', n + 1, out);
-    Written::Wrote(n + 2)
+    Ok(n + 2)
 }
 
 // The same where the bytes before a place are known to be literal characters. What is one run of them is valid UTF-8 so far.
-fn write_from(s: &[u8], at: usize, out: &mut [u8]) -> Written
+fn write_from(s: &[u8], at: usize, out: &mut [u8]) -> Result<usize, Refusal>
     requires { Running Json s.now 0 at }
     ensures answer { result ≡ written_in (length out.old) (write_string s.now) }
     ensures stored { out.new ≡ wrote_into (write_string s.now) out.old }
 {
-    let t = classes::table();
+    let t = Classes::new();
     let e = literals::literal_run(&t, s, at, Style::Json);
     if e == s.len() {
         return write_literal(s, out);
     }
     let room = out.len();
     if ample(s.len(), room, room) {
-        return Written::Wrote(write_run(&t, s, room, out));
+        return Ok(write_run(&t, s, room, out));
     }
     if chars::valid_in(&t, &s[e..]) {
         return write_quoted(&t, Form::AsJson, s, out);
@@ -285,7 +281,7 @@ fn write_from(s: &[u8], at: usize, out: &mut [u8]) -> Written
 
 // Writes the data as a J8 string: its text in front of out, or 12 and out as it was. Where blocks reach the end, no table is made. They are
 // lent a part that is all of the data: a slice handed on as it came is copied at once, and waits for the caller's stores of it.
-pub fn write(s: &[u8], out: &mut [u8]) -> Written
+pub fn write(s: &[u8], out: &mut [u8]) -> Result<usize, Refusal>
     ensures answer { result ≡ written_in (length out.old) (write_string s.now) }
     ensures stored { out.new ≡ wrote_into (write_string s.now) out.old }
 {
@@ -298,10 +294,10 @@ pub fn write(s: &[u8], out: &mut [u8]) -> Written
 }
 
 // Writes the data in the `b''` form, also where it is valid UTF-8.
-pub fn write_bytes(s: &[u8], out: &mut [u8]) -> Written
+pub fn write_bytes(s: &[u8], out: &mut [u8]) -> Result<usize, Refusal>
     ensures answer { result ≡ written_in (length out.old) (write_bytes s.now) }
     ensures stored { out.new ≡ wrote_into (write_bytes s.now) out.old }
 {
-    let t = classes::table();
+    let t = Classes::new();
     write_quoted(&t, Form::AsBytes, s, out)
 }

@@ -1,6 +1,6 @@
 use native.Mathlib.Omega.{arith}
 use mathlib.Core.Path.{ap, ◌∙◌}
-use Prim.Native.Nat.{◌-◌, ◌≤◌}
+use Prim.Native.Nat.{◌≤◌}
 use lib.ListN.{length, length-set}
 use Rattle.strings_write.proofs.Writing.{mark_stuck, begun, escape_moved, escape_stuck, run_inside, run_moved, run_stuck, kept, last}
 use Rattle.strings_write.proofs.write.pass.Goals as goal
@@ -12,7 +12,7 @@ pub put_mark-first-requires : goal.put_mark-first-requires
 put_mark-first-requires c = tt
 
 pub returns-then-room-first : goal.returns-then-room-first
-returns-then-room-first c = mark_stuck c.args.form c.args.s.now c.put_mark-first.ensures.0 c.if-room-first.true c.requires.1 c.put_mark-first.ensures.1
+returns-then-room-first c = mark_stuck c.args.form c.args.s.now c.put_mark-first.ensures.0 c.if-room-first.true c.requires c.put_mark-first.ensures.1
 
 pub overflow_sub-cap : goal.overflow_sub-cap
 overflow_sub-cap c = omega arith
@@ -21,7 +21,7 @@ pub loop-at-init : goal.loop-at-init
 loop-at-init c = begun c.args.form c.args.s.now c.put_mark-first.ensures.0 c.if-room-first.false
 
 pub short_run-e-requires : goal.short_run-e-requires
-short_run-e-requires c = (c.requires.0, c.loop-at.invariant.inside)
+short_run-e-requires c = c.loop-at.invariant.inside
 
 pub bounds-s-at : goal.bounds-s-at
 bounds-s-at c = omega arith
@@ -40,7 +40,7 @@ shape_of-out-then-cap-o c = c.put_escape.auto.out ∙ kept c.loop-at.invariant c
 
 pub returns-then-cap-o : goal.returns-then-cap-o
 returns-then-cap-o c =
-    escape_stuck c.loop-at.invariant c.style_of-style.ensures _ _ c.loop-at-test.true c.short_run-e.ensures c.if-e-at.true c.escape_len-m.ensures c.put_escape.ensures c.args.out.now c.put_mark-first.ensures.1 c.requires.1 c.if-cap-o.true
+    escape_stuck c.loop-at.invariant c.style_of-style.ensures _ _ c.loop-at-test.true c.short_run-e.ensures c.if-e-at.true c.escape_len-m.ensures c.put_escape.ensures c.args.out.now c.put_mark-first.ensures.1 c.requires c.if-cap-o.true
 
 pub overflow_add-o : goal.overflow_add-o
 overflow_add-o c = omega (arith, c.loop-at.invariant.below)
@@ -69,7 +69,7 @@ shape_of-out-then-cap-o-2 c = c.copy_run.auto.out ∙ kept c.loop-at.invariant c
 
 pub returns-then-cap-o-2 : goal.returns-then-cap-o-2
 returns-then-cap-o-2 c =
-    run_stuck c.loop-at.invariant c.style_of-style.ensures _ c.loop-at-test.true c.short_run-e.ensures c.copy_run.ensures c.args.out.now c.put_mark-first.ensures.1 c.requires.1 c.if-cap-o-2.true
+    run_stuck c.loop-at.invariant c.style_of-style.ensures _ c.loop-at-test.true c.short_run-e.ensures c.copy_run.ensures c.args.out.now c.put_mark-first.ensures.1 c.requires c.if-cap-o-2.true
 
 pub overflow_add-o-else-e-at : goal.overflow_add-o-else-e-at
 overflow_add-o-else-e-at c = omega (arith, c.loop-at.invariant.below)

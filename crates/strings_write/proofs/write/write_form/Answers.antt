@@ -12,7 +12,7 @@ pub slice_bounds-pass-end-2 : goal.slice_bounds-pass-end-2
 slice_bounds-pass-end-2 c = sym (length-take-le _ _ c.least-n.ensures.1)
 
 pub pass-requires : goal.pass-requires
-pass-requires c = (c.requires, omega (arith, length-take-le c.least-n.result c.args.out.now c.least-n.ensures.1, c.least-n.ensures.0))
+pass-requires c = omega (arith, length-take-le c.least-n.result c.args.out.now c.least-n.ensures.1, c.least-n.ensures.0)
 
 pub returns : goal.returns
 returns c = part_passed c.least-n.ensures.2 c.least-n.ensures.3 c.pass.ensures

@@ -13,7 +13,7 @@ use Rattle.strings_write.proofs.Writing.{one_pass, valid_form, other_form, valid
 use Rattle.strings_write.proofs.write.write_from.Goals as goal
 
 pub literal_run-e-requires : goal.literal_run-e-requires
-literal_run-e-requires c = (c.table-t.ensures, c.requires.inside)
+literal_run-e-requires c = c.requires.inside
 
 pub write_literal-requires : goal.write_literal-requires
 write_literal-requires c = let e : literal_run Json 0 c.args.s.now ≡ length c.args.s.now = omega (arith, c.literal_run-e.ensures, c.requires.same, c.if-e-s.true) in e
@@ -22,9 +22,6 @@ pub returns-then-e-s : goal.returns-then-e-s
 returns-then-e-s c =
     let r = let e : literal_run Json 0 c.args.s.now ≡ length c.args.s.now = omega (arith, c.literal_run-e.ensures, c.requires.same, c.if-e-s.true) in
     valid_form c.args.s.now _ c.args.out.now _ (all_literal Json c.args.s.now e) (c.write_literal.ensures.answer, c.write_literal.ensures.stored) in record { answer = r.0; stored = r.1 }
-
-pub write_run-requires : goal.write_run-requires
-write_run-requires c = c.table-t.ensures
 
 pub returns-then-ample : goal.returns-then-ample
 returns-then-ample c =
@@ -36,18 +33,9 @@ slice_bounds-valid_in-count c = (through _ _ _ _ _ c.requires c.literal_run-e.en
 pub slice_bounds-valid_in-start : goal.slice_bounds-valid_in-start
 slice_bounds-valid_in-start c = let h : c.literal_run-e.result ≤ length c.args.s.now = (through _ _ _ _ _ c.requires c.literal_run-e.ensures).inside in omega arith
 
-pub valid_in-requires : goal.valid_in-requires
-valid_in-requires c = c.table-t.ensures
-
-pub write_quoted-requires : goal.write_quoted-requires
-write_quoted-requires c = c.table-t.ensures
-
 pub returns-then-valid_in : goal.returns-then-valid_in
 returns-then-valid_in c =
     let r = valid_form c.args.s.now _ c.args.out.now _ (sym (valid_behind _ _ _ _ c.requires c.literal_run-e.ensures c.valid_in.ensures) ∙ c.if-valid_in.true) (c.write_quoted.ensures.answer, c.write_quoted.ensures.stored) in record { answer = r.0; stored = r.1 }
-
-pub write_quoted-requires-2 : goal.write_quoted-requires-2
-write_quoted-requires-2 c = c.table-t.ensures
 
 pub returns : goal.returns
 returns c =

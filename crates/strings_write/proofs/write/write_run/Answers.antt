@@ -13,7 +13,7 @@ pub returns-then-e-s : goal.returns-then-e-s
 returns-then-e-s c = all_front _ _ _ _ _ c.put_front-e.ensures c.if-e-s.true (c.ample.ensures (c.if-not-ample.false)).0
 
 pub write_behind-requires : goal.write_behind-requires
-write_behind-requires c = let a = c.ample.ensures (c.if-not-ample.false) in (c.requires, c.put_front-e.ensures.run.inside, a.0, omega (arith, a.1, c.put_front-e.auto.out))
+write_behind-requires c = let a = c.ample.ensures (c.if-not-ample.false) in (c.put_front-e.ensures.run.inside, a.0, omega (arith, a.1, c.put_front-e.auto.out))
 
 pub returns : goal.returns
 returns c = c.write_behind.ensures _ c.put_front-e.ensures

@@ -20,4 +20,4 @@ pub slice_bounds-valid_in-start : goal.slice_bounds-valid_in-start
 slice_bounds-valid_in-start c = let h : c.inner_run-e.result ≤ length c.args.s.now = (through Json _ _ _ _ (here Json _ 0 (omega arith)) c.inner_run-e.ensures).inside in omega arith
 
 pub write_part-requires : goal.write_part-requires
-write_part-requires c = (c.requires, valid_behind _ 0 _ _ (here Json _ 0 (omega arith)) c.inner_run-e.ensures c.valid_in-valid.ensures)
+write_part-requires c = valid_behind _ 0 _ _ (here Json _ 0 (omega arith)) c.inner_run-e.ensures c.valid_in-valid.ensures
