@@ -10,13 +10,17 @@ use borrow.Author.Tests.{eqb-true, eq-eqb, ne_eqb, leb-true}
 use lib.Dec.{ltb, leb, eqb, lit≤}
 use lib.ListN.{length, get_or, take, drop, length-drop}
 use lib.Seq.{take-add, drop-drop, drop-cons, get_or-drop}
+use Rattle.std.specs.Prelude.{Some}
 use Rattle.prelude.specs.Pick.{pick}
+use Rattle.prelude.specs.declared.refusals.Refusal.{Refusal}
+use Rattle.prelude.specs.Refusals.{control}
 use Rattle.prelude.proofs.Cases.{split, and_left, and_right, never}
 use Rattle.prelude.proofs.Picks.{pick_case}
 use Rattle.prelude.proofs.Rest.{get_or_inside}
 use Rattle.utf8.specs.Class.{class_of}
 use Rattle.utf8.specs.Utf8.{char_fault, between, low_of, high_of, char_len}
 use Rattle.utf8.proofs.Characters.{tails, low_bound, char_tails}
+use Rattle.utf8.proofs.Faults.{fault_told}
 use Rattle.notation.specs.declared.styles.Style.{Style}
 use Rattle.notation.specs.declared.styles.Style.TheVariants.{Json, Unicode, Bytes}
 use Rattle.notation.specs.Styles.{quote, fault}
@@ -102,13 +106,20 @@ mark_slash s =
     (λ c. pick_case (Marked s) (eqb (get_or s 0 0) 98 && eqb (get_or s 1 0) 39) _ _ (λ b. front_two s 98 39 (λ z. omega arith) (λ z. omega arith) b)
     (λ b. tt))))
 
+char_refused : (st : Style) (x : ℕ) (r : List ℕ) (why : Refusal) → eqb x (quote st) ≡ false → eqb x 92 ≡ false → ltb x 32 ≡ false
+    → char_len (x ∷ r) ≡ 0 → char_fault (x ∷ r) ≡ Some why → unit_at st (x ∷ r) ≡ fault why
+unfolding unit_at pick
+char_refused st x r why q b c z f = rw (q, b, c, z, f)
+
 -- where no literal character stands, nor a quote or a backslash, a fault does
 unit_fault : (st : Style) (x : ℕ) (r : List ℕ) → literal_len st (x ∷ r) ≡ 0 → eqb x (quote st) ≡ false → eqb x 92 ≡ false
-    → (number : ℕ) × (unit_at st (x ∷ r) ≡ fault number)
+    → (refusal : Refusal) × (unit_at st (x ∷ r) ≡ fault refusal)
 unfolding unit_at literal_len pick
 unit_fault st x r e q b =
-    split (ltb x 32) (λ c. (6, rw (q, b, c)))
-    (λ c. let z : char_len (x ∷ r) ≡ 0 = rw (q, b, c) at e in (char_fault (x ∷ r), rw (q, b, c, z)))
+    split (ltb x 32) (λ c. (control, rw (q, b, c)))
+    (λ c.
+    let z : char_len (x ∷ r) ≡ 0 = rw (q, b, c) at e in
+    let (why, (f, w)) = fault_told (x ∷ r) z in (why, char_refused st x r why q b c z f))
 
 none_ends : (st : Style) (p : ℕ) (cs : List ℕ) (f : ℕ) → read_units st p 0 [] ≡ accepted cs f → ◌≡◌ {A = ℕ} 0 1
 unfolding read_units
@@ -116,7 +127,7 @@ none_ends st p cs f v = cc
 
 more_accepted : (a : List ℕ) (v : StringRead) (bs : List ℕ) (e : ℕ) → more a v ≡ accepted bs e → (cs : List ℕ) × (v ≡ accepted cs e)
 more_accepted a (accepted cs f) bs e h = (cs, let z : f ≡ e = cc in ap (accepted cs) z)
-more_accepted a (refused number at) bs e h = never cc
+more_accepted a (refused refusal at) bs e h = never cc
 
 -- a string whose mark has k bytes, and whose literal characters behind it end at a place
 module _ (text : List ℕ) (at k : ℕ) (st : Style) (o : opening (drop at text) ≡ opens st k) (e : ℕ)
@@ -183,7 +194,7 @@ module _ (text : List ℕ) (at k : ℕ) (st : Style) (o : opening (drop at text)
               let l : literal_len st (x ∷ r) ≡ 0 = rw es at stops in
               let n : eqb x (quote st) ≡ false = ne_eqb x (quote st) (λ z. ne (rw es z)) in
               let d : eqb x 92 ≡ false = rw es at b in
-              let (number, u) = unit_fault st x r l n d in
+              let (refusal, u) = unit_fault st x r l n d in
               let w = rw es at v in
-              let y = read_fault st (k + run) (x ∷ r) number u in
+              let y = read_fault st (k + run) (x ∷ r) refusal u in
               cc

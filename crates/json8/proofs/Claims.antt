@@ -2,12 +2,12 @@
 -- Assumes nothing.
 use Prim.Native.Nat.{ℕ, ◌≤◌}
 use mathlib.Core.List.{List}
-use mathlib.Core.Path.{◌≡◌, refl}
+use mathlib.Core.Path.{◌≡◌, refl, ap}
 use native.Mathlib.Omega.{arith}
 use lib.Dec.{ltb}
 use lib.ListN.{length}
 use Rattle.prelude.proofs.Picks.{pick_case}
-use Rattle.prelude.specs.Refusals.{cut_off}
+use Rattle.prelude.specs.Refusals.{number_of, too_long, cut_off, no_room}
 use Rattle.prelude.specs.Limits.{text_max}
 use Rattle.json8.specs.Nodes.{Read, got, refused}
 use Rattle.json8.specs.Leaves.{string, word, number, key}
@@ -29,25 +29,25 @@ values_progress left p n m s l tag ns bs h e =
 -- a place of a refusal
 abbrev Inside : List ℕ → Read → Type 0
 Inside s (got l tag ns bs) = Unit
-Inside s (refused number at) = (at ≤ length s) × (number ≡ cut_off → at ≡ length s)
+Inside s (refused refusal at) = (at ≤ length s) × (refusal ≡ cut_off → at ≡ length s)
 
 fair_inside : (s : List ℕ) (nodes room : ℕ) (r : Read) → Fair 1 0 0 s r → Inside s (fitted nodes room r)
 fair_inside s nodes room (got l tag ns bs) f =
-    pick_case (Inside s) (ltb nodes (length ns)) (refused 12 0) _ (λ e. (omega arith, λ c. omega arith))
-    (λ e. pick_case (Inside s) (ltb room (length bs)) (refused 12 0) (got l tag ns bs) (λ g. (omega arith, λ c. omega arith)) (λ g. tt))
-fair_inside s nodes room (refused number at) f = (omega (arith, f.0), λ c. omega (arith, f.1 c))
+    pick_case (Inside s) (ltb nodes (length ns)) (refused no_room 0) _ (λ e. (omega arith, λ c. omega (arith, ap number_of c)))
+    (λ e. pick_case (Inside s) (ltb room (length bs)) (refused no_room 0) (got l tag ns bs) (λ g. (omega arith, λ c. omega (arith, ap number_of c))) (λ g. tt))
+fair_inside s nodes room (refused refusal at) f = (omega (arith, f.0), λ c. omega (arith, f.1 c))
 
 all_inside : (nodes room : ℕ) (s : List ℕ) → Inside s (read_of nodes room s)
 unfolding read_of
 all_inside nodes room s =
-    pick_case (Inside s) (ltb text_max (length s)) (refused 2 0) (fitted nodes room (read_all s)) (λ e. (omega arith, λ c. omega arith))
+    pick_case (Inside s) (ltb text_max (length s)) (refused too_long 0) (fitted nodes room (read_all s)) (λ e. (omega arith, λ c. omega (arith, ap number_of c)))
     (λ e. fair_inside s nodes room (read_all s) (read_fair s))
 
 pub refusals_inside : RefusalsInside
-refusals_inside nodes room s number at e = (rw e at (all_inside nodes room s)).0
+refusals_inside nodes room s refusal at e = (rw e at (all_inside nodes room s)).0
 
 pub refusals_numbered : RefusalsNumbered
-refusals_numbered nodes room s number at e = rw e at (text_numbered nodes room s)
+refusals_numbered nodes room s refusal at e = rw e at (text_numbered nodes room s)
 
 pub faults_passed_up : FaultsPassedUp
 faults_passed_up = passed_up

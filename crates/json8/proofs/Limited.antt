@@ -6,10 +6,11 @@ use mathlib.Core.Path.{◌≡◌}
 use borrow.Author.Tests.{le-ltb, lt-ltb}
 use Rattle.prelude.specs.Limits.{node_max}
 use Rattle.prelude.specs.Pick.{pick}
+use Rattle.prelude.specs.Refusals.{too_many}
 use Rattle.json8.specs.Nodes.{refused, Reader, limited}
 
 -- room for a node more
-pub limited_full : (a : Reader) (p n m : ℕ) (s : List ℕ) → node_max ≤ n → limited a p n m s ≡ refused 16 p
+pub limited_full : (a : Reader) (p n m : ℕ) (s : List ℕ) → node_max ≤ n → limited a p n m s ≡ refused too_many p
 unfolding limited pick
 limited_full a p n m s h = rw (le-ltb n node_max h)
 

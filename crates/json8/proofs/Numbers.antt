@@ -1,7 +1,7 @@
 -- The numbers of a JSON8 text's refusals: each reader's own, and those of readers joined; the members' loop by strong induction on the text, lists
 -- and dicts by the brackets left.
 -- Assumes nothing.
-use Prim.Native.Nat.{ℕ, zero, suc, pred, ◌+◌, ◌≤◌, ◌<◌}
+use Prim.Native.Nat.{ℕ, zero, suc, pred, ◌+◌, ◌<◌}
 use mathlib.Core.Bool.{Bool, true, false}
 use mathlib.Core.List.{List, [], ◌∷◌}
 use mathlib.Core.Logic.{◌⊎◌, inl, inr}
@@ -10,23 +10,22 @@ use native.Mathlib.Omega.{arith}
 use borrow.Author.Tests.{ne_eqb}
 use lib.Dec.{ltb, eqb, lit≤}
 use lib.ListN.{length, take, drop}
+use Rattle.std.specs.Prelude.{Option, Some, None, Result, Ok, Err}
+use Rattle.prelude.specs.declared.refusals.Refusal.{Refusal}
+use Rattle.prelude.specs.declared.refusals.Refused.{Refused}
 use Rattle.prelude.specs.Limits.{node_max, depth_max, text_max}
 use Rattle.prelude.specs.Pick.{pick}
-use Rattle.prelude.specs.Refusals.{cut_off, misplaced, too_many, TextFault}
+use Rattle.prelude.specs.Refusals.{too_long, cut_off, no_room, misplaced, too_many, refused_at, FromTo, TextFault}
 use Rattle.prelude.proofs.Cases.{never}
 use Rattle.prelude.proofs.Picks.{pick_case}
 use Rattle.prelude.proofs.Suffix.{by_suffix}
 use Rattle.utf8.specs.Utf8.{char_len, char_fault}
 use Rattle.utf8.proofs.Characters.{high_start}
+use Rattle.utf8.proofs.Faults.{fault_told}
 use Rattle.notation.specs.Marks.{Opening, opens, unopened, opening}
 use Rattle.strings.specs.Read.{StringRead, accepted, refused as unread, read_token}
 use Rattle.strings.proofs.Numbers.{StringFault, token_fault}
-use Rattle.tokens.specs.declared.blanks.Blank.{Blank}
-use Rattle.tokens.specs.declared.blanks.Blank.TheVariants.{Clear, Ill}
-use Rattle.tokens.specs.declared.words.Word.{Word}
-use Rattle.tokens.specs.declared.words.Word.TheVariants.{Value, Other}
 use Rattle.tokens.specs.declared.numbers.Number.{Number}
-use Rattle.tokens.specs.declared.numbers.Number.TheVariants.{Legal, Malformed}
 use Rattle.tokens.specs.declared.starts.Start.{Start}
 use Rattle.tokens.specs.declared.starts.Start.TheVariants.{Ended, String as StringStart, Word as WordStart, Number as NumberStart, List as ListStart, Dict, Nothing}
 use Rattle.tokens.specs.Blanks.{passing, blanks_from, blanks}
@@ -44,12 +43,12 @@ use Rattle.json8.specs.Claims.{Numbered}
 use Rattle.json8.proofs.Fair.{members_skip}
 
 -- a text's own refusals, before the cap and the room
-abbrev InText : ℕ → Type 0
-InText n = TextFault n ⊎ ((misplaced ≤ n) × (n ≤ too_many))
+abbrev InText : Refusal → Type 0
+InText r = TextFault r ⊎ FromTo misplaced too_many r
 
 abbrev Told : Read → Type 0
 Told (got l tag ns bs) = Unit
-Told (refused number at) = InText number
+Told (refused refusal at) = InText refusal
 
 abbrev ToldBy : Reader → Type 0
 ToldBy rd = (p n m : ℕ) (s : List ℕ) → Told (rd p n m s)
@@ -60,12 +59,12 @@ cut = inl (inl refl)
 -- one behind another
 preceded_told : (l : ℕ) (ns : List Node) (bs : List ℕ) (r : Read) → Told r → Told (preceded l ns bs r)
 preceded_told l ns bs (got k tag ms cs) h = tt
-preceded_told l ns bs (refused number at) h = h
+preceded_told l ns bs (refused refusal at) h = h
 
 chain_told : (r : Read) (y : Reader) → Told r → ToldBy y → ToldBy (chain r y)
 chain_told (got l tag ns bs) y f g p n m s =
     preceded_told l ns bs (y (p + l) (n + length ns) (m + length bs) (drop l s)) (g (p + l) (n + length ns) (m + length bs) (drop l s))
-chain_told (refused number at) y f g p n m s = f
+chain_told (refused refusal at) y f g p n m s = f
 
 seq_told : (x y : Reader) → ToldBy x → ToldBy y → ToldBy (seq x y)
 unfolding seq
@@ -80,19 +79,19 @@ spaces_told : ToldBy spaces
 unfolding spaces
 spaces_told p n m s = go (blanks s) (blanks_passed s)
   where
-    go : (b : Blank) → Passed 0 s b → Told (passed p b)
-    go (Clear i) h = tt
-    go (Ill number i) h = inl (inr (inr (inr h.1)))
+    go : (b : Result ℕ Refused) → Passed 0 s b → Told (passed p b)
+    go (Ok i) h = tt
+    go (Err f) h = inl (inr (inr (inr h.1)))
 
 abbrev Lacking : Behind → Type 0
 Lacking closes = Unit
 Lacking separates = Unit
-Lacking (lacks number) = InText number
+Lacking (lacks refusal) = InText refusal
 
 marked_told : (p : ℕ) (b : Behind) → Lacking b → Told (marked p b)
 marked_told p closes h = tt
 marked_told p separates h = tt
-marked_told p (lacks number) h = h
+marked_told p (lacks refusal) h = h
 
 colon_told : ToldBy colon
 unfolding colon colon_at
@@ -117,7 +116,7 @@ string_told p n m s o = by_opening_lem (opening s) refl o
         pick_node : (b : Bool) → Told (string_node b p m (mark_len (opening s)) e bs)
         pick_node true = tt
         pick_node false = tt
-    by_token (unread number at) f = inl f
+    by_token (unread refusal at) f = inl f
 
     by_opening_lem : (q : Opening) → opening s ≡ q → is_opening q ≡ true → Told (string p n m s)
     by_opening_lem (opens st k) e h = by_token (read_token s) (token_fault st k s e)
@@ -127,13 +126,13 @@ plain_told : (kind len p n m : ℕ) (s : List ℕ) → Told (limited (plain kind
 unfolding plain
 plain_told kind len p n m s = limited_told (plain kind len) p n m s tt
 
-word_told : (w : Word) (len : ℕ) → ToldBy (word_read w len)
-word_told (Value kind) len p n m s = plain_told kind len p n m s
-word_told Other len p n m s = inr (lit≤ tt, lit≤ tt)
+word_told : (w : Option ℕ) (len : ℕ) → ToldBy (word_read w len)
+word_told (Some kind) len p n m s = plain_told kind len p n m s
+word_told None len p n m s = inr (lit≤ tt, lit≤ tt)
 
-number_told : (v : Number) → ToldBy (number_read v)
-number_told (Legal kind len) p n m s = plain_told kind len p n m s
-number_told Malformed p n m s = inr (lit≤ tt, lit≤ tt)
+number_told : (v : Option Number) → ToldBy (number_read v)
+number_told (Some v) p n m s = plain_told v.kind v.len p n m s
+number_told None p n m s = inr (lit≤ tt, lit≤ tt)
 
 value_told : (ls ds : Reader) → ToldBy ls → ToldBy ds → ToldBy (value_of ls ds)
 unfolding value_of word number
@@ -184,14 +183,14 @@ module _ (close : ℕ) (rd : Reader) (f : ToldBy rd) where
 
   again_told : (l : ℕ) (ns : List Node) (bs : List ℕ) (r : Read) → Told r → Told (again l ns bs r)
   again_told l ns bs (got k c ms cs) h = tt
-  again_told l ns bs (refused number at) h = h
+  again_told l ns bs (refused refusal at) h = h
 
   loop_one : (x : ℕ) (r : List ℕ) → ((k : ℕ) → LoopTold (drop k r)) → LoopTold (x ∷ r)
   unfolding members
   loop_one x r ih p n m = go (round close rd p n m (x ∷ r)) (round_told p n m (x ∷ r))
     where
       go : (q : Read) → Told q → Told (follow p n m q (λ q i j k. members close rd q i j k r))
-      go (refused number at) g = g
+      go (refused refusal at) g = g
       go (got l zero ns bs) g = g
       go (got l (suc zero) ns bs) g = g
       go (got l (suc (suc t)) ns bs) g =
@@ -204,7 +203,7 @@ module _ (close : ℕ) (rd : Reader) (f : ToldBy rd) where
 
 node_told : (kind p : ℕ) (r : Read) → Told r → Told (group_node kind p r)
 node_told kind p (got l c ns bs) f = tt
-node_told kind p (refused number at) f = f
+node_told kind p (refused refusal at) f = f
 
 group_told : (left : ℕ) (b : Sort) → ToldBy (group left b)
 unfolding group group_of
@@ -231,23 +230,26 @@ all_told s =
 -- with the cap and the rooms
 abbrev pub ReadNumbered : Read → Type 0
 ReadNumbered (got l tag ns bs) = Unit
-ReadNumbered (refused number at) = Numbered number
+ReadNumbered (refused refusal at) = Numbered refusal
 
 fitted_numbered : (nodes room : ℕ) (r : Read) → Told r → ReadNumbered (fitted nodes room r)
 fitted_numbered nodes room (got l tag ns bs) f =
     pick_case ReadNumbered (ltb nodes (length ns)) _ _ (λ e. inr (inr (inr refl)))
-    (λ e. pick_case ReadNumbered (ltb room (length bs)) (refused 12 0) (got l tag ns bs) (λ d. inr (inr (inr refl))) (λ d. tt))
-fitted_numbered nodes room (refused number at) (inl f) = inr (inl f)
-fitted_numbered nodes room (refused number at) (inr f) = inr (inr (inl f))
+    (λ e. pick_case ReadNumbered (ltb room (length bs)) (refused no_room 0) (got l tag ns bs) (λ d. inr (inr (inr refl))) (λ d. tt))
+fitted_numbered nodes room (refused refusal at) (inl f) = inr (inl f)
+fitted_numbered nodes room (refused refusal at) (inr f) = inr (inr (inl f))
 
 pub text_numbered : (nodes room : ℕ) (s : List ℕ) → ReadNumbered (read_of nodes room s)
 unfolding read_of
 text_numbered nodes room s =
-    pick_case ReadNumbered (ltb text_max (length s)) (refused 2 0) (fitted nodes room (read_all s)) (λ e. inl refl)
+    pick_case ReadNumbered (ltb text_max (length s)) (refused too_long 0) (fitted nodes room (read_all s)) (λ e. inl refl)
     (λ e. fitted_numbered nodes room (read_all s) (all_told s))
 
 -- a comment hands on its character's fault
-pub passed_up : (i : ℕ) (s : List ℕ) → 0 < length s → char_len s ≡ 0 → blanks_from true i 0 s ≡ Ill (char_fault s) i
+pub passed_up : (i : ℕ) (s : List ℕ) → 0 < length s → char_len s ≡ 0
+    → (why : Refusal) × ((char_fault s ≡ Some why) × (blanks_from true i 0 s ≡ Err (refused_at why i)))
 unfolding blanks_from passing pick
 passed_up i [] h e = absurd (omega arith)
-passed_up i (x ∷ r) h e = rw (ne_eqb x 0x0a (λ z. omega (arith, high_start x r e)), e)
+passed_up i (x ∷ r) h e =
+    let (why, (f, w)) = fault_told (x ∷ r) e in
+    (why, (f, rw (ne_eqb x 0x0a (λ z. omega (arith, high_start x r e)), e, f)))

@@ -2,17 +2,13 @@
 -- "At one place 3 comes first, then 11, 13, 14, 15, 16, then the rest": a bad word or number goes before the count of nodes, and
 -- that before any fault in a string.
 -- Assumes nothing.
-use Rattle.std.specs.Prelude.{ℕ, ◌+◌, ◌-◌, Bool, true, false, List, [], ◌∷◌, eqb, length, take}
+use Rattle.std.specs.Prelude.{ℕ, ◌+◌, ◌-◌, Bool, true, false, Option, Some, None, Result, Ok, Err, List, [], ◌∷◌, eqb, length, take}
 use Rattle.prelude.specs.Pick.{pick}
+use Rattle.prelude.specs.declared.refusals.Refused.{Refused}
 use Rattle.prelude.specs.Refusals.{cut_off, misplaced, bad_number}
 use Rattle.notation.specs.Marks.{Opening, opens, unopened, opening}
 use Rattle.strings.specs.Read.{StringRead, accepted, refused as unread, read_token}
-use Rattle.tokens.specs.declared.blanks.Blank.{Blank}
-use Rattle.tokens.specs.declared.blanks.Blank.TheVariants.{Clear, Ill}
-use Rattle.tokens.specs.declared.words.Word.{Word}
-use Rattle.tokens.specs.declared.words.Word.TheVariants.{Value, Other}
 use Rattle.tokens.specs.declared.numbers.Number.{Number}
-use Rattle.tokens.specs.declared.numbers.Number.TheVariants.{Legal, Malformed}
 use Rattle.tokens.specs.declared.starts.Start.{Start}
 use Rattle.tokens.specs.declared.starts.Start.TheVariants.{Ended, String as StringStart, Word as WordStart, Number as NumberStart, List as ListStart, Dict, Nothing}
 use Rattle.tokens.specs.Starts.{Behind, closes, separates, lacks}
@@ -23,9 +19,9 @@ use Rattle.tokens.specs.Starts.{start_of, colon_at, comma_at}
 use Rattle.json8.specs.Nodes.{node, Read, got, refused, Reader, limited}
 
 -- whitespace and comments
-abbrev pub passed : ℕ → Blank → Read
-passed p (Clear n) = got n 0 [] []
-passed p (Ill number n) = refused number (p + n)
+abbrev pub passed : ℕ → Result ℕ Refused → Read
+passed p (Ok n) = got n 0 [] []
+passed p (Err f) = refused f.refusal (p + f.place)
 
 unfoldable pub spaces : Reader
 spaces p n m s = passed p (blanks s)
@@ -34,7 +30,7 @@ spaces p n m s = passed p (blanks s)
 abbrev pub marked : ℕ → Behind → Read
 marked p closes = got 1 1 [] []
 marked p separates = got 1 2 [] []
-marked p (lacks number) = refused number p
+marked p (lacks refusal) = refused refusal p
 
 unfoldable pub colon : Reader
 colon p n m s = marked p (colon_at s)
@@ -59,7 +55,7 @@ string_node true p m k e bs = got e 0 (node 6 1 m (length bs) ∷ []) bs
 
 abbrev pub string_read : ℕ → ℕ → List ℕ → StringRead → Read
 string_read p m s (accepted bs e) = string_node (slashed (take e s)) p m (mark_len (opening s)) e bs
-string_read p m s (unread number at) = refused number (p + at)
+string_read p m s (unread refusal at) = refused refusal (p + at)
 
 -- "A string token is read by the J8 rules on the text from its opening mark onward, and ends at its closing quote."
 unfoldable pub string : Reader
@@ -69,16 +65,16 @@ string p n m s = string_read p m s (read_token s)
 unfoldable pub plain : ℕ → ℕ → Reader
 plain kind len p n m s = got len 0 (node kind 1 p len ∷ []) []
 
-abbrev pub word_read : Word → ℕ → Reader
-word_read (Value kind) len = limited (plain kind len)
-word_read Other len = λ p n m s. refused misplaced p
+abbrev pub word_read : Option ℕ → ℕ → Reader
+word_read (Some kind) len = limited (plain kind len)
+word_read None len = λ p n m s. refused misplaced p
 
 unfoldable pub word : Reader
 word p n m s = word_read (word_value (word_of s)) (length (word_of s)) p n m s
 
-abbrev pub number_read : Number → Reader
-number_read (Legal kind len) = limited (plain kind len)
-number_read Malformed = λ p n m s. refused bad_number p
+abbrev pub number_read : Option Number → Reader
+number_read (Some v) = limited (plain v.kind v.len)
+number_read None = λ p n m s. refused bad_number p
 
 unfoldable pub number : Reader
 number p n m s = number_read (number_at s) p n m s

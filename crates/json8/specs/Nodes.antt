@@ -3,6 +3,7 @@
 use Rattle.std.specs.Prelude.{ℕ, ◌+◌, List, [], ◌∷◌, ◌++◌, ltb, length, drop}
 use Rattle.prelude.specs.Limits.{node_max}
 use Rattle.prelude.specs.Pick.{pick}
+use Rattle.prelude.specs.declared.refusals.Refusal.{Refusal}
 use Rattle.prelude.specs.Refusals.{too_many}
 
 -- "four 32-bit numbers a node": "kind, nodes in its subtree with itself, place, length"
@@ -20,10 +21,10 @@ unfoldable pub flat : List Node → List ℕ
 flat [] = []
 flat (v ∷ r) = v.kind ∷ v.count ∷ v.place ∷ v.size ∷ flat r
 
--- so many bytes read, a tag for whoever asked, the nodes, and the bytes appended to the store; or a refusal's number and place
+-- so many bytes read, a tag for whoever asked, the nodes, and the bytes appended to the store; or a refusal and its place
 pub data Read : Type 0 where
   got : ℕ → ℕ → List Node → List ℕ → Read
-  refused : ℕ → ℕ → Read
+  refused : Refusal → ℕ → Read
 
 -- given a place, the nodes and the store's bytes before it, and the text from there on
 abbrev pub Reader : Type 0
@@ -32,11 +33,11 @@ Reader = ℕ → ℕ → ℕ → List ℕ → Read
 -- one behind another; the tag is the last one's
 abbrev pub preceded : ℕ → List Node → List ℕ → Read → Read
 preceded l ns bs (got k tag ms cs) = got (l + k) tag (ns ++ ms) (bs ++ cs)
-preceded l ns bs (refused number at) = refused number at
+preceded l ns bs (refused refusal at) = refused refusal at
 
 abbrev pub chain : Read → Reader → Reader
 chain (got l tag ns bs) b p n m s = preceded l ns bs (b (p + l) (n + length ns) (m + length bs) (drop l s))
-chain (refused number at) b p n m s = refused number at
+chain (refused refusal at) b p n m s = refused refusal at
 
 unfoldable pub seq : Reader → Reader → Reader
 seq a b p n m s = chain (a p n m s) b p n m s

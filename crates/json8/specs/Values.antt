@@ -51,13 +51,13 @@ round close member = seq spaces (close_or close member)
 -- a member, and then the others
 abbrev pub again : ℕ → List Node → List ℕ → Read → Read
 again l ns bs (got k c ms cs) = got (l + k) (suc c) (ns ++ ms) (bs ++ cs)
-again l ns bs (refused number at) = refused number at
+again l ns bs (refused refusal at) = refused refusal at
 
 abbrev pub follow : ℕ → ℕ → ℕ → Read → (ℕ → ℕ → ℕ → ℕ → Read) → Read
 follow p n m (got l zero ns bs) go = got l 0 ns bs
 follow p n m (got l (suc zero) ns bs) go = got l 1 ns bs
 follow p n m (got l (suc (suc t)) ns bs) go = again l ns bs (go (p + l) (n + length ns) (m + length bs) (pred l))
-follow p n m (refused number at) go = refused number at
+follow p n m (refused refusal at) go = refused refusal at
 
 -- the members and the closing bracket, k bytes on; the tag is their number
 unfoldable pub members : ℕ → Reader → ℕ → ℕ → ℕ → ℕ → List ℕ → Read
@@ -69,7 +69,7 @@ members close member p n m (suc k) (x ∷ r) = members close member p n m k r
 -- "nodes in its subtree with itself"; "For 7 and 8 place is the bracket and length the members or pairs"
 abbrev pub group_node : ℕ → ℕ → Read → Read
 group_node kind p (got l c ns bs) = got (suc l) 0 (node kind (suc (length ns)) p c ∷ ns) bs
-group_node kind p (refused number at) = refused number at
+group_node kind p (refused refusal at) = refused refusal at
 
 unfoldable pub group_of : Sort → Reader → Reader
 group_of b value p n m s = group_node (group_kind b) p (members (close_of b) (member_of b value) (p + 1) (n + 1) m 0 (drop 1 s))

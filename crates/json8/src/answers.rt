@@ -1,8 +1,8 @@
-// What reading answers; specs/Read.antt gives it from the text.
+// What reading answers, or a refusal and its place; specs/Read.antt gives it from the text.
 
-// A text read: its nodes and the bytes in the store; or a refusal's number and place.
+// A text read: its nodes and the bytes in the store.
 #[derive(Clone, Copy)]
-pub enum Parsed {
-    Done(usize, usize),
-    Refused(u32, usize),
+pub struct Parsed {
+    pub nodes: usize,
+    pub stored: usize,
 }
