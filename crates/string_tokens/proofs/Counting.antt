@@ -1,6 +1,10 @@
 -- Units counted: the whole reading is what was counted and then the reading of the rest, and the text's bytes so far are those counted and
 -- those that denote none.
 -- Assumes nothing.
+use Rattle.std.specs.Prelude.{Result, Ok, Err}
+use Rattle.prelude.specs.declared.refusals.Refusal.{Refusal}
+use Rattle.prelude.specs.declared.refusals.Refused.{Refused}
+use Rattle.prelude.specs.Refusals.{refused_at}
 use Prim.Native.Nat.{ℕ, zero, suc, ◌+◌, ◌-◌, ◌≤◌, ◌<◌}
 use mathlib.Core.Bool.{Bool, true, false}
 use mathlib.Core.List.{List, [], ◌∷◌, ◌++◌}
@@ -15,20 +19,19 @@ use Rattle.utf8.specs.declared.encoding.Few.{Few}
 use Rattle.utf8.specs.Utf8.{few_of}
 use Rattle.notation.specs.declared.styles.Style.{Style}
 use Rattle.notation.specs.declared.styles.Unit.{Unit as Found}
-use Rattle.notation.specs.declared.styles.Unit.TheVariants.{Close, Took, Fault}
+use Rattle.notation.specs.declared.styles.Unit.TheVariants.{Close, Took}
 use Rattle.notation.specs.Styles.{took, unit_of, FewOf}
 use Rattle.notation.specs.Literals.{literal_run}
 use Rattle.notation.proofs.LiteralLaws.{run_fits}
 use Rattle.units.specs.Units.{unit_at}
 use Rattle.units.proofs.Sizes.{took_size, took_raw}
 use Rattle.units.proofs.SingleLaws.{plain_unit}
-use Rattle.strings.specs.declared.answers.Token.TheVariants.{Ended, Failed}
 use Rattle.strings.specs.Read.{more, read_units, token_of}
 use Rattle.strings.proofs.Steps.{read_closes, read_fault, read_on}
 use Rattle.strings.proofs.Runs.{run_law}
 use Rattle.strings.proofs.Reading.{took_few}
 use Rattle.eights.proofs.Lanes.{word_none}
-use Rattle.string_tokens.specs.inner.Quotes.{Takes, Plains}
+use Rattle.string_tokens.specs.inner.Quotes.{ended_at, failed_at, Takes, Plains}
 use Rattle.eights.specs.inner.Words.{word, bit, is_odd, First}
 use Rattle.string_tokens.proofs.Quoting.{not_odd}
 
@@ -81,25 +84,29 @@ over_plains {st} {s} {from} {at} {spare} {to} c p =
     (plains_then (to - at) c (omega (arith, p.onward, p.inside)) (λ j a b. p.plain j a (omega (arith, p.onward))))
 
 -- one unit in code
-module _ (st : Style) (r : List ℕ) (u : Found) (i : unit_of u ≡ unit_at st r) (f : FewOf u) where
-  pub took_takes : (n : ℕ) (few : Few) → u ≡ Took n few → Takes st r n few.count
+pub ok_is : {u : Result Found Refusal} {x y : Found} → u ≡ Ok x → x ≡ y → u ≡ Ok y
+ok_is e f = e ∙ ap (λ (z : Found). Ok z) f
+
+module _ (st : Style) (r : List ℕ) (u : Result Found Refusal) (i : unit_of u ≡ unit_at st r) (f : FewOf u) where
+  pub took_takes : (n : ℕ) (few : Few) → u ≡ Ok (Took n few) → Takes st r n few.count
   took_takes n few e =
       record { bytes = few_of few; is = sym i ∙ ap unit_of e; count = length-take-le few.count (few.a ∷ few.b ∷ few.c ∷ few.d ∷ []) (took_few u n few e f) }
 
-  pub took_less : (n : ℕ) (few : Few) → u ≡ Took n few → few.count ≤ n
+  pub took_less : (n : ℕ) (few : Few) → u ≡ Ok (Took n few) → few.count ≤ n
   took_less n few e =
       let l : length (few_of few) ≡ few.count = length-take-le few.count (few.a ∷ few.b ∷ few.c ∷ few.d ∷ []) (took_few u n few e f) in
       omega (arith, l, (took_raw st r n (few_of few) (sym i ∙ ap unit_of e)).0)
 
-module _ {st : Style} {s : List ℕ} {from at spare : ℕ} (c : Counted st s from at spare) (u : Found) (i : unit_of u ≡ unit_at st (drop at s)) where
-  pub closed : u ≡ Close → Ended (at + 1) (at - from - spare) ≡ token_of (read_units st from 0 (drop from s))
+module _ {st : Style} {s : List ℕ} {from at spare : ℕ} (c : Counted st s from at spare) (u : Result Found Refusal) (i : unit_of u ≡ unit_at st (drop at s)) where
+  pub closed : u ≡ Ok Close → ended_at (at + 1) (at - from - spare) ≡ token_of (read_units st from 0 (drop from s))
   closed e =
       let l : at - from - spare ≡ length (c.done ++ []) = omega (arith, c.count, length-append c.done []) in
-      ap (λ (n : ℕ). Ended (at + 1) n) l
+      ap (λ (n : ℕ). ended_at (at + 1) n) l
       ∙ ap token_of (sym (c.same ∙ ap (more c.done) (read_closes st at (drop at s) (sym i ∙ ap unit_of e))))
 
-  pub failed : (number : ℕ) → u ≡ Fault number → Failed number at ≡ token_of (read_units st from 0 (drop from s))
-  failed number e = ap token_of (sym (c.same ∙ ap (more c.done) (read_fault st at (drop at s) number (sym i ∙ ap unit_of e))))
+  pub failed : (refusal : Refusal) → u ≡ Err refusal → (f : Refused) → f ≡ refused_at refusal at → failed_at f ≡ token_of (read_units st from 0 (drop from s))
+  failed refusal e f q =
+      ap failed_at q ∙ ap token_of (sym (c.same ∙ ap (more c.done) (read_fault st at (drop at s) refusal (sym i ∙ ap unit_of e))))
 
 bit_none : (b : Bool) → bit b ≡ 0 → b ≡ false
 bit_none true e = absurd (omega arith)

@@ -1,6 +1,8 @@
 -- A string filled: what is still to be stored stands ahead, from inside a literal character on where an eight ended there. A byte that is no
 -- backslash stands for itself, and no backslash stands inside a character, so at a backslash a unit begins.
 -- Assumes nothing.
+use Rattle.std.specs.Prelude.{Result, Ok, Err}
+use Rattle.prelude.specs.declared.refusals.Refusal.{Refusal}
 use Prim.Native.Nat.{ℕ, zero, suc, pred, ◌+◌, ◌-◌, ◌≤◌, ◌<◌}
 use mathlib.Core.Bool.{true, false}
 use mathlib.Core.List.{List, [], ◌∷◌, ◌++◌, append_assoc}
@@ -17,10 +19,11 @@ use Rattle.prelude.proofs.Picks.{pick_case}
 use Rattle.utf8.specs.Class.{class_of}
 use Rattle.utf8.specs.Utf8.{between, char_len, char_by, encode, few_of}
 use Rattle.utf8.specs.declared.encoding.Few.{Few}
+use Rattle.utf8.proofs.Faults.{fault_told}
 use Rattle.utf8.proofs.Characters.{tails, char_tails, low_bound}
 use Rattle.notation.specs.declared.styles.Style.{Style}
 use Rattle.notation.specs.declared.styles.Unit.{Unit as Found}
-use Rattle.notation.specs.declared.styles.Unit.TheVariants.{Close, Took, Fault}
+use Rattle.notation.specs.declared.styles.Unit.TheVariants.{Close, Took}
 use Rattle.notation.specs.Styles.{quote, StringUnit, close, took, fault, unit_of, FewOf}
 use Rattle.escapes.specs.Escapes.{lookup, letters}
 use Rattle.notation.specs.Marks.{opens, unopened, opening}
@@ -29,8 +32,8 @@ use Rattle.units.proofs.Sizes.{took_size, took_raw}
 use Rattle.eights.specs.inner.Words.{First}
 use Rattle.strings.specs.Read.{StringRead, accepted, refused, read_token}
 use Rattle.strings.specs.inner.Turns.{unit_then, units_bytes, bytes_from, token_bytes}
-use Rattle.strings.proofs.UnitBytes.{bytes_skip, bytes_close, bytes_fault, bytes_took, Denoted, token_denoted}
 use Rattle.strings.proofs.Reading.{took_few}
+use Rattle.strings.proofs.UnitBytes.{bytes_skip, bytes_close, bytes_fault, bytes_took, Denoted, token_denoted}
 use Rattle.string_tokens.specs.inner.Quotes.{denoted, len_of, Fronted, Filled}
 use Rattle.string_tokens.proofs.Numbers.{pair_is}
 
@@ -58,7 +61,8 @@ One st x r y ws = (y ≡ x) × Ahead st r ws
 
 by_literal : (st : Style) (x : ℕ) (r : List ℕ) (y : ℕ) (ws : List ℕ) (n : ℕ) → char_len (x ∷ r) ≡ n
     → y ∷ ws ≡ unit_then (literal (char_by n (x ∷ r)) (x ∷ r)) (λ m. units_bytes st m r) → One st x r y ws
-by_literal st x r y ws zero c e = never cc
+by_literal st x r y ws zero c e =
+    let (bad, (is, within)) = fault_told (x ∷ r) c in never (let z : y ∷ ws ≡ [] = rw is at e in cc)
 by_literal st x r y ws (suc n) c e =
     let a : y ≡ x = cc in
     let b : ws ≡ take n r ++ units_bytes st n r = cc in
@@ -114,7 +118,7 @@ unit_short : (st : Style) (r : List ℕ) (u : StringUnit) → ((n : ℕ) (bs : L
 unit_short st r close f g = omega arith
 unit_short st r (took n bs) f g =
     let z = f n bs refl in omega (arith, length-append bs (units_bytes st (pred n) r), z, g (pred n))
-unit_short st r (fault number) f g = omega arith
+unit_short st r (fault refusal) f g = omega arith
 
 units_short : (st : Style) (k : ℕ) (l : List ℕ) → length (units_bytes st k l) ≤ length l - k
 unfolding units_bytes
@@ -258,8 +262,8 @@ module _ (s out : List ℕ) (at o : ℕ) where
 
 -- one unit in code
 module _ (st : Style) (s : List ℕ) (at o : ℕ) (out : List ℕ) where
-  module _ (u : Found) (i : unit_of u ≡ unit_at st (drop at s)) where
-    pub unit_filled : FewOf u → (n : ℕ) (few : Few) (new : List ℕ) → u ≡ Took n few → new ≡ sets out o (few_of few) → Filled st s at o out (at + n) (o + few.count) new
+  module _ (u : Result Found Refusal) (i : unit_of u ≡ unit_at st (drop at s)) where
+    pub unit_filled : FewOf u → (n : ℕ) (few : Few) (new : List ℕ) → u ≡ Ok (Took n few) → new ≡ sets out o (few_of few) → Filled st s at o out (at + n) (o + few.count) new
     unit_filled f n few new e w =
         record {
           len = n;
@@ -270,11 +274,11 @@ module _ (st : Style) (s : List ℕ) (at o : ℕ) (out : List ℕ) where
           stored = w;
         }
 
-    pub no_close : {P : Type 0} → u ≡ Close → 0 < length (units_bytes st 0 (drop at s)) → P
+    pub no_close : {P : Type 0} → u ≡ Ok Close → 0 < length (units_bytes st 0 (drop at s)) → P
     no_close e h = absurd (omega (arith, ap length (bytes_close st (drop at s) (sym i ∙ ap unit_of e))))
 
-    pub no_fault : {P : Type 0} (number : ℕ) → u ≡ Fault number → 0 < length (units_bytes st 0 (drop at s)) → P
-    no_fault number e h = absurd (omega (arith, ap length (bytes_fault st (drop at s) number (sym i ∙ ap unit_of e))))
+    pub no_fault : {P : Type 0} (refusal : Refusal) → u ≡ Err refusal → 0 < length (units_bytes st 0 (drop at s)) → P
+    no_fault refusal e h = absurd (omega (arith, ap length (bytes_fault st (drop at s) refusal (sym i ∙ ap unit_of e))))
 
   letter_inside : (x b : ℕ) → x ≡ get_or (drop (at + 1) s) 0 0 → b ≡ lookup x letters → (b ≡ 0 → ⊥) → at + 1 < length s
   unfolding lookup pick
@@ -310,7 +314,7 @@ len_small v = pick_case (λ k. k ≤ 12) (ltb v 0x10000) 6 12 (λ e. lit≤ tt) 
 -- a token
 fit_of : (v : StringRead) (us out : List ℕ) → Denoted v us → length out ≡ length (denoted v) → 0 < length out → length out ≡ length us
 fit_of (accepted bs e) us out d h p = h ∙ ap length (sym d)
-fit_of (refused number at) us out d h p = absurd (omega arith)
+fit_of (refused refusal at) us out d h p = absurd (omega arith)
 
 none : (l : List ℕ) → length l ≡ 0 → l ≡ []
 none [] e = refl
@@ -318,7 +322,7 @@ none (x ∷ r) e = absurd (omega arith)
 
 told_of : (v : StringRead) (us out new : List ℕ) → Denoted v us → length out ≡ length (denoted v) → new ≡ take (length out) us → new ≡ denoted v
 told_of (accepted bs e) us out new d h w = w ∙ ap (take (length out)) d ∙ take_all (length out) bs (omega arith)
-told_of (refused number at) us out new d h w = w ∙ ap (λ (k : ℕ). take k us) (let z : length out ≡ 0 = h in z)
+told_of (refused refusal at) us out new d h w = w ∙ ap (λ (k : ℕ). take k us) (let z : length out ≡ 0 = h in z)
 
 module _ (s out : List ℕ) (h : length out ≡ length (denoted (read_token s))) where
   module _ (st : Style) (from : ℕ) (e : opening s ≡ opens st from) where

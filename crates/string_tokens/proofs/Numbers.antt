@@ -1,5 +1,6 @@
 -- Numbers in double quotes: the tests of the code decide each `pick` of the definition, and the pattern's length each size.
 -- Assumes nothing.
+use Rattle.std.specs.Prelude.{Option, Some, None}
 use Prim.Native.Nat.{ℕ, ◌+◌, ◌-◌, ◌*◌, ◌≤◌, ◌<◌}
 use mathlib.Core.List.{List, [], ◌∷◌}
 use mathlib.Core.Path.{◌≡◌, refl, sym, ap, ◌∙◌}
@@ -14,7 +15,7 @@ use Rattle.notation.specs.declared.styles.Style.{Style}
 use Rattle.notation.specs.declared.styles.Style.TheVariants.{Json, Unicode, Bytes}
 use Rattle.notation.specs.Styles.{quote, took}
 use Rattle.escapes.specs.Hex.{hex_run, hex_number}
-use Rattle.escapes.specs.Escapes.{lookup, letters, low_half, code_unit}
+use Rattle.escapes.specs.Escapes.{lookup, letters, half_of, IsHalf, low_half, code_unit}
 use Rattle.escapes.proofs.EscapeLaws.{unit_below, four_yes, escape_u}
 use Rattle.units.specs.Units.{unit_at}
 use Rattle.units.proofs.SingleLaws.{letter_at, slash_unit}
@@ -70,17 +71,20 @@ alone_unit : (v : ℕ) → 0xd800 ≤ v → v ≤ 0xdbff → code_unit v 0 ≡ t
 unfolding code_unit
 alone_unit v l h = search tests
 
-pub point_alone : (v w x : ℕ) → 0xd800 ≤ v → v ≤ 0xdbff → x ≡ w → x ≡ 0 → Point v w v
-point_alone v w x l h e z = let q : w ≡ 0 = sym e ∙ z in rw q (alone v 0 (omega arith) (alone_unit v l h))
+pub point_alone : (v w : ℕ) (half : Option ℕ) → 0xd800 ≤ v → v ≤ 0xdbff → half_of half ≡ w → half ≡ None → Point v w v
+point_alone v w half l h e z = let q : w ≡ 0 = sym e ∙ ap half_of z in rw q (alone v 0 (omega arith) (alone_unit v l h))
 
 two_unit : (v w : ℕ) → 0xd800 ≤ v → v ≤ 0xdbff → 0 < w → code_unit v w ≡ took 12 (encode (0x10000 + (v - 0xd800) * 0x400 + (w - 0xdc00)))
 unfolding code_unit
 two_unit v w l h g = search tests
 
-pub point_two : (v w x : ℕ) → 0xd800 ≤ v → v ≤ 0xdbff → x ≡ w → (x ≡ 0 → ⊥) → x ≤ 0xdfff → Point v w (0x10000 + (v - 0xd800) * 0x400 + (x - 0xdc00))
-point_two v w x l h e z m =
-    let p : 0 < x = omega arith in
-    (omega arith, rw (← e) (two_unit v x l h p ∙ ap (λ (n : ℕ). took n (encode (0x10000 + (v - 0xd800) * 0x400 + (x - 0xdc00)))) (sym (twelve _ (omega arith)))))
+two_point : (v x : ℕ) → 0xd800 ≤ v → v ≤ 0xdbff → IsHalf (Some x) → Point v x (0x10000 + (v - 0xd800) * 0x400 + (x - 0xdc00))
+two_point v x l h i =
+    (omega (arith, i.0, i.1), two_unit v x l h (omega (arith, i.0)) ∙ ap (λ (n : ℕ). took n (encode (0x10000 + (v - 0xd800) * 0x400 + (x - 0xdc00)))) (sym (twelve _ (omega arith))))
+
+pub point_two : (v w : ℕ) (half : Option ℕ) → 0xd800 ≤ v → v ≤ 0xdbff → half_of half ≡ w → IsHalf half → (x : ℕ) → half ≡ Some x → Point v w (0x10000 + (v - 0xd800) * 0x400 + (x - 0xdc00))
+point_two v w half l h e i x z =
+    let q : w ≡ x = sym e ∙ ap half_of z in rw q (two_point v x l h (rw z at i))
 
 -- the pattern's length
 pub spare_one : (v : ℕ) → v < 0x80 → 5 + length (encode v) ≡ len_of v

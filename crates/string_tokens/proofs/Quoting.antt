@@ -1,5 +1,8 @@
 -- A token judged: plain bytes are literal characters, so a double quote behind them closes; behind any other end of the run the units decide.
 -- Assumes nothing.
+use Rattle.std.specs.Prelude.{Option, Some, None, Result, Ok, Err}
+use Rattle.prelude.specs.declared.refusals.Refused.{Refused}
+use Rattle.prelude.specs.Refusals.{no_opening, refused_at}
 use mathlib.Core.Path.{◌≡◌, refl, sym, ap, ◌∙◌, subst}
 use mathlib.Core.Bool.{true, false}
 use mathlib.Core.List.{List}
@@ -21,10 +24,9 @@ use Rattle.runs.specs.inner.Blocks.{Running}
 use Rattle.runs.proofs.LiteralRuns.{here, moved, stopped}
 use Rattle.eights.specs.inner.Words.{is_odd, First}
 use Rattle.strings.specs.declared.answers.Token.{Token}
-use Rattle.strings.specs.declared.answers.Token.TheVariants.{Ended, Failed}
-use Rattle.string_tokens.specs.declared.answers.Quoted.TheVariants.{Plain, Slashed, Faulty}
+use Rattle.string_tokens.specs.declared.answers.Quoted.{Quoted}
+use Rattle.string_tokens.specs.declared.answers.Quoted.TheVariants.{Plain, Slashed}
 use Rattle.notation.specs.declared.marks.Mark.{Mark}
-use Rattle.notation.specs.declared.marks.Mark.TheVariants.{Opens, Unopened}
 use Rattle.notation.specs.Marks.{opens, unopened, opening, opening_of}
 use Rattle.strings.specs.Read.{read_units, read_token, token_of}
 use Rattle.string_tokens.specs.inner.Quotes.{PlainToken, Judged}
@@ -80,27 +82,27 @@ module _ (s : List ℕ) (st : Style) (k : ℕ) (o : opening s ≡ opens st k) wh
   token_units = rw o (read_skip st k k s)
 
   module _ (e : ℕ) (ee : e ≡ k + literal_run st 0 (drop k s)) where
-    pub plain_judged : get_or (drop e s) 0 0 ≡ quote st → Judged s (Plain k e)
+    pub plain_judged : get_or (drop e s) 0 0 ≡ quote st → Judged s (Ok (Plain k e))
     plain_judged q = record { so = record { style = st; mark = o; run = ee; ends = q } }
 
-    module _ (r : Token) (er : r ≡ token_of (read_units st k 0 (drop k s))) where
+    module _ (r : Result Token Refused) (er : r ≡ token_of (read_units st k 0 (drop k s))) where
       told : r ≡ token_of (read_token s)
       told = er ∙ ap token_of (sym token_units)
 
-      pub slashed_judged : (end count : ℕ) → (get_or (drop e s) 0 0 ≡ quote st → ⊥) → r ≡ Ended end count → Judged s (Slashed end count)
-      slashed_judged end count n f =
+      pub slashed_judged : (token : Token) → (get_or (drop e s) 0 0 ≡ quote st → ⊥) → r ≡ Ok token → Judged s (Ok (Slashed token.end token.len))
+      slashed_judged token n f =
           record { so = record { style = st; from = k; mark = o; goes_on = λ z. n (ap (λ (i : ℕ). get_or (drop i s) 0 0) ee ∙ z); told = sym f ∙ told } }
 
-      pub faulty_judged : (number place : ℕ) → r ≡ Failed number place → Judged s (Faulty number place)
-      faulty_judged number place f = record { so = sym f ∙ told }
+      pub faulty_judged : (f : Refused) → r ≡ Err f → (u : Result Quoted Refused) → u ≡ Err f → Judged s u
+      faulty_judged f q u g = subst (Judged s) (sym g) (record { so = sym q ∙ told })
 
-module _ (s : List ℕ) (m : Mark) (em : opening_of m ≡ opening s) where
-  pub mark_is : (st : Style) (k : ℕ) → m ≡ Opens st k → opening s ≡ opens st k
-  mark_is st k q = sym em ∙ ap opening_of q
+module _ (s : List ℕ) (m : Option Mark) (em : opening_of m ≡ opening s) where
+  pub mark_is : (k : Mark) → m ≡ Some k → opening s ≡ opens k.style k.len
+  mark_is k q = sym em ∙ ap opening_of q
 
-  pub mark_none : m ≡ Unopened → opening s ≡ unopened
+  pub mark_none : m ≡ None → opening s ≡ unopened
   mark_none q = sym em ∙ ap opening_of q
 
-  pub unmarked_judged : m ≡ Unopened → Judged s (Faulty 3 0)
+  pub unmarked_judged : m ≡ None → (f : Refused) → f ≡ refused_at no_opening 0 → Judged s (Err f)
   unfolding read_token
-  unmarked_judged q = record { so = let u : opening s ≡ unopened = mark_none q in rw u }
+  unmarked_judged q f e = record { so = let u : opening s ≡ unopened = mark_none q in rw (u, e) }

@@ -1,16 +1,15 @@
 // What a string denotes that was judged before.
 ghost use Rattle.std.specs.Prelude.{◌≡◌, ◌+◌, ◌-◌, ◌<◌, ◌≤◌, length, get_or, take, drop};
-ghost use Rattle.utf8.specs.Class.{IsTable};
 ghost use Rattle.strings.specs.Read.{read_token};
 ghost use Rattle.strings.specs.inner.Turns.{units_bytes};
 ghost use Rattle.string_tokens.specs.inner.Quotes.{denoted, Fronted, Filled};
 
 use crate::short_escapes;
 use notation::marks;
-use notation::marks::Mark;
 use notation::styles::{Style, Unit};
 use prelude::slices;
 use strings::read;
+use utf8::classes::Classes;
 use utf8::encoding;
 
 // A place behind a unit, and the bytes stored so far.
@@ -44,14 +43,14 @@ fn front(s: &[u8], at: usize, o: usize, out: &mut [u8]) -> usize
 }
 
 // One unit that isn't the closing quote or a fault.
-fn fill_unit(t: &[u8; 256], s: &[u8], at: usize, style: Style, o: usize, out: &mut [u8]) -> Moved
-    requires { IsTable t.now × (at ≤ length s.now) × (o ≤ length out.old) × (0 < length (units_bytes style 0 (drop at s.now))) }
+fn fill_unit(t: &Classes, s: &[u8], at: usize, style: Style, o: usize, out: &mut [u8]) -> Moved
+    requires { (at ≤ length s.now) × (o ≤ length out.old) × (0 < length (units_bytes style 0 (drop at s.now))) }
     ensures { Filled style s.now at o out.old result.at result.count out.new }
 {
     let unit = units::units::unit_at(t, s, at, style);
     match unit {
-        Unit::Close => Moved { at, count: o },
-        Unit::Took(n, few) => {
+        Ok(Unit::Close) => Moved { at, count: o },
+        Ok(Unit::Took(n, few)) => {
             let count = few.count;
             read::put_few(few, o, out);
             Moved {
@@ -59,19 +58,18 @@ fn fill_unit(t: &[u8; 256], s: &[u8], at: usize, style: Style, o: usize, out: &m
                 count: o + count,
             }
         }
-        Unit::Fault(_) => Moved { at, count: o },
+        Err(_) => Moved { at, count: o },
     }
 }
 
 // The same of an escape by its number, or of any other unit.
-fn fill_number(t: &[u8; 256], s: &[u8], at: usize, style: Style, o: usize, out: &mut [u8]) -> Moved
-    requires { IsTable t.now × (at ≤ length s.now) × (o ≤ length out.old) × (0 < length (units_bytes style 0 (drop at s.now))) }
+fn fill_number(t: &Classes, s: &[u8], at: usize, style: Style, o: usize, out: &mut [u8]) -> Moved
+    requires { (at ≤ length s.now) × (o ≤ length out.old) × (0 < length (units_bytes style 0 (drop at s.now))) }
     ensures { Filled style s.now at o out.old result.at result.count out.new }
 {
-    let v = short_escapes::point_at(s, at, style);
-    if 0x10ffff < v {
+    let Some(v) = short_escapes::point_at(s, at, style) else {
         return fill_unit(t, s, at, style, o, out);
-    }
+    };
     let few = encoding::encode(v);
     let count = few.count;
     read::put_few(few, o, out);
@@ -82,8 +80,8 @@ fn fill_number(t: &[u8; 256], s: &[u8], at: usize, style: Style, o: usize, out: 
 }
 
 // The same of an escape. Letters never call: they are the common case.
-fn fill_escape(t: &[u8; 256], s: &[u8], at: usize, style: Style, o: usize, out: &mut [u8]) -> Moved
-    requires { IsTable t.now × (at < length s.now) × (get_or s.now at 0 ≡ 0x5c) × (o ≤ length out.old) × (0 < length (units_bytes style 0 (drop at s.now))) }
+fn fill_escape(t: &Classes, s: &[u8], at: usize, style: Style, o: usize, out: &mut [u8]) -> Moved
+    requires { (at < length s.now) × (get_or s.now at 0 ≡ 0x5c) × (o ≤ length out.old) × (0 < length (units_bytes style 0 (drop at s.now))) }
     ensures { Filled style s.now at o out.old result.at result.count out.new }
 {
     let b = escapes::common(slices::byte_at(s, at + 1, 0));
@@ -98,8 +96,8 @@ fn fill_escape(t: &[u8; 256], s: &[u8], at: usize, style: Style, o: usize, out: 
 }
 
 // The units from a place on, into a part of just their bytes' number or of none.
-fn fill_units(t: &[u8; 256], s: &[u8], from: usize, style: Style, out: &mut [u8])
-    requires { IsTable t.now × (from ≤ length s.now) × (0 < length out.old → length out.old ≡ length (units_bytes style 0 (drop from s.now))) }
+fn fill_units(t: &Classes, s: &[u8], from: usize, style: Style, out: &mut [u8])
+    requires { (from ≤ length s.now) × (0 < length out.old → length out.old ≡ length (units_bytes style 0 (drop from s.now))) }
     ensures { out.new ≡ take (length out.old) (units_bytes style 0 (drop from s.now)) }
 {
     let mut at = from;
@@ -124,15 +122,14 @@ fn fill_units(t: &[u8; 256], s: &[u8], from: usize, style: Style, out: &mut [u8]
 }
 
 // Stores what the string denotes that a text begins with; the part lent has just its length.
-pub fn fill(t: &[u8; 256], s: &[u8], out: &mut [u8])
-    requires { IsTable t.now × (length out.old ≡ length (denoted (read_token s.now))) }
+pub fn fill(t: &Classes, s: &[u8], out: &mut [u8])
+    requires { length out.old ≡ length (denoted (read_token s.now)) }
     ensures { out.new ≡ denoted (read_token s.now) }
 {
-    let mark = marks::mark_at(s);
-    match mark {
-        Mark::Opens(style, from) => {
-            fill_units(t, s, from, style, out);
+    match marks::mark_at(s) {
+        Some(mark) => {
+            fill_units(t, s, mark.len, mark.style, out);
         }
-        Mark::Unopened => {}
+        None => {}
     }
 }

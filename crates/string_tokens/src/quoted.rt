@@ -1,6 +1,5 @@
 // The string that a text begins with, judged and not stored: for readers of texts that hold many.
-ghost use Rattle.std.specs.Prelude.{◌≡◌, ◌+◌, ◌-◌, ◌<◌, ◌≤◌, length, get_or, drop};
-ghost use Rattle.utf8.specs.Class.{IsTable};
+ghost use Rattle.std.specs.Prelude.{◌≡◌, ◌+◌, ◌-◌, ◌<◌, ◌≤◌, length, get_or, drop, IfSome};
 ghost use Rattle.notation.specs.declared.styles.Style.TheVariants.{Json};
 ghost use Rattle.notation.specs.Literals.{literal_run};
 ghost use Rattle.runs.specs.inner.Blocks.{Running};
@@ -10,31 +9,32 @@ ghost use Rattle.string_tokens.specs.inner.Quotes.{PlainToken, Judged, Plains};
 
 use crate::answers::Quoted;
 use crate::short_escapes;
-use notation::marks::Mark;
 use notation::styles::{Style, Unit};
 use notation::{marks, styles};
-use prelude::{refusals, slices};
+use prelude::refusals::{Refusal, Refused};
+use prelude::slices;
 use runs::literals;
 use strings::answers::Token;
+use utf8::classes::Classes;
 
-// The place behind the closing quote, where one stands at e, behind plain bytes; else 0.
-fn closed(s: &[u8], e: usize) -> usize
+// The place behind the closing quote, where one stands at e, behind plain bytes.
+fn closed(s: &[u8], e: usize) -> Option<usize>
     requires { (get_or s.now 0 0 ≡ 0x22) × (e < length s.now) × (e ≤ 17) × Running Json s.now 1 e }
-    ensures { 0 < result → PlainToken s.now 1 (result - 1) }
+    ensures { IfSome result (λ end. (0 < end) × PlainToken s.now 1 (end - 1)) }
 {
     if s[e] == b'"' {
-        return e + 1;
+        return Some(e + 1);
     }
-    0
+    None
 }
 
-// The place behind a string that begins with a double quote, has no backslash and is short; 0 where another stands.
-pub fn short(s: &[u8]) -> usize
+// The place behind a string that begins with a double quote, has no backslash and is short.
+pub fn short(s: &[u8]) -> Option<usize>
     requires { get_or s.now 0 0 ≡ 0x22 }
-    ensures { 0 < result → PlainToken s.now 1 (result - 1) }
+    ensures { IfSome result (λ end. (0 < end) × PlainToken s.now 1 (end - 1)) }
 {
     if s.len() < 18 {
-        return 0;
+        return None;
     }
     let k = eights::place(eights::odds(eights::eight(s, 1)));
     if k < 8 {
@@ -61,60 +61,56 @@ pub fn plains_on(s: &[u8], from: usize) -> usize
 
 // The units from a place on, where the first run of literal characters ends at e, counted; `spare` are the text's bytes so far that
 // denote none.
-fn counted(t: &[u8; 256], s: &[u8], from: usize, e: usize, style: Style) -> Token
-    requires { IsTable t.now × (from ≤ length s.now) × (e ≡ from + literal_run style 0 (drop from s.now)) }
+fn counted(t: &Classes, s: &[u8], from: usize, e: usize, style: Style) -> Result<Token, Refused>
+    requires { (from ≤ length s.now) × (e ≡ from + literal_run style 0 (drop from s.now)) }
     ensures { result ≡ token_of (read_units style from 0 (drop from s.now)) }
 {
     let mut at = e;
     let mut spare: usize = 0;
     loop {
-        let size = short_escapes::size_at(s, at, style);
-        let len = size.len;
-        if 0 < len {
-            at = plains_on(s, at + len);
+        if let Some(size) = short_escapes::size_at(s, at, style) {
+            at = plains_on(s, at + size.len);
             spare += size.spare;
             continue;
         }
         let unit = units::units::unit_at(t, s, at, style);
         match unit {
-            Unit::Close => {
-                return Token::Ended(at + 1, at - from - spare);
+            Ok(Unit::Close) => {
+                return Ok(Token {
+                    end: at + 1,
+                    len: at - from - spare,
+                });
             }
-            Unit::Took(n, few) => {
+            Ok(Unit::Took(n, few)) => {
                 at = plains_on(s, at + n);
                 spare += n - few.count;
             }
-            Unit::Fault(number) => {
-                return Token::Failed(number, at);
+            Err(refusal) => {
+                return Err(refusal.at(at));
             }
         }
     }
 }
 
 // Behind a mark of k bytes.
-fn behind(t: &[u8; 256], s: &[u8], k: usize, style: Style) -> Quoted
-    requires { IsTable t.now × (opening s.now ≡ opens style k) }
+fn behind(t: &Classes, s: &[u8], k: usize, style: Style) -> Result<Quoted, Refused>
+    requires { opening s.now ≡ opens style k }
     ensures { Judged s.now result }
 {
     let e = literals::inner_run(t, s, k, style);
     if slices::byte_at(s, e, 0) == styles::quote_of(style) {
-        return Quoted::Plain(k, e);
+        return Ok(Quoted::Plain(k, e));
     }
-    let token = counted(t, s, k, e, style);
-    match token {
-        Token::Ended(end, count) => Quoted::Slashed(end, count),
-        Token::Failed(number, place) => Quoted::Faulty(number, place),
-    }
+    let token = counted(t, s, k, e, style)?;
+    Ok(Quoted::Slashed(token.end, token.len))
 }
 
 // The string that a text begins with.
-pub fn quoted(t: &[u8; 256], s: &[u8]) -> Quoted
-    requires { IsTable t.now }
+pub fn quoted(t: &Classes, s: &[u8]) -> Result<Quoted, Refused>
     ensures { Judged s.now result }
 {
-    let mark = marks::mark_at(s);
-    match mark {
-        Mark::Opens(style, k) => behind(t, s, k, style),
-        Mark::Unopened => Quoted::Faulty(refusals::NO_OPENING, 0),
+    match marks::mark_at(s) {
+        Some(mark) => behind(t, s, mark.len, mark.style),
+        None => Err(Refusal::NoOpening.at(0)),
     }
 }

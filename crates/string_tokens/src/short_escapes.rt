@@ -1,5 +1,5 @@
 // Escapes told by few bytes, and their sizes.
-ghost use Rattle.std.specs.Prelude.{◌≡◌, ◌+◌, ◌-◌, ◌<◌, ◌≤◌, length, drop};
+ghost use Rattle.std.specs.Prelude.{◌≡◌, ◌+◌, ◌-◌, ◌<◌, ◌≤◌, length, drop, IfSome};
 ghost use Rattle.utf8.specs.Utf8.{encode};
 ghost use Rattle.notation.specs.Styles.{took};
 ghost use Rattle.escapes.specs.Escapes.{low_half, code_unit};
@@ -10,36 +10,36 @@ use escapes::hex;
 use notation::styles;
 use notation::styles::Style;
 
-// The bytes of a unit, and how many of them denote none; 0 bytes where another unit stands.
+// The bytes of a unit, and how many of them denote none.
 #[derive(Clone, Copy)]
 pub(crate) struct Size {
     pub len: usize,
     pub spare: usize,
 }
 
-// The number of the escape of six bytes at a place in double quotes, 65536 where another unit stands.
-fn code_at(s: &[u8], at: usize, style: Style) -> u32
+// The number of the escape of six bytes at a place in double quotes.
+fn code_at(s: &[u8], at: usize, style: Style) -> Option<u32>
     requires { at ≤ length s.now }
-    ensures { result < 0x10000 → (at + 6 ≤ length s.now) × (unit_at style (drop at s.now) ≡ code_unit result (low_half (drop (at + 6) s.now))) }
+    ensures { IfSome result (λ v. (v < 0x10000) × (at + 6 ≤ length s.now) × (unit_at style (drop at s.now) ≡ code_unit v (low_half (drop (at + 6) s.now)))) }
 {
     if styles::quote_of(style) != b'"' {
-        return 65536;
+        return None;
     }
     if s.len() - at < 6 {
-        return 65536;
+        return None;
     }
     if s[at] != b'\\' {
-        return 65536;
+        return None;
     }
     if s[at + 1] != b'u' {
-        return 65536;
+        return None;
     }
     let d = hex::digits_at(s, at + 2, 4);
     let n = d.count;
     if n != 4 {
-        return 65536;
+        return None;
     }
-    d.value
+    Some(d.value)
 }
 
 // The code point of an escape with number v, behind which a place stands: two halves are one.
@@ -53,23 +53,20 @@ fn joined(s: &[u8], at: usize, v: u32) -> u32
     if 0xdbff < v {
         return v;
     }
-    let w = escapes::low_half(s, at);
-    if w == 0 {
-        return v;
+    let half = escapes::low_half(s, at);
+    match half {
+        Some(w) => 0x10000 + (v - 0xd800) * 0x400 + (w - 0xdc00),
+        None => v,
     }
-    0x10000 + (v - 0xd800) * 0x400 + (w - 0xdc00)
 }
 
-// The code point that a number in double quotes denotes, 0x110000 where another unit stands.
-pub(crate) fn point_at(s: &[u8], at: usize, style: Style) -> u32
+// The code point that a number in double quotes denotes.
+pub(crate) fn point_at(s: &[u8], at: usize, style: Style) -> Option<u32>
     requires { at ≤ length s.now }
-    ensures { result < 0x110000 → unit_at style (drop at s.now) ≡ took (len_of result) (encode result) }
+    ensures { IfSome result (λ v. (v < 0x110000) × (unit_at style (drop at s.now) ≡ took (len_of v) (encode v))) }
 {
-    let v = code_at(s, at, style);
-    if 0xffff < v {
-        return 0x110000;
-    }
-    joined(s, at + 6, v)
+    let v = code_at(s, at, style)?;
+    Some(joined(s, at + 6, v))
 }
 
 // The bytes of the escape of a code point.
@@ -96,25 +93,22 @@ fn spare_of(v: u32) -> usize
 }
 
 // The escape at a place that few bytes tell.
-pub(crate) fn size_at(s: &[u8], at: usize, style: Style) -> Size
+pub(crate) fn size_at(s: &[u8], at: usize, style: Style) -> Option<Size>
     requires { at ≤ length s.now }
-    ensures { 0 < result.len → (result.spare ≤ result.len) × Takes style (drop at s.now) result.len (result.len - result.spare) }
+    ensures { IfSome result (λ size. (size.spare ≤ size.len) × Takes style (drop at s.now) size.len (size.len - size.spare)) }
 {
     if s.len() - at < 2 {
-        return Size { len: 0, spare: 0 };
+        return None;
     }
     if s[at] != b'\\' {
-        return Size { len: 0, spare: 0 };
+        return None;
     }
     if escapes::common(s[at + 1]) != 0 {
-        return Size { len: 2, spare: 1 };
+        return Some(Size { len: 2, spare: 1 });
     }
-    let v = point_at(s, at, style);
-    if 0x10ffff < v {
-        return Size { len: 0, spare: 0 };
-    }
-    Size {
+    let v = point_at(s, at, style)?;
+    Some(Size {
         len: len_of(v),
         spare: spare_of(v),
-    }
+    })
 }

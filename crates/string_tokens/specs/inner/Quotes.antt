@@ -1,7 +1,8 @@
 -- What the reader of a token promises of it: these speak of the code alone, and no rule cites them.
 -- Assumes nothing.
-use Rattle.std.specs.Prelude.{ℕ, ◌+◌, ◌≤◌, ◌<◌, List, [], ◌≡◌, false, ltb, length, get_or, take, drop}
+use Rattle.std.specs.Prelude.{ℕ, ◌+◌, ◌≤◌, ◌<◌, List, [], ◌≡◌, false, ltb, length, get_or, take, drop, Result, Ok, Err}
 use Rattle.std.proofs.lemmas.List.Edits.{sets}
+use Rattle.prelude.specs.declared.refusals.Refused.{Refused}
 use Rattle.prelude.specs.Bytes.{backslash}
 use Rattle.prelude.specs.Pick.{pick}
 use Rattle.eights.specs.inner.Words.{is_odd}
@@ -9,11 +10,18 @@ use Rattle.notation.specs.declared.styles.Style.{Style}
 use Rattle.notation.specs.Styles.{quote, took}
 use Rattle.units.specs.Units.{unit_at}
 use Rattle.notation.specs.Literals.{literal_run}
-use Rattle.strings.specs.declared.answers.Token.TheVariants.{Ended, Failed}
+use Rattle.strings.specs.declared.answers.Token.{Token}
 use Rattle.string_tokens.specs.declared.answers.Quoted.{Quoted}
-use Rattle.string_tokens.specs.declared.answers.Quoted.TheVariants.{Plain, Slashed, Faulty}
+use Rattle.string_tokens.specs.declared.answers.Quoted.TheVariants.{Plain, Slashed}
 use Rattle.notation.specs.Marks.{opens, opening}
-use Rattle.strings.specs.Read.{StringRead, accepted, refused, read_token, token_of}
+use Rattle.strings.specs.Read.{StringRead, accepted, refused, read_token, token_at, token_of}
+
+-- the answers of a token's reader
+abbrev pub ended_at : ℕ → ℕ → Result Token Refused
+ended_at end len = Ok (token_at end len)
+
+abbrev pub failed_at : Refused → Result Token Refused
+failed_at f = Err f
 
 -- without a backslash: a mark of k bytes, literal characters, and the closing quote at e
 pub record PlainToken (s : List ℕ) (k e : ℕ) : Type 0 where
@@ -28,20 +36,20 @@ pub record SlashedToken (s : List ℕ) (end count : ℕ) : Type 0 where
   pub from : ℕ
   pub mark : opening s ≡ opens style from
   pub goes_on : get_or (drop (from + literal_run style 0 (drop from s)) s) 0 0 ≡ quote style → ⊥
-  pub told : Ended end count ≡ token_of (read_token s)
+  pub told : ended_at end count ≡ token_of (read_token s)
 
-abbrev pub JudgedBy : List ℕ → Quoted → Type 0
-JudgedBy s (Plain k e) = PlainToken s k e
-JudgedBy s (Slashed end count) = SlashedToken s end count
-JudgedBy s (Faulty number place) = Failed number place ≡ token_of (read_token s)
+abbrev pub JudgedBy : List ℕ → Result Quoted Refused → Type 0
+JudgedBy s (Ok (Plain k e)) = PlainToken s k e
+JudgedBy s (Ok (Slashed end count)) = SlashedToken s end count
+JudgedBy s (Err f) = failed_at f ≡ token_of (read_token s)
 
-pub record Judged (s : List ℕ) (r : Quoted) : Type 0 where
+pub record Judged (s : List ℕ) (r : Result Quoted Refused) : Type 0 where
   pub so : JudgedBy s r
 
 -- the bytes of a string
 abbrev pub denoted : StringRead → List ℕ
 denoted (accepted bs e) = bs
-denoted (refused number at) = []
+denoted (refused refusal at) = []
 
 -- the bytes of the escape of a code point in double quotes
 unfoldable pub len_of : ℕ → ℕ

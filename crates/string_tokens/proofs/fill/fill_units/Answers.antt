@@ -1,9 +1,5 @@
-use Rattle.string_tokens.proofs.fill.fill_units.Reads as reads
-use Rattle.string_tokens.proofs.fill.fill_units.Lts as lts
-use Rattle.string_tokens.proofs.fill.fill_escape.Reads as fill-escape-reads
-use Rattle.string_tokens.proofs.fill.front.Reads as front_reads
 use native.Mathlib.Omega.{arith}
-use Prim.Native.Nat.{ℕ, ◌-◌}
+use Prim.Native.Nat.{ℕ}
 use lib.ListN.{take, drop}
 use mathlib.Core.Path.{refl, ap, ◌∙◌}
 use Rattle.strings.specs.inner.Turns.{units_bytes}
@@ -11,7 +7,7 @@ use Rattle.string_tokens.proofs.Filling.{begun, more_text, text_left, on_front, 
 use Rattle.string_tokens.proofs.fill.fill_units.Goals as goal
 
 pub loop-o-init : goal.loop-o-init
-loop-o-init c = (begun _ c.args.s.now c.args.out.now _ c.requires.1 c.requires.2, refl)
+loop-o-init c = (begun _ c.args.s.now c.args.out.now _ c.requires.0 c.requires.1, refl)
 
 pub front-k-requires : goal.front-k-requires
 front-k-requires c =
@@ -50,7 +46,7 @@ loop-o-preserved-then-s-at-ne92 c =
 
 pub fill_escape-moved-requires : goal.fill_escape-moved-requires
 fill_escape-moved-requires c =
-    (c.requires.0, more_text _ c.args.s.now (units_bytes c.args.style 0 (drop c.args.from c.args.s.now)) _ _ _ (on_front _ c.args.s.now (units_bytes c.args.style 0 (drop c.args.from c.args.s.now)) _ _ _ c.loop-o.invariant.0 _ _ (omega arith) c.front-k.ensures) (omega (arith, c.if-out-o.false)), c.if-s-at-ne92.false, omega (arith, c.if-out-o.false), some_bytes _ c.args.s.now (units_bytes c.args.style 0 (drop c.args.from c.args.s.now)) _ _ _ (on_front _ c.args.s.now (units_bytes c.args.style 0 (drop c.args.from c.args.s.now)) _ _ _ c.loop-o.invariant.0 _ _ (omega arith) c.front-k.ensures) c.if-s-at-ne92.false (omega (arith, c.if-out-o.false)))
+    (more_text _ c.args.s.now (units_bytes c.args.style 0 (drop c.args.from c.args.s.now)) _ _ _ (on_front _ c.args.s.now (units_bytes c.args.style 0 (drop c.args.from c.args.s.now)) _ _ _ c.loop-o.invariant.0 _ _ (omega arith) c.front-k.ensures) (omega (arith, c.if-out-o.false)), c.if-s-at-ne92.false, omega (arith, c.if-out-o.false), some_bytes _ c.args.s.now (units_bytes c.args.style 0 (drop c.args.from c.args.s.now)) _ _ _ (on_front _ c.args.s.now (units_bytes c.args.style 0 (drop c.args.from c.args.s.now)) _ _ _ c.loop-o.invariant.0 _ _ (omega arith) c.front-k.ensures) c.if-s-at-ne92.false (omega (arith, c.if-out-o.false)))
 
 pub loop-o-smaller : goal.loop-o-smaller
 loop-o-smaller c =

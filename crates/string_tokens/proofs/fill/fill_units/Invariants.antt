@@ -1,8 +1,4 @@
 -- The loop's invariant `Filling`: bytes before a backslash, and the unit that begins there (Filling).
-use Rattle.string_tokens.proofs.fill.fill_units.Reads as reads
-use Rattle.string_tokens.proofs.fill.fill_units.Lts as lts
-use Rattle.string_tokens.proofs.fill.fill_escape.Reads as fill-escape-reads
-use Rattle.string_tokens.proofs.fill.front.Reads as front_reads
 use Prim.Native.Nat.{◌-◌}
 use lib.ListN.{length, drop}
 use mathlib.Core.Path.{◌≡◌}

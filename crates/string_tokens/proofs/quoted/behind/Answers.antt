@@ -1,26 +1,25 @@
 -- The run ends at the closing quote, or the units decide (Quoting).
-use Rattle.string_tokens.proofs.quoted.behind.Reads as reads
-use Rattle.string_tokens.proofs.quoted.behind.Lts as lts
-use Rattle.prelude.proofs.slices.byte_at.Reads as byte-at-reads
-use Rattle.runs.proofs.literals.inner_run.Reads as inner-run-reads
-use Rattle.string_tokens.proofs.quoted.counted.Reads as counted-reads
-use Rattle.notation.proofs.styles.quote_of.Reads as quote-of-reads
-use mathlib.Core.Path.{sym, ◌∙◌}
+use mathlib.Core.Path.{sym, ap, ◌∙◌}
+use Rattle.std.specs.Prelude.{Err}
+use Rattle.std.proofs.lemmas.Result.{err_from_is_err_and}
+use Rattle.prelude.specs.declared.refusals.Refused.{Refused}
 use Rattle.string_tokens.proofs.Quoting.{mark_fits, plain_judged, slashed_judged, faulty_judged}
 use Rattle.string_tokens.proofs.quoted.behind.Goals as goal
 
 pub inner_run-e-requires : goal.inner_run-e-requires
-inner_run-e-requires c = (c.requires.0, mark_fits _ _ _ c.requires.1)
+inner_run-e-requires c = mark_fits _ _ _ c.requires
 
 pub returns-then-byte_at-quote_of : goal.returns-then-byte_at-quote_of
-returns-then-byte_at-quote_of c = plain_judged _ _ _ c.requires.1 _ c.inner_run-e.ensures (sym c.byte_at.ensures ∙ c.if-byte_at-quote_of.true ∙ c.quote_of.ensures)
+returns-then-byte_at-quote_of c = plain_judged _ _ _ c.requires _ c.inner_run-e.ensures (sym c.byte_at.ensures ∙ c.if-byte_at-quote_of.true ∙ c.quote_of.ensures)
 
-pub counted-token-requires : goal.counted-token-requires
-counted-token-requires c = (c.requires.0, mark_fits _ _ _ c.requires.1, c.inner_run-e.ensures)
+pub counted-requires : goal.counted-requires
+counted-requires c = (mark_fits _ _ _ c.requires, c.inner_run-e.ensures)
 
-pub returns-in-Ended : goal.returns-in-Ended
-returns-in-Ended c =
-    slashed_judged _ _ _ c.requires.1 _ c.inner_run-e.ensures _ c.counted-token.ensures _ _ (λ z. c.if-byte_at-quote_of.false (c.byte_at.ensures ∙ z ∙ sym c.quote_of.ensures)) c.in-Ended.is
+pub returns-in_err-token : goal.returns-in_err-token
+returns-in_err-token c =
+    let p = err_from_is_err_and c.from_residual.result c.from_residual.ensures.1 in
+    faulty_judged _ _ _ c.requires _ c.inner_run-e.ensures _ c.counted.ensures _ c.in_err-token.was _ (p.1 ∙ ap (λ (f : Refused). Err f) p.2)
 
-pub returns-in-Failed : goal.returns-in-Failed
-returns-in-Failed c = faulty_judged _ _ _ c.requires.1 _ c.inner_run-e.ensures _ c.counted-token.ensures _ _ c.in-Failed.is
+pub returns : goal.returns
+returns c =
+    slashed_judged _ _ _ c.requires _ c.inner_run-e.ensures _ c.counted.ensures _ (λ z. c.if-byte_at-quote_of.false (c.byte_at.ensures ∙ z ∙ sym c.quote_of.ensures)) c.in_ok-token.was

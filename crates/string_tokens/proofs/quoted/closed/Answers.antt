@@ -1,12 +1,7 @@
 -- A double quote behind plain bytes closes (Quoting).
-use Rattle.string_tokens.proofs.quoted.closed.Reads as reads
-use Rattle.string_tokens.proofs.quoted.closed.Lts as lts
 use native.Mathlib.Omega.{arith}
 use Rattle.string_tokens.proofs.Quoting.{closed_told}
 use Rattle.string_tokens.proofs.quoted.closed.Goals as goal
 
 pub returns-then-s-e-eq34 : goal.returns-then-s-e-eq34
-returns-then-s-e-eq34 c = λ h. closed_told c.args.s.now _ c.requires.0 c.requires.1 c.requires.3 c.if-s-e-eq34.true
-
-pub returns : goal.returns
-returns c = λ h. absurd (omega arith)
+returns-then-s-e-eq34 c = (omega arith, closed_told c.args.s.now _ c.requires.0 c.requires.1 c.requires.3 c.if-s-e-eq34.true)

@@ -1,10 +1,5 @@
-use Rattle.string_tokens.proofs.quoted.plains_on.Reads as reads
-use Rattle.string_tokens.proofs.quoted.plains_on.Lts as lts
-use Rattle.eights.proofs.eight.Reads as eight-reads
-use Rattle.eights.proofs.odds.Reads as odds-reads
-use Rattle.eights.proofs.place.Reads as place-reads
 use native.Mathlib.Omega.{arith}
-use Prim.Native.Nat.{◌+◌, ◌-◌}
+use Prim.Native.Nat.{◌+◌}
 use lib.ListN.{get_or}
 use Rattle.eights.specs.inner.Words.{is_odd, First}
 use Rattle.string_tokens.proofs.Counting.{no_plains, none_marked, eight_plains}

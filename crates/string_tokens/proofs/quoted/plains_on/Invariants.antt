@@ -1,9 +1,4 @@
 -- Eight bytes more, or the plain ones before the first that is odd (Counting).
-use Rattle.string_tokens.proofs.quoted.plains_on.Reads as reads
-use Rattle.string_tokens.proofs.quoted.plains_on.Lts as lts
-use Rattle.eights.proofs.eight.Reads as eight-reads
-use Rattle.eights.proofs.odds.Reads as odds-reads
-use Rattle.eights.proofs.place.Reads as place-reads
 use Prim.Native.Nat.{◌-◌}
 use lib.ListN.{length}
 use Rattle.string_tokens.specs.inner.Quotes.{Plains}

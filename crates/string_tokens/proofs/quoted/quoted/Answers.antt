@@ -1,13 +1,9 @@
 -- By the opening mark (Quoting).
-use Rattle.string_tokens.proofs.quoted.quoted.Reads as reads
-use Rattle.string_tokens.proofs.quoted.quoted.Lts as lts
-use Rattle.string_tokens.proofs.quoted.behind.Reads as behind-reads
-use Rattle.notation.proofs.marks.mark_at.Reads as mark-at-reads
 use Rattle.string_tokens.proofs.Quoting.{mark_is, unmarked_judged}
 use Rattle.string_tokens.proofs.quoted.quoted.Goals as goal
 
 pub behind-requires : goal.behind-requires
-behind-requires c = (c.requires, mark_is _ _ c.mark_at-mark.ensures _ _ c.in-Opens.is)
+behind-requires c = mark_is _ _ c.mark_at.ensures _ c.in-Some.is
 
-pub returns-in-Unopened : goal.returns-in-Unopened
-returns-in-Unopened c = unmarked_judged _ _ c.mark_at-mark.ensures c.in-Unopened.is
+pub returns-in-None : goal.returns-in-None
+returns-in-None c = unmarked_judged _ _ c.mark_at.ensures c.in-None.is _ c.at.ensures

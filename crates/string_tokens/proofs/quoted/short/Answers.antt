@@ -1,19 +1,10 @@
 -- The first odd byte of eight, or of the next eight (Quoting).
-use Rattle.string_tokens.proofs.quoted.short.Reads as reads
-use Rattle.string_tokens.proofs.quoted.short.Lts as lts
-use Rattle.eights.proofs.eight.Reads as eight-reads
-use Rattle.eights.proofs.odds.Reads as odds-reads
-use Rattle.eights.proofs.place.Reads as place-reads
-use Rattle.string_tokens.proofs.quoted.closed.Reads as closed-reads
 use native.Mathlib.Omega.{arith}
 use Prim.Native.Nat.{◌+◌}
 use lib.ListN.{get_or}
 use Rattle.eights.specs.inner.Words.{is_odd, First}
 use Rattle.string_tokens.proofs.Quoting.{first_eight, next_eight}
 use Rattle.string_tokens.proofs.quoted.short.Goals as goal
-
-pub returns-then-s-lt18 : goal.returns-then-s-lt18
-returns-then-s-lt18 c = λ h. absurd (omega arith)
 
 pub closed-requires : goal.closed-requires
 closed-requires c =

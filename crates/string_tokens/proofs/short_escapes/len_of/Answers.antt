@@ -1,6 +1,4 @@
 -- One test, as in the definition (Numbers).
-use Rattle.string_tokens.proofs.short_escapes.len_of.Reads as reads
-use Rattle.string_tokens.proofs.short_escapes.len_of.Lts as lts
 use mathlib.Core.Path.{sym}
 use native.Mathlib.Omega.{arith}
 use Rattle.string_tokens.proofs.Numbers.{six, twelve}

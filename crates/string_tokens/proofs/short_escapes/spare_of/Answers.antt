@@ -1,6 +1,4 @@
 -- By the length of the code point's pattern (Numbers).
-use Rattle.string_tokens.proofs.short_escapes.spare_of.Reads as reads
-use Rattle.string_tokens.proofs.short_escapes.spare_of.Lts as lts
 use Rattle.string_tokens.proofs.Numbers.{spare_one, spare_two, spare_three, spare_four}
 use Rattle.string_tokens.proofs.short_escapes.spare_of.Goals as goal
 
