@@ -2,7 +2,7 @@
 -- Assumes nothing.
 use mathlib.Core.Path.{◌≡◌, refl, sym, ap, ◌∙◌}
 use mathlib.Core.List.{List, [], ◌∷◌}
-use Prim.Native.Nat.{ℕ, zero, suc, ◌+◌, ◌-◌, ◌≤◌, ◌<◌}
+use Prim.Native.Nat.{ℕ, zero, suc, ◌+◌, ◌≤◌, ◌<◌}
 use native.Mathlib.Omega.{arith}
 use borrow.Author.Tests.{lt-ltb, le-ltb, ltb-true, ltb-false, eq-eqb, ne_eqb}
 use lib.Dec.{ltb, eqb}
@@ -11,22 +11,21 @@ use lib.Seq.{drop-drop, drop-cons}
 use Rattle.prelude.specs.Pick.{pick}
 use Rattle.prelude.proofs.Cases.{split, never}
 use Rattle.utf8.specs.Class.{class_of}
-use Rattle.utf8.specs.declared.chars.Char.TheVariants.{Good, Bad}
-use Rattle.utf8.specs.Utf8.{char_len, char_fault, char_by, char_at}
-use Rattle.utf8.specs.inner.Checks.{length_or_fault}
+use Rattle.std.specs.Prelude.{⊤, Some, None, Result, Ok, Err}
+use Rattle.prelude.specs.declared.refusals.Refusal.{Refusal}
+use Rattle.prelude.specs.declared.refusals.Refused.{Refused}
+use Rattle.prelude.specs.Refusals.{control, refused_at}
+use Rattle.utf8.specs.Utf8.{char_len, char_fault, refused_by, char_by, char_at}
 use Rattle.utf8.proofs.ByteClasses.{by_byte_lem}
 use Rattle.utf8.proofs.CharSteps.{one_byte}
 use Rattle.utf8.proofs.Characters.{char_le}
-use Rattle.utf8.proofs.Faults.{fault_number_lem}
-use Rattle.utf8.proofs.Told.{length_good, fault_bad}
+use Rattle.utf8.proofs.Faults.{fault_told}
 use Rattle.notation.specs.declared.styles.Style.{Style}
 use Rattle.notation.specs.Literals.{literal_run}
 use Rattle.runs.specs.inner.Blocks.{Running}
 use Rattle.runs.proofs.LiteralRuns.{here}
 use Rattle.notation.proofs.LiteralLaws.{literal_char, literal_printed, by_run, run_fits}
-use Rattle.lines.specs.declared.bare.Checked.{Checked}
-use Rattle.lines.specs.declared.bare.Checked.TheVariants.{Fine, Faulty}
-use Rattle.lines.specs.Line.{bare_fault, unless, bare_from, bare}
+use Rattle.lines.specs.Line.{bare_fault, bare_from, bare}
 
 pub bare_skip : (p k : ℕ) (s : List ℕ) → bare_from p k s ≡ bare_from p 0 (drop k s)
 unfolding bare_from
@@ -54,7 +53,7 @@ no_control x e =
     (λ b. ltb-false x 32 b)
 
 -- a character that may stand
-fine : (x n : ℕ) (s : List ℕ) → (n ≡ 0 → ⊥) → (x < 32 → x ≡ 9) → bare_fault x (char_by n s) ≡ 0
+fine : (x n : ℕ) (s : List ℕ) → (n ≡ 0 → ⊥) → (x < 32 → x ≡ 9) → bare_fault x (char_by n s) ≡ None
 unfolding bare_fault pick
 fine x zero s h g = absurd (h refl)
 fine x (suc n) s h g =
@@ -68,32 +67,31 @@ bare_good p zero (x ∷ r) h e z g = absurd (z refl)
 bare_good p (suc n) (x ∷ r) h e z g = rw (e, fine x (suc n) (x ∷ r) z g) (bare_skip (p + suc n) n r)
 
 -- what the check answers
-good_is : (s : List ℕ) (n : ℕ) → char_at s ≡ Good n → (char_len s ≡ n) × (n ≡ 0 → ⊥)
+good_is : (s : List ℕ) (n : ℕ) → char_at s ≡ Ok n → (char_len s ≡ n) × (n ≡ 0 → ⊥)
 good_is s n e = go (char_len s) refl e
   where
-    go : (m : ℕ) → char_len s ≡ m → char_by m s ≡ Good n → (char_len s ≡ n) × (n ≡ 0 → ⊥)
-    go zero z w = never (cc)
+    go : (m : ℕ) → char_len s ≡ m → char_by m s ≡ Ok n → (char_len s ≡ n) × (n ≡ 0 → ⊥)
+    go zero z w = let (fault, (q, b)) = fault_told s z in let y : Err fault ≡ Ok n = sym (ap refused_by q) ∙ w in never (cc)
     go (suc m) z w = let y : suc m ≡ n = cc in (z ∙ y, λ q. omega (arith, y, q))
 
-bad_is : (s : List ℕ) (number : ℕ) → char_at s ≡ Bad number → (char_len s ≡ 0) × (number ≡ char_fault s)
-bad_is s number e = go (char_len s) refl e
+bad_is : (s : List ℕ) (refusal : Refusal) → char_at s ≡ Err refusal → (char_len s ≡ 0) × (char_fault s ≡ Some refusal)
+bad_is s refusal e = go (char_len s) refl e
   where
-    go : (m : ℕ) → char_len s ≡ m → char_by m s ≡ Bad number → (char_len s ≡ 0) × (number ≡ char_fault s)
-    go zero z w = let y : char_fault s ≡ number = cc in (z, sym y)
+    go : (m : ℕ) → char_len s ≡ m → char_by m s ≡ Err refusal → (char_len s ≡ 0) × (char_fault s ≡ Some refusal)
+    go zero z w =
+        let (fault, (q, b)) = fault_told s z in
+        let y : ◌≡◌ {A = Result ℕ Refusal} (Err fault) (Err refusal) = sym (ap refused_by q) ∙ w in
+        let f : fault ≡ refusal = cc in (z, q ∙ ap Some f)
     go (suc m) z w = never (cc)
 
--- a fault's number is the character's own
-stuck_by : (p f : ℕ) (c : Checked) → 0 < f → unless p f c ≡ Faulty f p
-stuck_by p zero c h = absurd (omega arith)
-stuck_by p (suc f) c h = refl
-
-pub bare_stuck : (p : ℕ) (s : List ℕ) (f : ℕ) → 0 < length s → char_len s ≡ 0 → f ≡ char_fault s → 32 ≤ get_or s 0 0 → bare_from p 0 s ≡ Faulty f p
+-- a fault is the character's own
+pub bare_stuck : (p : ℕ) (s : List ℕ) (fault : Refusal) → 0 < length s → char_len s ≡ 0 → char_fault s ≡ Some fault → 32 ≤ get_or s 0 0
+    → bare_from p 0 s ≡ Err (refused_at fault p)
 unfolding bare_from bare_fault pick
-bare_stuck p [] f h e q g = absurd (omega arith)
-bare_stuck p (x ∷ r) f h e q g =
-    simp (e, le-ltb x 32 g) (stuck_by p (char_fault (x ∷ r)) _ (omega (arith, (fault_number_lem (x ∷ r) e).0)) ∙ ap (λ (k : ℕ). Faulty k p) (sym q))
+bare_stuck p [] fault h e q g = absurd (omega arith)
+bare_stuck p (x ∷ r) fault h e q g = simp (e, q, le-ltb x 32 g)
 
-bare_control : (p : ℕ) (s : List ℕ) → 0 < length s → get_or s 0 0 < 32 → (get_or s 0 0 ≡ 9 → ⊥) → bare_from p 0 s ≡ Faulty 6 p
+bare_control : (p : ℕ) (s : List ℕ) → 0 < length s → get_or s 0 0 < 32 → (get_or s 0 0 ≡ 9 → ⊥) → bare_from p 0 s ≡ Err (refused_at control p)
 unfolding bare_from bare_fault pick
 bare_control p [] h l g = absurd (omega arith)
 bare_control p (x ∷ r) h l g = simp (lt-ltb x 32 l, ne_eqb x 9 g)
@@ -115,14 +113,14 @@ module _ (st : Style) (s : List ℕ) (at : ℕ) (r : Running st s 0 at) where
   unfolding literal_run
   all_run e = omega (arith, rw (drop_of_length-le s {i = at} (omega arith)) at r.same)
 
-  pub run_fine : at ≡ length s → Fine ≡ bare s
+  pub run_fine : at ≡ length s → Ok tt ≡ bare s
   unfolding bare bare_from
   run_fine e = sym (run_bare st s 0 ∙ rw (all_run e, drop_of_length-le s {i = length s} (omega arith)))
 
   pub run_inside : (e : ℕ) → e ≡ at + literal_run st 0 (drop at s) → e ≤ length s
   run_inside e h = omega (arith, r.same, run_fits st s)
 
-  pub behind_run : (e : ℕ) (c : Checked) → e ≡ at + literal_run st 0 (drop at s) → c ≡ bare_from e 0 (drop e s) → c ≡ bare s
+  pub behind_run : (e : ℕ) (c : Result ⊤ Refused) → e ≡ at + literal_run st 0 (drop at s) → c ≡ bare_from e 0 (drop e s) → c ≡ bare s
   unfolding bare
   behind_run e c h g =
       let z : e ≡ 0 + literal_run st 0 s = omega (arith, r.same) in
@@ -133,7 +131,7 @@ module _ (st : Style) (s : List ℕ) (at : ℕ) (r : Running st s 0 at) where
 pub whole_inside : (st : Style) (s : List ℕ) (e : ℕ) → e ≡ 0 + literal_run st 0 (drop 0 s) → e ≤ length s
 whole_inside st s e h = run_inside st s 0 (here st s 0 (omega arith)) e h
 
-pub behind_whole : (st : Style) (s : List ℕ) (e : ℕ) (c : Checked) → e ≡ 0 + literal_run st 0 (drop 0 s) → c ≡ bare_from e 0 (drop e s) → c ≡ bare s
+pub behind_whole : (st : Style) (s : List ℕ) (e : ℕ) (c : Result ⊤ Refused) → e ≡ 0 + literal_run st 0 (drop 0 s) → c ≡ bare_from e 0 (drop e s) → c ≡ bare s
 behind_whole st s = behind_run st s 0 (here st s 0 (omega arith))
 
 -- the loop's invariant at a place
@@ -145,7 +143,7 @@ pub begun : (s : List ℕ) (from : ℕ) → from ≤ length s → Passing s from
 begun s from h = record { inside = h; same = refl }
 
 module _ (s : List ℕ) (from at : ℕ) (i : Passing s from at) where
-  pub ended : length s ≤ at → Fine ≡ bare_from from 0 (drop from s)
+  pub ended : length s ≤ at → Ok tt ≡ bare_from from 0 (drop from s)
   unfolding bare_from
   ended h = sym (i.same ∙ ap (bare_from at 0) (drop_of_length-le s h))
 
@@ -162,10 +160,11 @@ module _ (s : List ℕ) (from at : ℕ) (i : Passing s from at) where
       same = i.same ∙ bare_good at n (drop at s) some e p (λ l. first ∙ g (omega (arith, first))) ∙ ap (bare_from (at + n) 0) (drop-drop n at s);
     }
 
-    stuck : (f : ℕ) → f ≡ char_fault (drop at s) → char_len (drop at s) ≡ 0 → 32 ≤ get_or s at 0 → Faulty f at ≡ bare_from from 0 (drop from s)
-    stuck f q e g = sym (i.same ∙ bare_stuck at (drop at s) f some e q (omega (arith, first)))
+    stuck : (fault : Refusal) → char_fault (drop at s) ≡ Some fault → char_len (drop at s) ≡ 0 → 32 ≤ get_or s at 0
+        → Err (refused_at fault at) ≡ bare_from from 0 (drop from s)
+    stuck fault q e g = sym (i.same ∙ bare_stuck at (drop at s) fault some e q (omega (arith, first)))
 
-    controlled : get_or s at 0 < 32 → (get_or s at 0 ≡ 9 → ⊥) → Faulty 6 at ≡ bare_from from 0 (drop from s)
+    controlled : get_or s at 0 < 32 → (get_or s at 0 ≡ 9 → ⊥) → Err (refused_at control at) ≡ bare_from from 0 (drop from s)
     controlled l g = sym (i.same ∙ bare_control at (drop at s) some (omega (arith, first)) (λ z. g (sym first ∙ z)))
 
     -- the loop's turns, way by way
@@ -181,18 +180,18 @@ module _ (s : List ℕ) (from at : ℕ) (i : Passing s from at) where
       pub tab_on : k < 5 → get_or s at 0 ≡ 9 → Passing s from (at + 1)
       tab_on l g = moved 1 (one_byte s at k h ek l) (λ z. omega arith) (λ z. g)
 
-      pub control_stop : k ≡ 1 → (get_or s at 0 ≡ 9 → ⊥) → Faulty 6 at ≡ bare_from from 0 (drop from s)
+      pub control_stop : k ≡ 1 → (get_or s at 0 ≡ 9 → ⊥) → Err (refused_at control at) ≡ bare_from from 0 (drop from s)
       control_stop l g = controlled (is_control (get_or s at 0) (sym ek ∙ l)) g
 
-      module _ (n : ℕ) (en : n ≡ length_or_fault (drop at s)) (l : 5 ≤ k) where
-        pub good_on : n < 5 → Passing s from (at + n)
-        good_on e =
-            let (g, p) = good_is (drop at s) n (sym (length_good (drop at s) n en e)) in
+      module _ (l : 5 ≤ k) where
+        pub good_on : (n : ℕ) → Ok n ≡ char_at (drop at s) → Passing s from (at + n)
+        good_on n e =
+            let (g, p) = good_is (drop at s) n (sym e) in
             let m : 32 ≤ get_or s at 0 = class_over l in
             moved n g p (λ q. absurd (omega arith))
 
-        pub further : n < 5 → 0 < n
-        further e = let (g, p) = good_is (drop at s) n (sym (length_good (drop at s) n en e)) in omega (arith, p)
+        pub further : (n : ℕ) → Ok n ≡ char_at (drop at s) → 0 < n
+        further n e = let (g, p) = good_is (drop at s) n (sym e) in omega (arith, p)
 
-        pub bad_stop : 5 ≤ n → Faulty n at ≡ bare_from from 0 (drop from s)
-        bad_stop e = let (g, q) = bad_is (drop at s) n (sym (fault_bad (drop at s) n en e)) in stuck n q g (class_over l)
+        pub bad_stop : (fault : Refusal) → Err fault ≡ char_at (drop at s) → Err (refused_at fault at) ≡ bare_from from 0 (drop from s)
+        bad_stop fault e = let (g, q) = bad_is (drop at s) fault (sym e) in stuck fault q g (class_over l)

@@ -10,10 +10,10 @@ pub returns-then-at-s : goal.returns-then-at-s
 returns-then-at-s c = search run_fine
 
 pub literal_run-e-requires : goal.literal_run-e-requires
-literal_run-e-requires c = (c.table-t.ensures, c.strides_to_end-at.ensures.inside)
+literal_run-e-requires c = c.strides_to_end-at.ensures.inside
 
 pub check_from-requires : goal.check_from-requires
-check_from-requires c = (c.table-t.ensures, run_inside _ _ _ c.strides_to_end-at.ensures _ c.literal_run-e.ensures)
+check_from-requires c = run_inside _ _ _ c.strides_to_end-at.ensures _ c.literal_run-e.ensures
 
 pub returns : goal.returns
 returns c = search behind_run

@@ -4,10 +4,10 @@ use Rattle.lines.proofs.BareTexts.{whole_inside, behind_whole}
 use Rattle.lines.proofs.bare.check_in.Goals as goal
 
 pub literal_run-e-requires : goal.literal_run-e-requires
-literal_run-e-requires c = (c.requires, omega arith)
+literal_run-e-requires c = omega arith
 
 pub check_from-requires : goal.check_from-requires
-check_from-requires c = (c.requires, whole_inside _ _ _ c.literal_run-e.ensures)
+check_from-requires c = whole_inside _ _ _ c.literal_run-e.ensures
 
 pub returns : goal.returns
 returns c = search behind_whole

@@ -1,7 +1,9 @@
 -- The blanks before the line move every place but that of refusal 12 (LineAnswers).
-use Rattle.lines.proofs.LineAnswers.{nothing_left, line_ignored, line_holds, line_full, line_faulty, place_inside}
+use Rattle.lines.proofs.LineAnswers.{nothing_left, line_held, line_full, line_faulty, place_inside}
 use Rattle.lines.proofs.LineEnds.{leads_le, strip_inside}
 use native.Mathlib.Omega.{arith}
+use mathlib.Core.Path.{ap, ◌∙◌}
+use Rattle.std.specs.Prelude.{Err}
 use Rattle.lines.proofs.read.read_line.Goals as goal
 
 pub slice_bounds-trim-count : goal.slice_bounds-trim-count
@@ -19,22 +21,18 @@ overflow_add-a c = omega (arith, (strip_inside c.args.l.now _ _ c.lead-a.ensures
 pub slice_bounds-read_stripped-end : goal.slice_bounds-read_stripped-end
 slice_bounds-read_stripped-end c = omega (arith, (strip_inside c.args.l.now _ _ c.lead-a.ensures c.trim-n.ensures).1)
 
-pub returns-then-number-eq-NO_ROOM : goal.returns-then-number-eq-NO_ROOM
-returns-then-number-eq-NO_ROOM c =
-    let r = line_full c.args.l.now c.args.out.now _ _ c.lead-a.ensures c.trim-n.ensures _ _ c.read_stripped-line.ensures _ _ c.in-Refused.is c.if-number-eq-NO_ROOM.true in record { answer = r.0; stored = r.1 }
+pub returns-in-Ok : goal.returns-in-Ok
+returns-in-Ok c =
+    let r = line_held c.args.l.now c.args.out.now _ _ c.lead-a.ensures c.trim-n.ensures _ _ c.read_stripped.ensures _ c.in-Ok.is in record { answer = r.0; stored = r.1 }
 
-pub overflow_add-result : goal.overflow_add-result
-overflow_add-result c =
-    omega (arith, place_inside c.args.l.now _ _ _ c.lead-a.ensures c.trim-n.ensures _ _ c.read_stripped-line.ensures _ _ c.in-Refused.is c.if-number-eq-NO_ROOM.false)
+pub returns-in-NoRoom : goal.returns-in-NoRoom
+returns-in-NoRoom c =
+    let r = line_full c.args.l.now c.args.out.now _ _ c.lead-a.ensures c.trim-n.ensures _ _ c.read_stripped.ensures _ c.in-Err.is c.in-NoRoom.is in record { answer = ap Err c.at.ensures ∙ r.0; stored = r.1 }
 
-pub returns-in-Ignored : goal.returns-in-Ignored
-returns-in-Ignored c =
-    let r = line_ignored c.args.l.now c.args.out.now _ _ c.lead-a.ensures c.trim-n.ensures _ _ c.read_stripped-line.ensures c.in-Ignored.is in record { answer = r.0; stored = r.1 }
+pub overflow_add-a-in_default : goal.overflow_add-a-in_default
+overflow_add-a-in_default c =
+    omega (arith, place_inside c.args.l.now _ _ _ c.lead-a.ensures c.trim-n.ensures _ _ c.read_stripped.ensures _ c.in-Err.is c.in_default.not-NoRoom)
 
-pub returns-in-Holds : goal.returns-in-Holds
-returns-in-Holds c =
-    let r = line_holds c.args.l.now c.args.out.now _ _ c.lead-a.ensures c.trim-n.ensures _ _ c.read_stripped-line.ensures _ _ c.in-Holds.is in record { answer = r.0; stored = r.1 }
-
-pub returns-else-number-eq-NO_ROOM : goal.returns-else-number-eq-NO_ROOM
-returns-else-number-eq-NO_ROOM c =
-    let r = line_faulty c.args.l.now _ _ _ c.lead-a.ensures c.trim-n.ensures _ _ c.read_stripped-line.ensures _ _ c.in-Refused.is c.if-number-eq-NO_ROOM.false in record { answer = r.0; stored = r.1 }
+pub returns-in_default : goal.returns-in_default
+returns-in_default c =
+    let r = line_faulty c.args.l.now _ _ _ c.lead-a.ensures c.trim-n.ensures _ _ c.read_stripped.ensures _ c.in-Err.is c.in_default.not-NoRoom in record { answer = ap Err c.at-in_default.ensures ∙ r.0; stored = r.1 }

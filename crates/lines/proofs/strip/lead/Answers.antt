@@ -1,5 +1,4 @@
 use mathlib.Core.Path.{sym, ◌∙◌}
-use Prim.Native.Nat.{◌-◌}
 use native.Mathlib.Omega.{arith}
 use Rattle.lines.proofs.LineEnds.{lead_more, lead_stop, lead_end}
 use Rattle.lines.proofs.strip.lead.Goals as goal
