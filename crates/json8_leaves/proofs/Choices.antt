@@ -9,24 +9,24 @@ use borrow.Author.Tests.{ne_eqb, eqb-true, eqb-false, lt-leb, leb-true}
 use lib.Dec.{eqb, leb}
 use lib.ListN.{length, get_or, take, drop}
 use Rattle.prelude.specs.Limits.{text_max}
+use Rattle.std.specs.Prelude.{None, Result, Err}
+use Rattle.prelude.specs.declared.refusals.Refused.{Refused}
 use Rattle.prelude.specs.Pick.{pick}
+use Rattle.prelude.specs.Refusals.{cut_off, misplaced, refused_at}
 use Rattle.prelude.proofs.Cases.{split, never, and_left, and_right}
 use Rattle.notation.specs.Marks.{opening}
 use Rattle.string_tokens.specs.inner.Quotes.{PlainToken}
-use Rattle.tokens.specs.declared.words.Word.TheVariants.{Other}
-use Rattle.tokens.specs.declared.numbers.Number.TheVariants.{Legal}
 use Rattle.tokens.specs.declared.starts.Start.{Start}
 use Rattle.tokens.specs.declared.starts.Start.TheVariants.{Ended, String as StringStart, Word as WordStart, Number as NumberStart, List as ListStart, Dict, Nothing}
 use Rattle.tokens.specs.Words.{is_letter, is_digit, word_of, word_value}
-use Rattle.tokens.specs.Numbers.{number_at}
+use Rattle.tokens.specs.Numbers.{found, number_at}
 use Rattle.tokens.specs.Starts.{is_opening, start_of}
 use Rattle.tokens.specs.inner.Parts.{name_kind, Named}
 use Rattle.tokens.proofs.First.{rest}
 use Rattle.json8.specs.Nodes.{Read, Reader, limited}
 use Rattle.json8.specs.Leaves.{string, plain, word_read, word, number_read, number, key_by, key}
 use Rattle.json8.specs.Values.{value_by, value_of}
-use Rattle.json8_leaves.specs.declared.nodes.Out.{Out}
-use Rattle.json8_leaves.specs.declared.nodes.Out.TheVariants.{Refused}
+use Rattle.json8_leaves.specs.declared.nodes.Noted.{Noted}
 use Rattle.json8_leaves.specs.inner.Told.{Told, none, scalar, ShortLeaf, short_kind}
 use Rattle.json8_leaves.proofs.Joined.{told_stop}
 use Rattle.json8_leaves.proofs.Single.{plain_inside, word_in, number_in}
@@ -110,29 +110,29 @@ module _ (text : List ℕ) (at n : ℕ) (q : Start) (e : q ≡ start_of (drop at
   unfolding key
   key_is m k f = ap (λ (x : Start). key_by x at n m (drop at text)) (sym e ∙ f)
 
-  pub key_ended : (t : List ℕ) → q ≡ Ended → (m : ℕ) → Told text (key at n m (drop at text)) at n m (Refused 4 at) t t
+  pub key_ended : (t : List ℕ) → q ≡ Ended → (m : ℕ) → Told text (key at n m (drop at text)) at n m (Err (refused_at cut_off at)) t t
   key_ended t f m = told_stop (key_is m Ended f)
 
-  pub key_string : (o : Out) (t t' : List ℕ) → q ≡ StringStart → ((m : ℕ) → Told text (limited string at n m (drop at text)) at n m o t t')
+  pub key_string : (o : Result Noted Refused) (t t' : List ℕ) → q ≡ StringStart → ((m : ℕ) → Told text (limited string at n m (drop at text)) at n m o t t')
       → (m : ℕ) → Told text (key at n m (drop at text)) at n m o t t'
   key_string o t t' f x m = rw (key_is m StringStart f) (x m)
 
-  pub key_word : (o : Out) (len : ℕ) (t t' : List ℕ) → q ≡ WordStart → len ≡ length (word_of (drop at text)) → at + len ≤ length text
+  pub key_word : (o : Result Noted Refused) (len : ℕ) (t t' : List ℕ) → q ≡ WordStart → len ≡ length (word_of (drop at text)) → at + len ≤ length text
       → ((text : List ℕ) (m : ℕ) → at + len ≤ length text → Told text (limited (plain 5 len) at n m (drop at text)) at n m o t t')
       → (m : ℕ) → Told text (key at n m (drop at text)) at n m o t t'
   key_word o len t t' f g i x m =
       subst (λ (k : Read). Told text k at n m o t t') (sym (key_is m WordStart f ∙ ap (λ (l : ℕ). limited (plain 5 l) at n m (drop at text)) (sym g))) (x text m i)
 
-  pub key_number : (t : List ℕ) → q ≡ NumberStart → (m : ℕ) → Told text (key at n m (drop at text)) at n m (Refused 13 at) t t
+  pub key_number : (t : List ℕ) → q ≡ NumberStart → (m : ℕ) → Told text (key at n m (drop at text)) at n m (Err (refused_at misplaced at)) t t
   key_number t f m = told_stop (key_is m NumberStart f)
 
-  pub key_list : (t : List ℕ) → q ≡ ListStart → (m : ℕ) → Told text (key at n m (drop at text)) at n m (Refused 13 at) t t
+  pub key_list : (t : List ℕ) → q ≡ ListStart → (m : ℕ) → Told text (key at n m (drop at text)) at n m (Err (refused_at misplaced at)) t t
   key_list t f m = told_stop (key_is m ListStart f)
 
-  pub key_dict : (t : List ℕ) → q ≡ Dict → (m : ℕ) → Told text (key at n m (drop at text)) at n m (Refused 13 at) t t
+  pub key_dict : (t : List ℕ) → q ≡ Dict → (m : ℕ) → Told text (key at n m (drop at text)) at n m (Err (refused_at misplaced at)) t t
   key_dict t f m = told_stop (key_is m Dict f)
 
-  pub key_nothing : (t : List ℕ) → q ≡ Nothing → (m : ℕ) → Told text (key at n m (drop at text)) at n m (Refused 13 at) t t
+  pub key_nothing : (t : List ℕ) → q ≡ Nothing → (m : ℕ) → Told text (key at n m (drop at text)) at n m (Err (refused_at misplaced at)) t t
   key_nothing t f m = told_stop (key_is m Nothing f)
 
 -- a value
@@ -141,13 +141,13 @@ module _ (ls ds : Reader) (text : List ℕ) (at n : ℕ) (q : Start) (e : q ≡ 
   unfolding value_of
   value_is m k f = ap (λ (x : Start). value_by ls ds x at n m (drop at text)) (sym e ∙ f)
 
-  pub value_ended : (t : List ℕ) → q ≡ Ended → (m : ℕ) → Told text (value_of ls ds at n m (drop at text)) at n m (Refused 4 at) t t
+  pub value_ended : (t : List ℕ) → q ≡ Ended → (m : ℕ) → Told text (value_of ls ds at n m (drop at text)) at n m (Err (refused_at cut_off at)) t t
   value_ended t f m = told_stop (value_is m Ended f)
 
-  pub value_nothing : (t : List ℕ) → q ≡ Nothing → (m : ℕ) → Told text (value_of ls ds at n m (drop at text)) at n m (Refused 13 at) t t
+  pub value_nothing : (t : List ℕ) → q ≡ Nothing → (m : ℕ) → Told text (value_of ls ds at n m (drop at text)) at n m (Err (refused_at misplaced at)) t t
   value_nothing t f m = told_stop (value_is m Nothing f)
 
-  module _ (o : Out) (t t' : List ℕ) where
+  module _ (o : Result Noted Refused) (t t' : List ℕ) where
     pub value_string : q ≡ StringStart → ((m : ℕ) → Told text (limited string at n m (drop at text)) at n m o t t')
         → (m : ℕ) → Told text (value_of ls ds at n m (drop at text)) at n m o t t'
     value_string f x m = rw (value_is m StringStart f) (x m)
@@ -169,15 +169,15 @@ module _ (ls ds : Reader) (text : List ℕ) (at n : ℕ) (q : Start) (e : q ≡ 
     value_dict f x m = rw (value_is m Dict f) (x m)
 
 pub scalar_list : (text : List ℕ) (at n : ℕ) (q : Start) → q ≡ start_of (drop at text) → (t : List ℕ) → q ≡ ListStart
-    → (m : ℕ) → Told text (scalar at n m (drop at text)) at n m (Refused 13 at) t t
+    → (m : ℕ) → Told text (scalar at n m (drop at text)) at n m (Err (refused_at misplaced at)) t t
 scalar_list text at n q e t f m = told_stop (value_is none none text at n q e m ListStart f)
 
 pub scalar_dict : (text : List ℕ) (at n : ℕ) (q : Start) → q ≡ start_of (drop at text) → (t : List ℕ) → q ≡ Dict
-    → (m : ℕ) → Told text (scalar at n m (drop at text)) at n m (Refused 13 at) t t
+    → (m : ℕ) → Told text (scalar at n m (drop at text)) at n m (Err (refused_at misplaced at)) t t
 scalar_dict text at n q e t f m = told_stop (value_is none none text at n q e m Dict f)
 
 -- leaves that few bytes tell
-pub short_number : (text : List ℕ) (at n len : ℕ) (o : Out) (t t' : List ℕ) → Legal 3 len ≡ number_at (drop at text) → at + len ≤ length text
+pub short_number : (text : List ℕ) (at n len : ℕ) (o : Result Noted Refused) (t t' : List ℕ) → found 3 len ≡ number_at (drop at text) → at + len ≤ length text
     → ((text : List ℕ) (m : ℕ) → at + len ≤ length text → Told text (limited (plain 3 len) at n m (drop at text)) at n m o t t')
     → (m : ℕ) → Told text (number at n m (drop at text)) at n m o t t'
 unfolding number
@@ -185,7 +185,7 @@ short_number text at n len o t t' e i h m =
     let q : number_read (number_at (drop at text)) at n m (drop at text) ≡ limited (plain 3 len) at n m (drop at text) = rw (sym e) in rw q (h text m i)
 
 module _ (text : List ℕ) (at x len : ℕ) (w : Named (drop at text) x len) where
-  pub name_told : (n kind : ℕ) (o : Out) (t t' : List ℕ) → kind ≡ name_kind x → at + len ≤ length text
+  pub name_told : (n kind : ℕ) (o : Result Noted Refused) (t t' : List ℕ) → kind ≡ name_kind x → at + len ≤ length text
       → ((text : List ℕ) (m : ℕ) → at + len ≤ length text → Told text (limited (plain kind len) at n m (drop at text)) at n m o t t')
       → (m : ℕ) → Told text (scalar at n m (drop at text)) at n m o t t'
   unfolding word
@@ -194,29 +194,28 @@ module _ (text : List ℕ) (at x len : ℕ) (w : Named (drop at text) x len) whe
       (λ m. let q : word_read (word_value (word_of (drop at text))) (length (word_of (drop at text))) at n m (drop at text) ≡ limited (plain kind len) at n m (drop at text) =
       rw (w.value, w.long, e) in rw q (h text m i))
 
-pub short_rest : (text : List ℕ) (at r : ℕ) → (0 < r → PlainToken (take (length text - at) (drop at text)) 1 (r - 1)) → (r ≡ 0 → ⊥) → PlainToken (drop at text) 1 (r - 1)
-short_rest text at r f h = subst (λ (s : List ℕ). PlainToken s 1 (r - 1)) (rest text at) (f (omega arith))
+pub short_rest : (text : List ℕ) (at r : ℕ) → PlainToken (take (length text - at) (drop at text)) 1 (r - 1) → PlainToken (drop at text) 1 (r - 1)
+short_rest text at r w = subst (λ (s : List ℕ). PlainToken s 1 (r - 1)) (rest text at) w
 
 pub quote_rest : (text : List ℕ) (at : ℕ) → get_or (drop at text) 0 0 ≡ 0x22 → get_or (take (length text - at) (drop at text)) 0 0 ≡ 0x22
 quote_rest text at e = ap (λ (s : List ℕ). get_or s 0 0) (rest text at) ∙ e
 
 -- a leaf that few bytes tell, by its first byte
 module _ (text : List ℕ) (at x r : ℕ) where
-  pub leaf_quoted : x ≡ 0x22 → (0 < r → PlainToken (take (length text - at) (drop at text)) 1 (r - 1)) → 0 < r → ShortLeaf (drop at text) x r
-  leaf_quoted e f h =
-      record {
-        quoted = λ z. short_rest text at r f (λ y. omega arith);
-        digits = λ d. never (let z : false ≡ true = sym (ap is_digit e) ∙ d in cc);
-        named = λ n d. absurd (n e);
-      }
+  abbrev Leaf : Type 0
+  Leaf = (0 < r) × ShortLeaf (drop at text) x r
 
-  pub leaf_digits : (x ≡ 0x22 → ⊥) → is_digit x ≡ true → (0 < r → Legal 3 r ≡ number_at (drop at text)) → 0 < r → ShortLeaf (drop at text) x r
-  leaf_digits n d f h =
-      record { quoted = λ z. absurd (n z); digits = λ z. f h; named = λ z b. never (let y : true ≡ false = sym d ∙ b in cc) }
+  pub leaf_quoted : x ≡ 0x22 → (0 < r) × PlainToken (take (length text - at) (drop at text)) 1 (r - 1) → Leaf
+  leaf_quoted e (p, f) =
+      (p, record { quoted = λ z. short_rest text at r f; digits = λ d. never (let z : false ≡ true = sym (ap is_digit e) ∙ d in cc); named = λ n d. absurd (n e) })
 
-  pub leaf_named : (x ≡ 0x22 → ⊥) → is_digit x ≡ false → (0 < r → Named (drop at text) x r) → 0 < r → ShortLeaf (drop at text) x r
-  leaf_named n d f h =
-      record { quoted = λ z. absurd (n z); digits = λ z. never (let y : true ≡ false = sym z ∙ d in cc); named = λ z b. f h }
+  pub leaf_digits : (x ≡ 0x22 → ⊥) → is_digit x ≡ true → (0 < r) × (found 3 r ≡ number_at (drop at text)) → Leaf
+  leaf_digits n d (p, f) =
+      (p, record { quoted = λ z. absurd (n z); digits = λ z. f; named = λ z b. never (let y : true ≡ false = sym d ∙ b in cc) })
+
+  pub leaf_named : (x ≡ 0x22 → ⊥) → is_digit x ≡ false → (0 < r) × Named (drop at text) x r → Leaf
+  leaf_named n d (p, f) =
+      (p, record { quoted = λ z. absurd (n z); digits = λ z. never (let y : true ≡ false = sym z ∙ d in cc); named = λ z b. f })
 
   pub leaf_in : at ≤ length text → x ≡ get_or (drop at text) 0 0 → ShortLeaf (drop at text) x r → 0 < r → (at + r ≤ length text) × (x ≡ 0x22 → 2 ≤ r)
   leaf_in h ex w p =
@@ -224,8 +223,8 @@ module _ (text : List ℕ) (at x r : ℕ) where
       (λ a. let i = plain_inside text at 1 (r - 1) (w.quoted (eqb-true x 0x22 a)) in (omega (arith, i.0), λ z. omega (arith, i.1)))
       (λ a. let n : x ≡ 0x22 → ⊥ = eqb-false x 0x22 a in
       split (is_digit x)
-      (λ d. let i = number_in text at (Legal 3 r) (w.digits d) 3 r refl h in (i.0, λ z. absurd (n z)))
-      (λ d. (word_in text at r Other (sym (w.named n d).long) h, λ z. absurd (n z))))
+      (λ d. let i = number_in text at (found 3 r) (w.digits d) _ refl h in (i.0, λ z. absurd (n z)))
+      (λ d. (word_in text at r None (sym (w.named n d).long) h, λ z. absurd (n z))))
 
 pub kind_digit : (x : ℕ) → is_digit x ≡ true → 3 ≡ short_kind x
 unfolding pick
@@ -235,7 +234,7 @@ pub kind_name : (x k : ℕ) → is_digit x ≡ false → k ≡ name_kind x → k
 unfolding pick
 kind_name x k d e = rw d e
 
-module _ (x len at n : ℕ) (o : Out) (t t' : List ℕ) (text : List ℕ) (m : ℕ) (i : at + len ≤ length text) (ex : x ≡ get_or (drop at text) 0 0)
+module _ (x len at n : ℕ) (o : Result Noted Refused) (t t' : List ℕ) (text : List ℕ) (m : ℕ) (i : at + len ≤ length text) (ex : x ≡ get_or (drop at text) 0 0)
     (w : ShortLeaf (drop at text) x len) where
   pub leaf_string : x ≡ 0x22 → length text ≤ text_max
       → ((text : List ℕ) (m : ℕ) → length text ≤ text_max → PlainToken (drop at text) 1 (len - 1) → Told text (limited string at n m (drop at text)) at n m o t t')

@@ -10,46 +10,63 @@ use borrow.Author.Tests.{eqb-true}
 use lib.Dec.{eqb}
 use lib.ListN.{length, get_or, set, drop, length-append, length-drop}
 use lib.Seq.{sets, set_comm, drop-drop}
+use Rattle.std.specs.Prelude.{Result, Ok, Err}
+use Rattle.prelude.specs.declared.refusals.Refusal.{Refusal}
+use Rattle.prelude.specs.declared.refusals.Refused.{Refused}
+use Rattle.std.specs.Prelude.{IsErrAnd}
 use Rattle.prelude.specs.Pick.{pick}
+use Rattle.prelude.specs.Refusals.{refused_at}
 use Rattle.prelude.proofs.Cases.{split}
 use Rattle.prelude.proofs.Stores.{sets_append}
 use Rattle.strings.specs.Read.{read_token}
 use Rattle.string_tokens.specs.inner.Quotes.{denoted}
-use Rattle.json8_leaves.specs.declared.nodes.Out.{Out}
-use Rattle.json8_leaves.specs.declared.nodes.Out.TheVariants.{Got, Refused}
+use Rattle.json8_leaves.specs.declared.nodes.Noted.{Noted}
 use Rattle.json8_leaves.specs.declared.nodes.Step.{Step}
-use Rattle.json8_leaves.specs.declared.nodes.Step.TheVariants.{At, Stop}
 use Rattle.json8.specs.Nodes.{Node, Read, got, refused, Reader, preceded, chain, seq}
 use Rattle.json8.specs.Leaves.{spaces, colon, comma}
 use Rattle.json8_leaves.specs.inner.Told.{Place, noted, notes, nodes_of, bytes_of, AllSound, Took, Told, ToldBy, Went, Stepped, SteppedBy}
 use Rattle.json8.proofs.Fair.{Fair, FairBy}
 
+-- the code's answers
+abbrev pub noted_at : ℕ → ℕ → Result Noted Refused
+noted_at p i = Ok (record { at = p; nodes = i })
+
+abbrev pub at_byte : ℕ → ℕ → Result Step Refused
+at_byte p x = Ok (record { at = p; byte = x })
+
+-- a refusal that `?` hands on
+pub handed_on : {T : Type 0} (r : Result T Refused) (f : Refused) → IsErrAnd r (λ g. g ≡ f) → r ≡ Err f
+handed_on (Ok v) f h = absurd h
+handed_on (Err g) f h = ap (λ (x : Refused). Err x) h
+
 -- an answer that was looked at, and one that is given
-pub took : {text : List ℕ} {want : Read} {at n m p i : ℕ} {t t' : List ℕ} {r : Out} → Told text want at n m r t t' → r ≡ Got p i
-    → Took text want at n m p i 0 t t'
-took {text} {want} {at} {n} {m} {p} {i} {t} {t'} {r} h e = subst (λ (o : Out). ToldBy text want at n m o t t') e h.so
+pub took : {text : List ℕ} {want : Read} {at n m : ℕ} {t t' : List ℕ} {r : Result Noted Refused} {v : Noted} → Told text want at n m r t t' → r ≡ Ok v
+    → Took text want at n m v.at v.nodes 0 t t'
+took {text} {want} {at} {n} {m} {t} {t'} {r} {v} h e = subst (λ (o : Result Noted Refused). ToldBy text want at n m o t t') e h.so
 
-pub stopped : {text : List ℕ} {want : Read} {at n m number p : ℕ} {t t' : List ℕ} {r : Out} → Told text want at n m r t t' → r ≡ Refused number p
-    → want ≡ refused number p
-stopped {text} {want} {at} {n} {m} {number} {p} {t} {t'} {r} h e = subst (λ (o : Out). ToldBy text want at n m o t t') e h.so
+pub stopped : {text : List ℕ} {want : Read} {at n m : ℕ} {t t' : List ℕ} {r : Result Noted Refused} {f : Refused} → Told text want at n m r t t' → r ≡ Err f
+    → want ≡ refused f.refusal f.place
+stopped {text} {want} {at} {n} {m} {t} {t'} {r} {f} h e = subst (λ (o : Result Noted Refused). ToldBy text want at n m o t t') e h.so
 
-pub went : {text : List ℕ} {want : Read} {at p x : ℕ} {r : Step} → Stepped text want at r → r ≡ At p x → Went want at p 0 × (x ≡ get_or (drop p text) 0 0)
-went {text} {want} {at} {p} {x} {r} h e = subst (SteppedBy text want at) e h.so
+pub went : {text : List ℕ} {want : Read} {at : ℕ} {r : Result Step Refused} {v : Step} → Stepped text want at r → r ≡ Ok v
+    → Went want at v.at 0 × (v.byte ≡ get_or (drop v.at text) 0 0)
+went {text} {want} {at} {r} {v} h e = subst (SteppedBy text want at) e h.so
 
-pub halted : {text : List ℕ} {want : Read} {at number p : ℕ} {r : Step} → Stepped text want at r → r ≡ Stop number p → want ≡ refused number p
-halted {text} {want} {at} {number} {p} {r} h e = subst (SteppedBy text want at) e h.so
+pub halted : {text : List ℕ} {want : Read} {at : ℕ} {r : Result Step Refused} {f : Refused} → Stepped text want at r → r ≡ Err f → want ≡ refused f.refusal f.place
+halted {text} {want} {at} {r} {f} h e = subst (SteppedBy text want at) e h.so
 
 pub told_got : {text : List ℕ} {want : Read} {at n m p i : ℕ} {t t' : List ℕ} → Took text want at n m p i 0 t t'
-    → Told text want at n m (Got p i) t t'
+    → Told text want at n m (noted_at p i) t t'
 told_got w = record { so = w }
 
-pub told_stop : {text : List ℕ} {want : Read} {at n m number p : ℕ} {t t' : List ℕ} → want ≡ refused number p → Told text want at n m (Refused number p) t t'
+pub told_stop : {text : List ℕ} {want : Read} {at n m : ℕ} {refusal : Refusal} {p : ℕ} {t t' : List ℕ} → want ≡ refused refusal p
+    → Told text want at n m (Err (refused_at refusal p)) t t'
 told_stop e = record { so = e }
 
-pub stepped_at : {text : List ℕ} {want : Read} {at p x : ℕ} → Went want at p 0 → x ≡ get_or (drop p text) 0 0 → Stepped text want at (At p x)
+pub stepped_at : {text : List ℕ} {want : Read} {at p x : ℕ} → Went want at p 0 → x ≡ get_or (drop p text) 0 0 → Stepped text want at (at_byte p x)
 stepped_at w e = record { so = (w, e) }
 
-pub stepped_stop : {text : List ℕ} {want : Read} {at number p : ℕ} → want ≡ refused number p → Stepped text want at (Stop number p)
+pub stepped_stop : {text : List ℕ} {want : Read} {at : ℕ} {refusal : Refusal} {p : ℕ} → want ≡ refused refusal p → Stepped text want at (Err (refused_at refusal p))
 stepped_stop e = record { so = e }
 
 -- notes one behind another
@@ -107,11 +124,11 @@ more_more : (l : ℕ) (ns : List Node) (bs : List ℕ) (k : ℕ) (ms : List Node
     → preceded (l + k) (ns ++ ms) (bs ++ cs) z ≡ preceded l ns bs (preceded k ms cs z)
 more_more l ns bs k ms cs (got i u os ds) =
     let a : l + k + i ≡ l + (k + i) = omega arith in rw (a, sym (append_assoc ns ms os), sym (append_assoc bs cs ds))
-more_more l ns bs k ms cs (refused number at) = refl
+more_more l ns bs k ms cs (refused refusal at) = refl
 
 more_chain : (l : ℕ) (ns : List Node) (bs : List ℕ) (y : Read) (c : Reader) (p n m : ℕ) (s : List ℕ)
     → chain (preceded l ns bs y) c p n m s ≡ preceded l ns bs (chain y c (p + l) (n + length ns) (m + length bs) (drop l s))
-more_chain l ns bs (refused number at) c p n m s = refl
+more_chain l ns bs (refused refusal at) c p n m s = refl
 more_chain l ns bs (got k u ms cs) c p n m s =
     let a : p + (l + k) ≡ p + l + k = omega arith in
     let b : n + length (ns ++ ms) ≡ n + length ns + length ms = omega (arith, length-append ns ms) in
@@ -121,7 +138,7 @@ more_chain l ns bs (got k u ms cs) c p n m s =
 
 chain_assoc : (x : Read) (b c : Reader) (p n m : ℕ) (s : List ℕ) → chain (chain x b p n m s) c p n m s ≡ chain x (seq b c) p n m s
 unfolding seq
-chain_assoc (refused number at) b c p n m s = refl
+chain_assoc (refused refusal at) b c p n m s = refl
 chain_assoc (got l tag ns bs) b c p n m s = more_chain l ns bs (b (p + l) (n + length ns) (m + length bs) (drop l s)) c p n m s
 
 seq_assoc_at : (a b c : Reader) (p n m : ℕ) (s : List ℕ) → seq (seq a b) c p n m s ≡ seq a (seq b c) p n m s
@@ -137,9 +154,9 @@ unfolding seq
 seq_got a b p n m s l tag ns bs e = rw e
 
 -- a refusal ends the run
-pub seq_stop : (a b : Reader) (p n m : ℕ) (s : List ℕ) (number q : ℕ) → a p n m s ≡ refused number q → seq a b p n m s ≡ refused number q
+pub seq_stop : (a b : Reader) (p n m : ℕ) (s : List ℕ) (refusal : Refusal) (q : ℕ) → a p n m s ≡ refused refusal q → seq a b p n m s ≡ refused refusal q
 unfolding seq
-seq_stop a b p n m s number q e = rw e
+seq_stop a b p n m s refusal q e = rw e
 
 -- a reader that has been run, and then another
 module _ (a b : Reader) (text : List ℕ) (at n m p i tag : ℕ) (t t1 : List ℕ)
@@ -171,17 +188,17 @@ module _ (a b : Reader) (text : List ℕ) (at n m p i tag : ℕ) (t t1 : List �
         sound = sound_append text w.vs v.vs w.sound v.sound;
       }
 
-  seq_by : (r : Out) (t2 : List ℕ) → ToldBy text (b p i bytes (drop p text)) p i bytes r t1 t2
+  seq_by : (r : Result Noted Refused) (t2 : List ℕ) → ToldBy text (b p i bytes (drop p text)) p i bytes r t1 t2
       → ToldBy text (seq a b at n m (drop at text)) at n m r t t2
-  seq_by (Refused number q) t2 e = seq_is ∙ ap (preceded w.len (nodes_of m w.vs) (bytes_of text w.vs)) e
-  seq_by (Got q k) t2 v = seq_took q k 0 t2 v
+  seq_by (Err f) t2 e = seq_is ∙ ap (preceded w.len (nodes_of m w.vs) (bytes_of text w.vs)) e
+  seq_by (Ok v) t2 w = seq_took v.at v.nodes 0 t2 w
 
-  pub seq_told : (r : Out) (t2 : List ℕ) → Told text (b p i bytes (drop p text)) p i bytes r t1 t2
+  pub seq_told : (r : Result Noted Refused) (t2 : List ℕ) → Told text (b p i bytes (drop p text)) p i bytes r t1 t2
       → Told text (seq a b at n m (drop at text)) at n m r t t2
   seq_told r t2 v = record { so = seq_by r t2 v.so }
 
-  pub seq_refused : (number q : ℕ) → b p i bytes (drop p text) ≡ refused number q → seq a b at n m (drop at text) ≡ refused number q
-  seq_refused number q e = seq_is ∙ ap (preceded w.len (nodes_of m w.vs) (bytes_of text w.vs)) e
+  pub seq_refused : (refusal : Refusal) (q : ℕ) → b p i bytes (drop p text) ≡ refused refusal q → seq a b at n m (drop at text) ≡ refused refusal q
+  seq_refused refusal q e = seq_is ∙ ap (preceded w.len (nodes_of m w.vs) (bytes_of text w.vs)) e
 
 -- a reader of no nodes doesn't see how many there are
 abbrev pub Blind : Reader → Type 0
@@ -200,7 +217,7 @@ unfolding comma
 comma_blind close p n m s = refl
 
 chain_blind : (b : Reader) → Blind b → (p n m : ℕ) (s : List ℕ) (r : Read) → chain r b p n m s ≡ chain r b p 0 0 s
-chain_blind b h p n m s (refused number at) = refl
+chain_blind b h p n m s (refused refusal at) = refl
 chain_blind b h p n m s (got l tag ns bs) =
     ap (preceded l ns bs) (h (p + l) (n + length ns) (m + length bs) (drop l s) ∙ sym (h (p + l) (0 + length ns) (0 + length bs) (drop l s)))
 
@@ -224,7 +241,7 @@ went_took a h {text} {at} {n} {m} {p} {tag} {rest} w =
 
 -- a step, and then a reader
 pub step_told : (a b : Reader) → Blind a → (text : List ℕ) (at n m p tag : ℕ) → Went (a at 0 0 (drop at text)) at p tag
-    → (r : Out) (t t' : List ℕ) → Told text (b p n m (drop p text)) p n m r t t' → Told text (seq a b at n m (drop at text)) at n m r t t'
+    → (r : Result Noted Refused) (t t' : List ℕ) → Told text (b p n m (drop p text)) p n m r t t' → Told text (seq a b at n m (drop at text)) at n m r t t'
 unfolding bytes_of went_took
 step_told a b h text at n m p tag w r t t' v =
     seq_told a b text at n m p n tag t t (went_took a h w) r t'
@@ -237,14 +254,14 @@ step_took a b h text at n m p tag w q k u t t' v =
     seq_took a b text at n m p n tag t t (went_took a h w) q k u t'
     (subst (λ (j : ℕ). Took text (b p n j (drop p text)) p n j q k u t t') (sym (add-zero m)) v)
 
-pub step_stop : (a b : Reader) → Blind a → (text : List ℕ) (at n m number q : ℕ) → a at 0 0 (drop at text) ≡ refused number q
-    → seq a b at n m (drop at text) ≡ refused number q
-step_stop a b h text at n m number q e = seq_stop a b at n m (drop at text) number q (h at n m (drop at text) ∙ e)
+pub step_stop : (a b : Reader) → Blind a → (text : List ℕ) (at n m : ℕ) (refusal : Refusal) (q : ℕ) → a at 0 0 (drop at text) ≡ refused refusal q
+    → seq a b at n m (drop at text) ≡ refused refusal q
+step_stop a b h text at n m refusal q e = seq_stop a b at n m (drop at text) refusal q (h at n m (drop at text) ∙ e)
 
 -- a step behind a step
-step_by : (a b : Reader) (text : List ℕ) (at p tag : ℕ) → Went (a at 0 0 (drop at text)) at p tag → (r : Step)
+step_by : (a b : Reader) (text : List ℕ) (at p tag : ℕ) → Went (a at 0 0 (drop at text)) at p tag → (r : Result Step Refused)
     → SteppedBy text (b p 0 0 (drop p text)) p r → SteppedBy text (seq a b at 0 0 (drop at text)) at r
-step_by a b text at p tag w (At q x) (v, e) = (
+step_by a b text at p tag w (Ok s) (v, e) = (
   record {
     len = w.len + v.len;
     same = seq_got a b at 0 0 (drop at text) w.len tag [] [] w.same ∙ rw (drop-drop w.len at text, sym w.place, v.same);
@@ -252,10 +269,10 @@ step_by a b text at p tag w (At q x) (v, e) = (
   },
   e,
 )
-step_by a b text at p tag w (Stop number q) v =
+step_by a b text at p tag w (Err f) v =
     seq_got a b at 0 0 (drop at text) w.len tag [] [] w.same ∙ rw (drop-drop w.len at text, sym w.place, v)
 
-pub step_step : (a b : Reader) (text : List ℕ) (at p tag : ℕ) → Went (a at 0 0 (drop at text)) at p tag → (r : Step)
+pub step_step : (a b : Reader) (text : List ℕ) (at p tag : ℕ) → Went (a at 0 0 (drop at text)) at p tag → (r : Result Step Refused)
     → Stepped text (b p 0 0 (drop p text)) p r → Stepped text (seq a b at 0 0 (drop at text)) at r
 step_step a b text at p tag w r v = record { so = step_by a b text at p tag w r v.so }
 

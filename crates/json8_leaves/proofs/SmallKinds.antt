@@ -6,21 +6,21 @@ use Prim.Native.Nat.{ℕ, zero, suc, ◌+◌, ◌≤◌}
 use native.Mathlib.Omega.{arith}
 use lib.Dec.{eqb, lit≤}
 use lib.ListN.{length}
+use Rattle.std.specs.Prelude.{Some, None}
 use Rattle.prelude.specs.Pick.{pick}
 use Rattle.prelude.proofs.Cases.{split, never}
 use Rattle.prelude.proofs.Picks.{pick_case}
-use Rattle.tokens.specs.declared.words.Word.TheVariants.{Value, Other}
-use Rattle.tokens.specs.declared.numbers.Number.TheVariants.{Legal}
+use Rattle.tokens.proofs.Grammar.{found_same}
 use Rattle.tokens.specs.Words.{is_digit, same_bytes, null_word, false_word, true_word, word_value}
-use Rattle.tokens.specs.Numbers.{is_e, is_sign, in_exp, exp_digits, behind_e, behind_frac, in_frac, behind_point, behind_int, in_int, int, number_kind, number_token, legal, number_from, number_at}
+use Rattle.tokens.specs.Numbers.{is_e, is_sign, in_exp, exp_digits, behind_e, behind_frac, in_frac, behind_point, behind_int, in_int, int, number_kind, number_token, found, legal, number_from, number_at}
 
-pub word_kind : (w : List ℕ) (k : ℕ) → word_value w ≡ Value k → k ≤ 2
+pub word_kind : (w : List ℕ) (k : ℕ) → word_value w ≡ Some k → k ≤ 2
 unfolding word_value pick
 word_kind w k e =
-    split (same_bytes w null_word) (λ a. let z : 0 ≡ k = (let y : Value 0 ≡ Value k = rw a at e in cc) in omega arith)
-    (λ a. split (same_bytes w false_word) (λ b. let z : 1 ≡ k = (let y : Value 1 ≡ Value k = rw (a, b) at e in cc) in omega arith)
-    (λ b. split (same_bytes w true_word) (λ c. let z : 2 ≡ k = (let y : Value 2 ≡ Value k = rw (a, b, c) at e in cc) in omega arith)
-    (λ c. never (let y : Other ≡ Value k = rw (a, b, c) at e in cc))))
+    split (same_bytes w null_word) (λ a. let z : 0 ≡ k = (let y : Some 0 ≡ Some k = rw a at e in cc) in omega arith)
+    (λ a. split (same_bytes w false_word) (λ b. let z : 1 ≡ k = (let y : Some 1 ≡ Some k = rw (a, b) at e in cc) in omega arith)
+    (λ b. split (same_bytes w true_word) (λ c. let z : 2 ≡ k = (let y : Some 2 ≡ Some k = rw (a, b, c) at e in cc) in omega arith)
+    (λ c. never (let y : None ≡ Some k = rw (a, b, c) at e in cc))))
 
 abbrev Low : ℕ → Type 0
 Low k = k ≤ 4
@@ -75,10 +75,10 @@ unfolding number_kind
 kind_low [] = lit≤ tt
 kind_low (x ∷ r) = pick_case Low (eqb x 0x2d) _ _ (λ e. whole r) (λ e. whole (x ∷ r))
 
-pub number_kind_lem : (s : List ℕ) (kind len : ℕ) → Legal kind len ≡ number_at s → kind ≤ 4
+pub number_kind_lem : (s : List ℕ) (kind len : ℕ) → found kind len ≡ number_at s → kind ≤ 4
 unfolding number_at number_from
 number_kind_lem s kind len e = go (number_kind (number_token s)) (0 + length (number_token s)) (kind_low (number_token s)) e
   where
-    go : (k n : ℕ) → k ≤ 4 → Legal kind len ≡ legal k n → kind ≤ 4
+    go : (k n : ℕ) → k ≤ 4 → found kind len ≡ legal k n → kind ≤ 4
     go zero n h q = never cc
-    go (suc k) n h q = let z : kind ≡ suc k = cc in omega arith
+    go (suc k) n h q = let (a, b) = found_same _ _ _ _ q in omega arith

@@ -6,18 +6,18 @@ ghost use Rattle.json8_leaves.specs.inner.Told.{noted};
 
 use prelude::limits::NODE_MAX;
 
-// The place behind and the nodes so far; or a refusal's number and place.
+// The place behind what was read, and the nodes so far.
 #[derive(Clone, Copy)]
-pub enum Out {
-    Got(usize, usize),
-    Refused(u32, usize),
+pub struct Noted {
+    pub at: usize,
+    pub nodes: usize,
 }
 
-// The place behind what makes no nodes and the byte there, 0 past the end; or a refusal's number and place.
+// The place behind what makes no nodes, and the byte there, 0 past the end.
 #[derive(Clone, Copy)]
-pub enum Step {
-    At(usize, u8),
-    Stop(u32, usize),
+pub struct Step {
+    pub at: usize,
+    pub byte: u8,
 }
 
 fn wide(x: usize) -> u64

@@ -1,22 +1,21 @@
 -- What the readers of the code promise each other: these speak of the code alone, and no rule cites them.
 -- Assumes nothing.
-use Rattle.std.specs.Prelude.{ℕ, ◌+◌, ◌-◌, ◌*◌, ◌≤◌, true, false, List, [], ◌∷◌, ◌++◌, ◌≡◌, eqb, length, get_or, drop}
+use Rattle.std.specs.Prelude.{ℕ, ◌+◌, ◌-◌, ◌*◌, ◌≤◌, true, false, Result, Ok, Err, List, [], ◌∷◌, ◌++◌, ◌≡◌, eqb, length, get_or, drop}
 use Rattle.std.proofs.lemmas.List.Edits.{sets}
 use Rattle.strings.specs.Read.{read_token}
 use Rattle.string_tokens.specs.inner.Quotes.{PlainToken, denoted}
-use Rattle.tokens.specs.declared.numbers.Number.TheVariants.{Legal}
 use Rattle.tokens.specs.Words.{is_digit}
-use Rattle.tokens.specs.Numbers.{number_at}
+use Rattle.tokens.specs.Numbers.{found, number_at}
 use Rattle.tokens.specs.inner.Parts.{name_kind, Named}
 use Rattle.prelude.specs.Limits.{text_max, node_max}
 use Rattle.prelude.specs.Pick.{pick}
+use Rattle.prelude.specs.declared.refusals.Refusal.{Refusal}
+use Rattle.prelude.specs.declared.refusals.Refused.{Refused}
 use Rattle.prelude.specs.Refusals.{cut_off, misplaced}
 use Rattle.json8.specs.Nodes.{Node, node, Read, got, refused, Reader}
 use Rattle.json8.specs.Values.{value_of}
-use Rattle.json8_leaves.specs.declared.nodes.Out.{Out}
-use Rattle.json8_leaves.specs.declared.nodes.Out.TheVariants.{Got, Refused}
+use Rattle.json8_leaves.specs.declared.nodes.Noted.{Noted}
 use Rattle.json8_leaves.specs.declared.nodes.Step.{Step}
-use Rattle.json8_leaves.specs.declared.nodes.Step.TheVariants.{At, Stop}
 
 -- where a reader starts: a place, with the nodes before it
 pub record Place (text : List ℕ) (at n : ℕ) : Type 0 where
@@ -66,11 +65,11 @@ pub record Took (text : List ℕ) (want : Read) (at n m p i tag : ℕ) (t t' : L
   pub sound : AllSound text vs
 
 -- of a refused text nothing is promised: its notes are thrown away
-abbrev pub ToldBy : List ℕ → Read → (at n m : ℕ) → Out → (t t' : List ℕ) → Type 0
-ToldBy text want at n m (Got p i) t t' = Took text want at n m p i 0 t t'
-ToldBy text want at n m (Refused number p) t t' = want ≡ refused number p
+abbrev pub ToldBy : List ℕ → Read → (at n m : ℕ) → Result Noted Refused → (t t' : List ℕ) → Type 0
+ToldBy text want at n m (Ok v) t t' = Took text want at n m v.at v.nodes 0 t t'
+ToldBy text want at n m (Err f) t t' = want ≡ refused f.refusal f.place
 
-pub record Told (text : List ℕ) (want : Read) (at n m : ℕ) (r : Out) (t t' : List ℕ) : Type 0 where
+pub record Told (text : List ℕ) (want : Read) (at n m : ℕ) (r : Result Noted Refused) (t t' : List ℕ) : Type 0 where
   pub so : ToldBy text want at n m r t t'
 
 -- the same of a reader that makes no nodes; the byte behind is answered too
@@ -79,15 +78,15 @@ pub record Went (want : Read) (at p tag : ℕ) : Type 0 where
   pub same : want ≡ got len tag [] []
   pub place : p ≡ at + len
 
-abbrev pub SteppedBy : List ℕ → Read → ℕ → Step → Type 0
-SteppedBy text want at (At p x) = Went want at p 0 × (x ≡ get_or (drop p text) 0 0)
-SteppedBy text want at (Stop number p) = want ≡ refused number p
+abbrev pub SteppedBy : List ℕ → Read → ℕ → Result Step Refused → Type 0
+SteppedBy text want at (Ok v) = Went want at v.at 0 × (v.byte ≡ get_or (drop v.at text) 0 0)
+SteppedBy text want at (Err f) = want ≡ refused f.refusal f.place
 
-pub record Stepped (text : List ℕ) (want : Read) (at : ℕ) (r : Step) : Type 0 where
+pub record Stepped (text : List ℕ) (want : Read) (at : ℕ) (r : Result Step Refused) : Type 0 where
   pub so : SteppedBy text want at r
 
 -- what is wrong where a mark should stand
-abbrev pub absent : List ℕ → ℕ
+abbrev pub absent : List ℕ → Refusal
 absent [] = cut_off
 absent (x ∷ r) = misplaced
 
@@ -101,7 +100,7 @@ scalar = value_of none none
 -- a leaf of so many bytes that few of them tell, by the byte x that it begins with
 pub record ShortLeaf (s : List ℕ) (x len : ℕ) : Type 0 where
   pub quoted : x ≡ 0x22 → PlainToken s 1 (len - 1)
-  pub digits : is_digit x ≡ true → Legal 3 len ≡ number_at s
+  pub digits : is_digit x ≡ true → found 3 len ≡ number_at s
   pub named : (x ≡ 0x22 → ⊥) → is_digit x ≡ false → Named s x len
 
 abbrev pub short_kind : ℕ → ℕ
