@@ -7,19 +7,11 @@ ghost use Rattle.prelude.specs.Pick.{pick};
 ghost use Rattle.records.specs.Records.{head_size, head, append_line, added_as};
 
 use lines::read;
-use lines::read::Line;
-use prelude::{refusals, slices};
+use prelude::refusals::{Refusal, Refused};
+use prelude::slices;
 
 // The bytes before a payload.
 pub const HEAD: usize = 4;
-
-// What a line adds to the output: a refusal's number and place, or the count of bytes added; zeros where they don't apply.
-#[derive(Clone, Copy)]
-pub struct Added {
-    pub number: u32,
-    pub place: usize,
-    pub count: usize,
-}
 
 // Stores a record's head: the payload's length and its kind.
 fn put_head(n: usize, kind: u32, o: usize, out: &mut [u8])
@@ -45,38 +37,21 @@ fn payload_from(used: usize, room: usize) -> usize
     used + HEAD
 }
 
-// Reads a line and puts its record behind `used` bytes of the output; where it is refused, the output is as it was.
-pub fn append_line(l: &[u8], used: usize, out: &mut [u8]) -> Added
+// Reads a line and puts its record behind `used` bytes of the output: how many bytes it added; where it is refused, the output is as it was.
+pub fn append_line(l: &[u8], used: usize, out: &mut [u8]) -> Result<usize, Refused>
     requires { (length l.now ≤ 65535) × (used ≤ length out.old) }
     ensures { added_as result out.new ≡ append_line l.now out.old used }
 {
     let from = payload_from(used, out.len());
-    let line = read::read_line(l, &mut out[from..]);
+    let line = read::read_line(l, &mut out[from..])?;
     match line {
-        Line::Ignored => Added {
-            number: 0,
-            place: 0,
-            count: 0,
-        },
-        Line::Holds(kind, n) => {
+        Some(payload) => {
             if out.len() - used < HEAD {
-                return Added {
-                    number: refusals::NO_ROOM,
-                    place: 0,
-                    count: 0,
-                };
+                return Err(Refusal::NoRoom.at(0));
             }
-            put_head(n, kind, used, out);
-            Added {
-                number: 0,
-                place: 0,
-                count: HEAD + n,
-            }
+            put_head(payload.len, payload.kind, used, out);
+            Ok(HEAD + payload.len)
         }
-        Line::Refused(number, place) => Added {
-            number,
-            place,
-            count: 0,
-        },
+        None => Ok(0),
     }
 }
