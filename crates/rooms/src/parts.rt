@@ -1,13 +1,13 @@
 // Parts of a text, put at a place as far as room and buffer reach. A place past the room says that the text is too long: nothing more is
 // put, so no count can run over.
 ghost use Rattle.std.specs.Prelude.{[], ◌∷◌, ◌≡◌, ◌+◌, ◌≤◌, length, take, drop};
-ghost use Rattle.utf8.specs.Class.{IsTable};
 ghost use Rattle.utf8.specs.Utf8.{valid_utf8};
 ghost use Rattle.strings_write.specs.Write.{write_string};
 ghost use Rattle.rooms.specs.inner.Puts.{room_max, Put};
 
 use prelude::slices;
 use strings_write::write;
+use utf8::classes::Classes;
 
 // n bytes of s from a place on.
 pub fn put_run(s: &[u8], at: usize, n: usize, room: usize, o: usize, out: &mut [u8]) -> usize
@@ -48,8 +48,8 @@ pub fn put_byte(x: u8, room: usize, o: usize, out: &mut [u8]) -> usize
 }
 
 // A byte string, quoted.
-pub fn put_string(t: &[u8; 256], s: &[u8], room: usize, o: usize, out: &mut [u8]) -> usize
-    requires { IsTable t.now × (room ≤ room_max) }
+pub fn put_string(t: &Classes, s: &[u8], room: usize, o: usize, out: &mut [u8]) -> usize
+    requires { room ≤ room_max }
     ensures { Put (write_string s.now) room o result out.old out.new }
 {
     if room < o {
@@ -64,15 +64,8 @@ pub fn put_string(t: &[u8; 256], s: &[u8], room: usize, o: usize, out: &mut [u8]
 }
 
 // The same where it is known whether the bytes are valid UTF-8.
-pub fn put_part(
-    t: &[u8; 256],
-    valid: bool,
-    s: &[u8],
-    room: usize,
-    o: usize,
-    out: &mut [u8],
-) -> usize
-    requires { IsTable t.now × (valid ≡ valid_utf8 s.now) × (room ≤ room_max) }
+pub fn put_part(t: &Classes, valid: bool, s: &[u8], room: usize, o: usize, out: &mut [u8]) -> usize
+    requires { (valid ≡ valid_utf8 s.now) × (room ≤ room_max) }
     ensures { Put (write_string s.now) room o result out.old out.new }
 {
     if room < o {

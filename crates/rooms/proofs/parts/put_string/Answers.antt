@@ -11,7 +11,7 @@ returns-then-m-eq0 c = string_over c.args.s.now c.args.out.now _ _ _ _ _ (omega 
 
 pub overflow_add-result-2 : goal.overflow_add-result-2
 overflow_add-result-2 c =
-    omega (arith, string_inside c.args.s.now c.args.out.now _ _ _ _ _ (omega arith) c.least-b.ensures.2 c.least-b.ensures.3 c.write_run-m.ensures c.if-m-eq0.false, c.requires.1)
+    omega (arith, string_inside c.args.s.now c.args.out.now _ _ _ _ _ (omega arith) c.least-b.ensures.2 c.least-b.ensures.3 c.write_run-m.ensures c.if-m-eq0.false, c.requires)
 
 pub returns : goal.returns
 returns c = string_put c.args.s.now c.args.out.now _ _ _ _ _ (omega arith) c.least-b.ensures.2 c.least-b.ensures.3 c.write_run-m.ensures c.if-m-eq0.false
