@@ -10,7 +10,11 @@ use borrow.Author.Tests.{le-ltb, lt-ltb, eq-eqb, ne_eqb}
 use lib.ListN.{length, get_or, set, drop, length-append, length-drop}
 use lib.Seq.{sets, drop-drop}
 use Rattle.prelude.specs.Limits.{text_max, node_max}
+use Rattle.std.specs.Prelude.{Result, Err}
+use Rattle.prelude.specs.declared.refusals.Refusal.{Refusal}
+use Rattle.prelude.specs.declared.refusals.Refused.{Refused}
 use Rattle.prelude.specs.Pick.{pick}
+use Rattle.prelude.specs.Refusals.{cut_off, too_deep, too_many, refused_at}
 use Rattle.prelude.proofs.Rest.{get_or_inside}
 use Rattle.prelude.proofs.Stores.{sets_append}
 use Rattle.tokens.specs.Blanks.{blanks_from}
@@ -21,10 +25,9 @@ use Rattle.json8.specs.Nodes.{Node, node, Read, got, refused, Reader, seq, limit
 use Rattle.json8.specs.Leaves.{spaces, colon, comma, key}
 use Rattle.json8.specs.Values.{group_kind, close_of, member_of, close_or, round, again, members, group_node, group_of, group, value_of, value}
 use Rattle.json8.proofs.Fair.{Fair, FairBy, seq_fair, spaces_fair, colon_fair, members_skip, member_fair, value_fair, round_fair}
-use Rattle.json8_leaves.specs.declared.nodes.Out.{Out}
-use Rattle.json8_leaves.specs.declared.nodes.Out.TheVariants.{Got, Refused}
+use Rattle.json8_leaves.specs.declared.nodes.Noted.{Noted}
 use Rattle.json8_leaves.specs.inner.Told.{Place, noted, notes, nodes_of, bytes_of, AllSound, Took, Told, Went, absent}
-use Rattle.json8_leaves.proofs.Joined.{stopped, told_got, told_stop, step_told, step_took, sets_before, seq_assoc, seq_stop, seq_took, seq_refused, notes_append, notes_length, sound_append, nodes_length, nodes_append, bytes_append, Blind, spaces_blind, colon_blind, comma_blind, seq_blind, went_took}
+use Rattle.json8_leaves.proofs.Joined.{noted_at, stopped, told_got, told_stop, step_told, step_took, sets_before, seq_assoc, seq_stop, seq_took, seq_refused, notes_append, notes_length, sound_append, nodes_length, nodes_append, bytes_append, Blind, spaces_blind, colon_blind, comma_blind, seq_blind, went_took}
 
 pub inner_fair : (b : Sort) (left : ℕ) → FairBy 1 (member_of b (value left))
 inner_fair b left = member_fair b (value left) (value_fair left)
@@ -32,11 +35,11 @@ inner_fair b left = member_fair b (value left) (value_fair left)
 -- members read, and then others
 abbrev plus : ℕ → ℕ → List Node → List ℕ → Read → Read
 plus l c ns bs (got k d ms cs) = got (l + k) (c + d) (ns ++ ms) (bs ++ cs)
-plus l c ns bs (refused number at) = refused number at
+plus l c ns bs (refused refusal at) = refused refusal at
 
 plus_none : (r : Read) → plus 0 0 [] [] r ≡ r
 plus_none (got k d ms cs) = rw (zero-add k, zero-add d)
-plus_none (refused number at) = refl
+plus_none (refused refusal at) = refl
 
 plus_again : (l c : ℕ) (ns : List Node) (bs : List ℕ) (k : ℕ) (ms : List Node) (cs : List ℕ) (r : Read)
     → plus l c ns bs (again k ms cs r) ≡ plus (l + k) (c + 1) (ns ++ ms) (bs ++ cs) r
@@ -44,7 +47,7 @@ plus_again l c ns bs k ms cs (got i d os ds) =
     let a : l + (k + i) ≡ l + k + i = omega arith in
     let b : c + suc d ≡ c + 1 + d = omega arith in
     rw (a, b, append_assoc ns ms os, append_assoc bs cs ds)
-plus_again l c ns bs k ms cs (refused number at) = refl
+plus_again l c ns bs k ms cs (refused refusal at) = refl
 
 -- one round of the loop
 module _ (c : ℕ) (rd : Reader) (p n m : ℕ) where
@@ -64,10 +67,10 @@ module _ (c : ℕ) (rd : Reader) (p n m : ℕ) where
   step_none [] l ns bs e = cc
   step_none (x ∷ r) l ns bs e = rw e
 
-  step_stop : (s : List ℕ) (number at : ℕ) → round c rd p n m s ≡ refused number at → members c rd p n m 0 s ≡ refused number at
+  step_stop : (s : List ℕ) (refusal : Refusal) (at : ℕ) → round c rd p n m s ≡ refused refusal at → members c rd p n m 0 s ≡ refused refusal at
   unfolding members seq spaces blanks_from close_or
-  step_stop [] number at e = cc (add-zero p)
-  step_stop (x ∷ r) number at e = rw e
+  step_stop [] refusal at e = cc (add-zero p)
+  step_stop (x ∷ r) refusal at e = rw e
 
 module _ (b : Sort) (v : Reader) (text : List ℕ) (at n m : ℕ) (t₀ : List ℕ) where
   abbrev inner : ℕ → ℕ → ℕ → List ℕ → Read
@@ -113,11 +116,11 @@ module _ (b : Sort) (v : Reader) (text : List ℕ) (at n m : ℕ) (t₀ : List �
     place_of h = record { short = h.short; inside = w.inside; few = w.few }
 
     -- a refusal inside
-    pub cut : {number q : ℕ} → turn p i bytes ≡ refused number q → group_of b v at n m (drop at text) ≡ refused number q
+    pub cut : {refusal : Refusal} {q : ℕ} → turn p i bytes ≡ refused refusal q → group_of b v at n m (drop at text) ≡ refused refusal q
     unfolding group_of
-    cut {number} {q} e =
-        let f : inner (at + 1) (n + 1) m (drop (at + 1) text) ≡ refused number q =
-        w.same ∙ rw (step_stop (close_of b) (member_of b v) p i bytes (drop p text) number q e) in
+    cut {refusal} {q} e =
+        let f : inner (at + 1) (n + 1) m (drop (at + 1) text) ≡ refused refusal q =
+        w.same ∙ rw (step_stop (close_of b) (member_of b v) p i bytes (drop p text) refusal q e) in
         ap (λ (x : List ℕ). group_node (group_kind b) at (inner (at + 1) (n + 1) m x)) (drop-drop 1 at text) ∙ ap (group_node (group_kind b) at) f
 
     fair : (f : FairBy 1 (member_of b v)) {r : Read} → turn p i bytes ≡ r → Fair 1 p i (drop p text) r
@@ -237,11 +240,11 @@ module _ (b : Sort) (v : Reader) (text : List ℕ) (at n m : ℕ) (t₀ : List �
         (omega arith) y
 
 -- how deep, how many
-pub too_deep_lem : (d : ℕ) (b : Sort) (p n m : ℕ) (s : List ℕ) → d ≡ 0 → group d b p n m s ≡ refused 15 p
+pub too_deep_lem : (d : ℕ) (b : Sort) (p n m : ℕ) (s : List ℕ) → d ≡ 0 → group d b p n m s ≡ refused too_deep p
 unfolding group
 too_deep_lem d b p n m s e = rw e
 
-pub too_many_lem : (d : ℕ) (b : Sort) (p n m : ℕ) (s : List ℕ) → (d ≡ 0 → ⊥) → node_max ≤ n → group d b p n m s ≡ refused 16 p
+pub too_many_lem : (d : ℕ) (b : Sort) (p n m : ℕ) (s : List ℕ) → (d ≡ 0 → ⊥) → node_max ≤ n → group d b p n m s ≡ refused too_many p
 unfolding group limited pick
 too_many_lem zero b p n m s e h = absurd (e refl)
 too_many_lem (suc d) b p n m s e h = rw (le-ltb n node_max h)
@@ -274,21 +277,21 @@ module _ (c : ℕ) (rd : Reader) (text : List ℕ) (at n m p x : ℕ) (w : Went 
       (record { len = 1; vs = []; same = close_one (drop p text) ex f g; place = refl; nodes = omega arith; table = refl; sound = tt })
 
   -- where the bracket isn't closed, a member must stand: its reader refuses the text's end as the bracket would
-  member_here : (s : List ℕ) → x ≡ get_or s 0 0 → (x ≡ c → ⊥) → ((j : ℕ) → rd p n j [] ≡ refused 4 p) → (j : ℕ) → close_or c rd p n j s ≡ seq rd (seq spaces (comma c)) p n j s
+  member_here : (s : List ℕ) → x ≡ get_or s 0 0 → (x ≡ c → ⊥) → ((j : ℕ) → rd p n j [] ≡ refused cut_off p) → (j : ℕ) → close_or c rd p n j s ≡ seq rd (seq spaces (comma c)) p n j s
   unfolding close_or pick
-  member_here [] e f g j = sym (seq_stop rd (seq spaces (comma c)) p n j [] 4 p (g j))
+  member_here [] e f g j = sym (seq_stop rd (seq spaces (comma c)) p n j [] cut_off p (g j))
   member_here (y ∷ r) e f g j = rw (ne_eqb y c (λ z. f (e ∙ z)))
 
-  module _ (f : x ≡ c → ⊥) (g : (j : ℕ) → rd p n j [] ≡ refused 4 p) where
+  module _ (f : x ≡ c → ⊥) (g : (j : ℕ) → rd p n j [] ≡ refused cut_off p) where
     pub round_member : {q i u : ℕ} {t t' : List ℕ} → Took text (seq rd (seq spaces (comma c)) p n m (drop p text)) p n m q i u t t'
         → Took text (round c rd at n m (drop at text)) at n m q i u t t'
     round_member {q} {i} {u} {t} {t'} y =
         step_took spaces (close_or c rd) spaces_blind text at n m p 0 w q i u t t'
         (subst (λ (r : Read). Took text r p n m q i u t t') (sym (member_here (drop p text) ex f g m)) y)
 
-    pub round_refused : {number q : ℕ} → seq rd (seq spaces (comma c)) p n m (drop p text) ≡ refused number q → round c rd at n m (drop at text) ≡ refused number q
-    round_refused {number} {q} e =
-        stopped (step_told spaces (close_or c rd) spaces_blind text at n m p 0 w (Refused number q) [] []
+    pub round_refused : {refusal : Refusal} {q : ℕ} → seq rd (seq spaces (comma c)) p n m (drop p text) ≡ refused refusal q → round c rd at n m (drop at text) ≡ refused refusal q
+    round_refused {refusal} {q} e =
+        stopped (step_told spaces (close_or c rd) spaces_blind text at n m p 0 w (Err (refused_at refusal q)) [] []
         (told_stop (member_here (drop p text) ex f g m ∙ e))) refl
 
 -- what follows a member: blanks up to z, where the byte y stands
@@ -319,23 +322,23 @@ module _ (c : ℕ) (text : List ℕ) (at n m z y : ℕ) (w : Went (spaces at 0 0
   pub ends : {t : List ℕ} → y ≡ c → 0 < c → Took text (seq spaces (comma c) at n m (drop at text)) at n m (z + 1) n 1 t t
   ends f g = after (comma_close c (drop z text) y z ey f g)
 
-  pub no_comma : (number : ℕ) → number ≡ absent (drop z text) → (y ≡ c → ⊥) → (y ≡ 0x2c → ⊥) → seq spaces (comma c) at n m (drop at text) ≡ refused number z
-  no_comma number e h f =
-      stopped (step_told spaces (comma c) spaces_blind text at n m z 0 w (Refused number z) [] []
-      (told_stop (comma_blind c z n m (drop z text) ∙ comma_absent c (drop z text) y z ey h f ∙ ap (λ (k : ℕ). refused k z) (sym e)))) refl
+  pub no_comma : (refusal : Refusal) → refusal ≡ absent (drop z text) → (y ≡ c → ⊥) → (y ≡ 0x2c → ⊥) → seq spaces (comma c) at n m (drop at text) ≡ refused refusal z
+  no_comma refusal e h f =
+      stopped (step_told spaces (comma c) spaces_blind text at n m z 0 w (Err (refused_at refusal z)) [] []
+      (told_stop (comma_blind c z n m (drop z text) ∙ comma_absent c (drop z text) y z ey h f ∙ ap (λ (k : Refusal). refused k z) (sym e)))) refl
 
 -- a member refuses the text's end as its bracket would
-value_none : (d p n j : ℕ) → value d p n j [] ≡ refused 4 p
+value_none : (d p n j : ℕ) → value d p n j [] ≡ refused cut_off p
 unfolding value_of start_of
 value_none d p n j = refl
 
-key_none : (p n j : ℕ) → key p n j [] ≡ refused 4 p
+key_none : (p n j : ℕ) → key p n j [] ≡ refused cut_off p
 unfolding key start_of
 key_none p n j = refl
 
-pub member_none : (b : Sort) (d p n j : ℕ) → member_of b (value d) p n j [] ≡ refused 4 p
+pub member_none : (b : Sort) (d p n j : ℕ) → member_of b (value d) p n j [] ≡ refused cut_off p
 member_none Items d p n j = value_none d p n j
-member_none Pairs d p n j = seq_stop key (seq spaces (seq colon (seq spaces (value d)))) p n j [] 4 p (key_none p n j)
+member_none Pairs d p n j = seq_stop key (seq spaces (seq colon (seq spaces (value d)))) p n j [] cut_off p (key_none p n j)
 
 -- the returns of the loop, whatever the store's bytes before the bracket
 module _ (d : ℕ) (b : Sort) (text : List ℕ) (at n : ℕ) (t₀ : List ℕ) (deep : d ≡ 0 → ⊥) (room : n < node_max) (h : Place text at n)
@@ -343,19 +346,19 @@ module _ (d : ℕ) (b : Sort) (text : List ℕ) (at n : ℕ) (t₀ : List ℕ) (
   abbrev round-at : ℕ → Read
   round-at m = round (close_of b) (member_of b (value (d - 1))) p i (bytes b (value (d - 1)) text at n m t₀ (w m)) (drop p text)
 
-  pub loop_cut : (t1 : List ℕ) (number q : ℕ) → ((m : ℕ) → round-at m ≡ refused number q)
-      → (m : ℕ) → Told text (group d b at n m (drop at text)) at n m (Refused number q) t₀ t1
-  loop_cut t1 number q e m =
+  pub loop_cut : (t1 : List ℕ) (refusal : Refusal) (q : ℕ) → ((m : ℕ) → round-at m ≡ refused refusal q)
+      → (m : ℕ) → Told text (group d b at n m (drop at text)) at n m (Err (refused_at refusal q)) t₀ t1
+  loop_cut t1 refusal q e m =
       told_stop (opened_is d b at n m (drop at text) deep room ∙ cut b (value (d - 1)) text at n m t₀ (w m) (e m))
 
   module _ (t1 t2 : List ℕ) (q k : ℕ) (few : k ≤ node_max) where
     pub loop_closed : count ≤ text_max → ((m : ℕ) → Took text (round-at m) p i (bytes b (value (d - 1)) text at n m t₀ (w m)) q k 0 t t1)
-        → t2 ≡ set t1 n (noted (node (group_kind b) (k - n) at count)) → (m : ℕ) → Told text (group d b at n m (drop at text)) at n m (Got q k) t₀ t2
+        → t2 ≡ set t1 n (noted (node (group_kind b) (k - n) at count)) → (m : ℕ) → Told text (group d b at n m (drop at text)) at n m (noted_at q k) t₀ t2
     loop_closed some x y m =
         rw (opened_is d b at n m (drop at text) deep room) (told_got (closed b (value (d - 1)) text at n m t₀ (w m) t2 h few some (x m) y))
 
     pub loop_last : count < text_max → ((m : ℕ) → Took text (round-at m) p i (bytes b (value (d - 1)) text at n m t₀ (w m)) q k 1 t t1)
-        → t2 ≡ set t1 n (noted (node (group_kind b) (k - n) at (count + 1))) → (m : ℕ) → Told text (group d b at n m (drop at text)) at n m (Got q k) t₀ t2
+        → t2 ≡ set t1 n (noted (node (group_kind b) (k - n) at (count + 1))) → (m : ℕ) → Told text (group d b at n m (drop at text)) at n m (noted_at q k) t₀ t2
     loop_last some x y m =
         rw (opened_is d b at n m (drop at text) deep room) (told_got (closed_behind b (value (d - 1)) text at n m t₀ (w m) t2 h few some (x m) y))
 
@@ -370,7 +373,7 @@ module _ (text : List ℕ) (at n : ℕ) where
   pub bracket_byte : (x c : ℕ) → x ≡ get_or (drop at text) 0 0 → x ≡ c → get_or (drop (at + 1 - 1) text) 0 0 ≡ c
   bracket_byte x c e f = ap (λ (k : ℕ). get_or (drop k text) 0 0) same_place ∙ sym e ∙ f
 
-  pub bracket_told : (d : ℕ) (b : Sort) (o : Out) (t t' : List ℕ)
+  pub bracket_told : (d : ℕ) (b : Sort) (o : Result Noted Refused) (t t' : List ℕ)
       → ((m : ℕ) → Told text (group d b (at + 1 - 1) n m (drop (at + 1 - 1) text)) (at + 1 - 1) n m o t t')
       → (m : ℕ) → Told text (group d b at n m (drop at text)) at n m o t t'
   bracket_told d b o t t' h m = subst (λ (k : ℕ). Told text (group d b k n m (drop k text)) k n m o t t') same_place (h m)
@@ -395,21 +398,21 @@ module _ (v : Reader) (text : List ℕ) (o i j : ℕ) where
   pair_same : seq labelled v o i j (drop o text) ≡ member_of Pairs v o i j (drop o text)
   pair_same = ap (λ (f : Reader). f o i j (drop o text)) (pair_is v)
 
-  pub key_refused : (number z : ℕ) → key o i j (drop o text) ≡ refused number z → member_of Pairs v o i j (drop o text) ≡ refused number z
-  key_refused number z e = seq_stop key (seq spaces (seq colon (seq spaces v))) o i j (drop o text) number z e
+  pub key_refused : (refusal : Refusal) (z : ℕ) → key o i j (drop o text) ≡ refused refusal z → member_of Pairs v o i j (drop o text) ≡ refused refusal z
+  key_refused refusal z e = seq_stop key (seq spaces (seq colon (seq spaces v))) o i j (drop o text) refusal z e
 
   module _ {e h : ℕ} {t t1 : List ℕ} (k : Took text (key o i j (drop o text)) o i j e h 0 t t1) where
-    pub colon_refused : (number z : ℕ) → seq spaces (seq colon spaces) e 0 0 (drop e text) ≡ refused number z → member_of Pairs v o i j (drop o text) ≡ refused number z
-    colon_refused number z f =
+    pub colon_refused : (refusal : Refusal) (z : ℕ) → seq spaces (seq colon spaces) e 0 0 (drop e text) ≡ refused refusal z → member_of Pairs v o i j (drop o text) ≡ refused refusal z
+    colon_refused refusal z f =
         sym pair_same
-        ∙ seq_stop labelled v o i j (drop o text) number z (seq_refused key (seq spaces (seq colon spaces)) text o i j e h 0 t t1 k number z (around_blind _ _ _ _ ∙ f))
+        ∙ seq_stop labelled v o i j (drop o text) refusal z (seq_refused key (seq spaces (seq colon spaces)) text o i j e h 0 t t1 k refusal z (around_blind _ _ _ _ ∙ f))
 
     module _ {c : ℕ} (w : Went (seq spaces (seq colon spaces) e 0 0 (drop e text)) e c 0) where
       label_took : Took text (labelled o i j (drop o text)) o i j c h 0 t t1
       label_took = seq_took key (seq spaces (seq colon spaces)) text o i j e h 0 t t1 k c h 0 t1 (went_took (seq spaces (seq colon spaces)) around_blind w)
 
-      pub pair_refused : (number z : ℕ) → ((m : ℕ) → v c h m (drop c text) ≡ refused number z) → member_of Pairs v o i j (drop o text) ≡ refused number z
-      pair_refused number z f = sym pair_same ∙ seq_refused labelled v text o i j c h 0 t t1 label_took number z (f _)
+      pub pair_refused : (refusal : Refusal) (z : ℕ) → ((m : ℕ) → v c h m (drop c text) ≡ refused refusal z) → member_of Pairs v o i j (drop o text) ≡ refused refusal z
+      pair_refused refusal z f = sym pair_same ∙ seq_refused labelled v text o i j c h 0 t t1 label_took refusal z (f _)
 
       pub pair_took : {q n : ℕ} {t2 : List ℕ} → ((m : ℕ) → Took text (v c h m (drop c text)) c h m q n 0 t1 t2) → Took text (member_of Pairs v o i j (drop o text)) o i j q n 0 t t2
       pair_took {q} {n} {t2} x =

@@ -11,24 +11,24 @@ abbrev pub decreases-dict_node : goal.decreases-dict_node
 decreases-dict_node l =
     l.left + (length l.text.now - l.from)
 
-abbrev pub invariant-dict_node-loop-number : goal.invariant-dict_node-loop-number
-invariant-dict_node-loop-number l =
+abbrev pub invariant-dict_node-loop-start : goal.invariant-dict_node-loop-start
+invariant-dict_node-loop-start l =
     (m : ℕ) → Loop Pairs (value (l.left - 1)) l.text (l.from - 1) l.n m l.initial.notes l.notes l.p l.i l.count
 
-abbrev pub decreases-dict_node-loop-number : goal.decreases-dict_node-loop-number
-decreases-dict_node-loop-number l =
+abbrev pub decreases-dict_node-loop-start : goal.decreases-dict_node-loop-start
+decreases-dict_node-loop-start l =
     length l.text - l.p
 
 abbrev pub decreases-list_node : goal.decreases-list_node
 decreases-list_node l =
     l.left + (length l.text.now - l.from)
 
-abbrev pub invariant-list_node-loop-number : goal.invariant-list_node-loop-number
-invariant-list_node-loop-number l =
+abbrev pub invariant-list_node-loop-start : goal.invariant-list_node-loop-start
+invariant-list_node-loop-start l =
     (m : ℕ) → Loop Items (value (l.left - 1)) l.text (l.from - 1) l.n m l.initial.notes l.notes l.p l.i l.count
 
-abbrev pub decreases-list_node-loop-number : goal.decreases-list_node-loop-number
-decreases-list_node-loop-number l =
+abbrev pub decreases-list_node-loop-start : goal.decreases-list_node-loop-start
+decreases-list_node-loop-start l =
     length l.text - l.p
 
 abbrev pub decreases-value_node : goal.decreases-value_node
