@@ -6,13 +6,13 @@ use Prim.Native.Nat.{ℕ, zero, suc, ◌+◌, ◌-◌, ◌*◌, ◌≤◌, ◌<�
 use Prim.Native.Char.{code}
 use mathlib.Core.Bool.{false}
 use mathlib.Core.List.{List, [], ◌∷◌}
-use mathlib.Core.Path.{◌≡◌, refl, sym, ap, ◌∙◌}
+use mathlib.Core.Path.{◌≡◌, refl, sym, ap, ◌∙◌, subst}
 use native.Mathlib.Omega.{arith}
 use lib.Dec.{leb, eqb}
 use borrow.Author.Tests.{le-leb, lt-leb, eq-eqb, ne_eqb}
 use lib.ListN.{length, get_or, drop, length-drop}
 use lib.Seq.{drop-drop}
-use Rattle.prelude.specs.Bytes.{backslash}
+use Rattle.prelude.specs.Bytes.{single_quote, backslash}
 use Rattle.prelude.proofs.Picks.{pick_true, pick_false, and_yes, nots, tests}
 use Rattle.prelude.proofs.Rest.{get_or_inside}
 use Rattle.prelude.specs.Pick.{pick}
@@ -22,7 +22,7 @@ use Rattle.notation.specs.declared.styles.Style.{Style}
 use Rattle.notation.specs.declared.styles.Style.TheVariants.{Json, Unicode, Bytes}
 use Rattle.notation.specs.Styles.{StringUnit, took, fault}
 use Rattle.escapes.specs.Hex.{hex_run, hex_number}
-use Rattle.escapes.specs.Escapes.{lookup, letters_of, half_of, IsHalf, is_low, low_half, code_unit, four_digits, scalar, is_braced, braced, code_point, raw_byte, letter_escape, escape}
+use Rattle.escapes.specs.Escapes.{lookup, letters, letters_of, Tells, half_of, IsHalf, is_low, low_half, code_unit, four_digits, scalar, is_braced, braced, code_point, raw_byte, letter_escape, escape}
 use Rattle.escapes.proofs.HexLaws.{run_inside}
 
 pub scalar_below : (u : StringUnit) (n v : ℕ) → u ≡ took n (encode v) → v < 0xd800 → u ≡ scalar n v
@@ -44,10 +44,17 @@ module _ (u : StringUnit) (v : ℕ) (half : Option ℕ) (l : 0xd800 ≤ v) (h : 
   unfolding code_unit
   unit_alone e q = let z : 0 ≤ 0 = omega arith in rw e (search tests)
 
--- a letter's byte that isn't 0
-pub letter_some : (u : StringUnit) (b : ℕ) → u ≡ took 2 (b ∷ []) → (b ≡ 0 → ⊥) → u ≡ letter_escape b
-letter_some u zero e h = absurd (h refl)
-letter_some u (suc b) e h = e
+-- a letter's byte, which isn't 0
+pub letter_some : (u : StringUnit) (b v : ℕ) → u ≡ took 2 (b ∷ []) → Tells (Some b) v → u ≡ letter_escape v
+letter_some u b zero e h = absurd (omega (arith, h.0, h.1))
+letter_some u b (suc v) e h = e ∙ ap (λ (x : ℕ). took 2 (x ∷ [])) h.1
+
+pub letter_none : (v : ℕ) → v ≡ 0 → fault bad_escape ≡ letter_escape v
+letter_none v h = rw h refl
+
+pub other_letter : (c : ℕ) (f : Option ℕ) → (c ≡ single_quote → ⊥) → Tells f (lookup c letters) → Tells f (lookup c (letters_of Unicode))
+unfolding lookup
+other_letter c f h t = subst (Tells f) (sym (pick_false _ _ _ (ne_eqb c single_quote h))) t
 
 -- `\y` and two digits
 pub raw_two : (u : StringUnit) (r : List ℕ) (n v : ℕ) → n ≡ hex_run 2 r → v ≡ hex_number 2 r → n ≡ 2 → u ≡ took 4 (v ∷ []) → u ≡ raw_byte Bytes r
@@ -172,6 +179,6 @@ module _ (s : List ℕ) (at : ℕ) where
           from_first
           (e ∙ sym (pick_false _ _ _ (ne_eqb a (code "u") (λ q. let f : ⊥ = omega arith in f)) ∙ pick_true _ _ _ (eq-eqb _ _ h)))
 
-      pub escape_letter : (b : ℕ) → (a ≡ code "u" → ⊥) → (a ≡ code "y" → ⊥) → b ≡ lookup a (letters_of st) → u ≡ letter_escape b → u ≡ escape st (drop at s)
-      escape_letter b h k eb e =
-          from_first (e ∙ rw eb (sym (pick_false _ _ _ (ne_eqb _ _ h) ∙ pick_false _ _ _ (ne_eqb _ _ k))))
+      pub escape_letter : (a ≡ code "u" → ⊥) → (a ≡ code "y" → ⊥) → u ≡ letter_escape (lookup a (letters_of st)) → u ≡ escape st (drop at s)
+      escape_letter h k e =
+          from_first (e ∙ sym (pick_false _ _ _ (ne_eqb _ _ h) ∙ pick_false _ _ _ (ne_eqb _ _ k)))

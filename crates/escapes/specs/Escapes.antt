@@ -1,6 +1,6 @@
 -- One escape of a J8 string, by document 01's list, a sentence of it quoted at each definition.
 -- Assumes nothing.
-use Rattle.std.specs.Prelude.{ℕ, zero, suc, ◌+◌, ◌-◌, ◌*◌, Bool, ◌&&◌, List, [], ◌∷◌, ◌≤◌, ltb, eqb, get_or, drop, Option, Some, None}
+use Rattle.std.specs.Prelude.{ℕ, zero, suc, ◌+◌, ◌-◌, ◌*◌, Bool, ◌&&◌, List, [], ◌∷◌, ◌≤◌, ◌<◌, ◌≡◌, ltb, eqb, get_or, drop, Option, Some, None}
 use Prim.Native.Char.{code}
 use Rattle.prelude.specs.Bytes.{backspace, TAB, LF, form_feed, CR, double_quote, single_quote, backslash}
 use Rattle.prelude.specs.Pick.{pick}
@@ -27,6 +27,11 @@ abbrev pub letters_of : Style → List (ℕ × ℕ)
 letters_of Json = letters
 letters_of Unicode = (single_quote, single_quote) ∷ letters
 letters_of Bytes = (single_quote, single_quote) ∷ letters
+
+-- the code finds the number beside a letter, none where the table has none
+abbrev pub Tells : Option ℕ → ℕ → Type 0
+Tells (Some b) v = (0 < b) × (b ≡ v)
+Tells None v = v ≡ 0
 
 -- "A high half (d800 to dbff)", "an escaped low half (dc00 to dfff)"
 abbrev pub high : ℕ → Bool

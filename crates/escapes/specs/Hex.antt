@@ -1,6 +1,6 @@
 -- Hex digits: "Hex digits may be of either case."
 -- Assumes nothing.
-use Rattle.std.specs.Prelude.{ℕ, zero, suc, ◌+◌, ◌-◌, ◌*◌, List, [], ◌∷◌, ltb, leb, length}
+use Rattle.std.specs.Prelude.{ℕ, zero, suc, ◌+◌, ◌-◌, ◌*◌, List, [], ◌∷◌, ◌<◌, ◌≡◌, ltb, leb, length, Option, Some, None}
 use Prim.Native.Char.{code}
 use Rattle.prelude.specs.Pick.{pick}
 
@@ -13,6 +13,11 @@ hex_val c =
     (pick (leb c (code "F")) (c - code "A" + 10)
     (pick (ltb c (code "a")) 16
     (pick (leb c (code "f")) (c - code "a" + 10) 16)))))
+
+-- the code's digit has that value
+abbrev pub IsDigit : Option ℕ → ℕ → Type 0
+IsDigit (Some d) v = (d < 16) × (d ≡ v)
+IsDigit None v = v ≡ 16
 
 -- the digits that stand first, k at most
 unfoldable pub hex_digits : ℕ → List ℕ → List ℕ

@@ -1,6 +1,6 @@
 // Hex digits, of either case.
 ghost use Rattle.std.specs.Prelude.{◌≡◌, ◌^◌, ◌<◌, ◌≤◌, drop};
-ghost use Rattle.escapes.specs.Hex.{hex_val, hex_run, hex_number};
+ghost use Rattle.escapes.specs.Hex.{hex_val, IsDigit, hex_run, hex_number};
 
 use prelude::slices;
 
@@ -11,30 +11,29 @@ pub struct Digits {
     pub value: u32,
 }
 
-// The value of a digit, 16 for any other byte.
-fn hex_val(b: u8) -> u8
-    ensures is { result ≡ hex_val b }
-    ensures small { result ≤ 16 }
+// The value of a digit.
+fn hex_val(b: u8) -> Option<u8>
+    ensures { IsDigit result (hex_val b) }
 {
     if b < b'0' {
-        return 16;
+        return None;
     }
     if b <= b'9' {
-        return b - b'0';
+        return Some(b - b'0');
     }
     if b < b'A' {
-        return 16;
+        return None;
     }
     if b <= b'F' {
-        return b - b'A' + 10;
+        return Some(b - b'A' + 10);
     }
     if b < b'a' {
-        return 16;
+        return None;
     }
     if b <= b'f' {
-        return b - b'a' + 10;
+        return Some(b - b'a' + 10);
     }
-    16
+    None
 }
 
 fn wide(d: u8) -> u32
@@ -53,12 +52,15 @@ pub fn digits_at(s: &[u8], at: usize, most: usize) -> Digits
     let mut count: usize = 0;
     let mut value: u32 = 0;
     while count < most {
-        let d = hex_val(slices::byte_at(s, at, count));
-        if 16 <= d {
-            return Digits { count, value };
+        match hex_val(slices::byte_at(s, at, count)) {
+            Some(d) => {
+                value = value * 16 + wide(d);
+                count += 1;
+            }
+            None => {
+                return Digits { count, value };
+            }
         }
-        value = value * 16 + wide(d);
-        count += 1;
     }
     Digits { count, value }
 }

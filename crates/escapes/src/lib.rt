@@ -7,7 +7,7 @@ ghost use Rattle.std.specs.Prelude.{◌≡◌, [], ◌∷◌, ◌<◌, ◌≤◌
 ghost use Rattle.utf8.specs.Utf8.{encode};
 ghost use Rattle.notation.specs.Styles.{took, unit_of, FewOf};
 ghost use Rattle.notation.specs.declared.styles.Style.TheVariants.{Unicode, Bytes};
-ghost use Rattle.escapes.specs.Escapes.{lookup, letters, letters_of, half_of, IsHalf, low_half, code_unit, four_digits, scalar, braced, code_point, raw_byte, letter_escape, escape};
+ghost use Rattle.escapes.specs.Escapes.{lookup, letters, letters_of, Tells, half_of, IsHalf, low_half, code_unit, four_digits, scalar, braced, code_point, raw_byte, letter_escape, escape};
 
 use notation::styles::{Style, Unit};
 use prelude::refusals::Refusal;
@@ -15,49 +15,49 @@ use prelude::slices;
 use utf8::encoding;
 use utf8::encoding::Few;
 
-// The byte that a letter denotes in every style, 0 where it denotes none.
-pub fn common(c: u8) -> u8
-    ensures { result ≡ lookup c letters }
+// The byte that a letter denotes in every style.
+pub fn common(c: u8) -> Option<u8>
+    ensures { Tells result (lookup c letters) }
 {
     if c == b'"' {
-        return b'"';
+        return Some(b'"');
     }
     if c == b'\\' {
-        return b'\\';
+        return Some(b'\\');
     }
     if c == b'/' {
-        return b'/';
+        return Some(b'/');
     }
     if c == b'b' {
-        return b'\x08';
+        return Some(b'\x08');
     }
     if c == b'f' {
-        return b'\x0c';
+        return Some(b'\x0c');
     }
     if c == b'n' {
-        return b'\n';
+        return Some(b'\n');
     }
     if c == b'r' {
-        return b'\r';
+        return Some(b'\r');
     }
     if c == b't' {
-        return b'\t';
+        return Some(b'\t');
     }
-    0
+    None
 }
 
 // In the single-quoted styles `'` is a letter too.
-fn single_quoted(c: u8) -> u8
-    ensures { result ≡ lookup c (letters_of Unicode) }
+fn single_quoted(c: u8) -> Option<u8>
+    ensures { Tells result (lookup c (letters_of Unicode)) }
 {
     if c == b'\'' {
-        return b'\'';
+        return Some(b'\'');
     }
     common(c)
 }
 
-fn byte_of(c: u8, style: Style) -> u8
-    ensures { result ≡ lookup c (letters_of style) }
+fn byte_of(c: u8, style: Style) -> Option<u8>
+    ensures { Tells result (lookup c (letters_of style)) }
 {
     match style {
         Style::Json => common(c),
@@ -234,15 +234,15 @@ fn raw_byte(s: &[u8], at: usize, style: Style) -> Result<Unit, Refusal>
     }
 }
 
-// A backslash and one letter, which denotes the byte b, or nothing where b is 0.
-fn letter_escape(b: u8) -> Result<Unit, Refusal>
-    ensures is { unit_of result ≡ letter_escape b }
+// A backslash and one letter.
+fn letter_escape(c: u8, style: Style) -> Result<Unit, Refusal>
+    ensures is { unit_of result ≡ letter_escape (lookup c (letters_of style)) }
     ensures few { FewOf result }
 {
-    if b == 0 {
-        return Err(Refusal::BadEscape);
+    match byte_of(c, style) {
+        Some(b) => Ok(byte_unit(2, b)),
+        None => Err(Refusal::BadEscape),
     }
-    Ok(byte_unit(2, b))
 }
 
 // The escape whose backslash stands before a place.
@@ -258,5 +258,5 @@ pub fn escape_at(s: &[u8], at: usize, style: Style) -> Result<Unit, Refusal>
     if c == b'y' {
         return raw_byte(s, at + 1, style);
     }
-    letter_escape(byte_of(c, style))
+    letter_escape(c, style)
 }

@@ -84,8 +84,7 @@ fn fill_escape(t: &Classes, s: &[u8], at: usize, style: Style, o: usize, out: &m
     requires { (at < length s.now) × (get_or s.now at 0 ≡ 0x5c) × (o ≤ length out.old) × (0 < length (units_bytes style 0 (drop at s.now))) }
     ensures { Filled style s.now at o out.old result.at result.count out.new }
 {
-    let b = escapes::common(slices::byte_at(s, at + 1, 0));
-    if b != 0 {
+    if let Some(b) = escapes::common(slices::byte_at(s, at + 1, 0)) {
         slices::put(b, o, out);
         return Moved {
             at: at + 2,

@@ -103,7 +103,7 @@ pub(crate) fn size_at(s: &[u8], at: usize, style: Style) -> Option<Size>
     if s[at] != b'\\' {
         return None;
     }
-    if escapes::common(s[at + 1]) != 0 {
+    if let Some(_) = escapes::common(s[at + 1]) {
         return Some(Size { len: 2, spare: 1 });
     }
     let v = point_at(s, at, style)?;

@@ -75,7 +75,7 @@ letter_escape_lem : (st : Style) (a b : ℕ) (r : List ℕ) → b ≡ lookup a l
 unfolding escape lookup pick
 letter_escape_lem st a b r e h =
     pick_false _ _ _ (ne_eqb a (code "u") (no_letter (code "u") refl a b e h)) ∙ pick_false _ _ _ (ne_eqb a (code "y") (no_letter (code "y") refl a b e h))
-    ∙ rw (← letter_of st a b e h) (sym (letter_some (took 2 (b ∷ [])) b refl h))
+    ∙ rw (← letter_of st a b e h) (sym (letter_some (took 2 (b ∷ [])) b b refl (let z : 0 < b = omega arith in (z, refl))))
 
 -- the same at a place of a text
 module _ (st : Style) (s : List ℕ) (at : ℕ) (h : at < length s) where

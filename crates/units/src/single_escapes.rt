@@ -100,8 +100,7 @@ pub fn single_at(s: &[u8], at: usize, style: Style) -> Option<Single>
     ensures { Denotes result (escape style (drop at s.now)) }
 {
     let c = s[at];
-    let byte = escapes::common(c);
-    if byte != 0 {
+    if let Some(byte) = escapes::common(c) {
         return Some(Single { len: 2, byte });
     }
     special(c, s, at + 1, style)

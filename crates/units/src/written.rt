@@ -1,7 +1,7 @@
 // One unit as it is written, where the byte doesn't stand for itself.
 ghost use Rattle.std.specs.Prelude.{[], ◌∷◌, ◌≡◌, ◌<◌, length};
 ghost use Rattle.std.proofs.lemmas.List.Edits.{sets};
-ghost use Rattle.escapes.specs.Escapes.{lookup};
+ghost use Rattle.escapes.specs.Escapes.{lookup, Tells};
 ghost use Rattle.units.specs.Written.{hex_digit, by_number, escaped, escape_byte};
 
 use notation::styles;
@@ -18,33 +18,33 @@ fn hex_digit(d: u8) -> u8
     b'a' + (d - 10)
 }
 
-// What follows the backslash of a byte's two-byte escape, 0 where it has none.
-fn letter_of(form: Form, x: u8) -> u8
-    ensures { result ≡ lookup x (escaped form) }
+// What follows the backslash of a byte's two-byte escape.
+fn letter_of(form: Form, x: u8) -> Option<u8>
+    ensures { Tells result (lookup x (escaped form)) }
 {
     let q = styles::quote_in(form);
     if x == q {
-        return q;
+        return Some(q);
     }
     if x == b'\\' {
-        return b'\\';
+        return Some(b'\\');
     }
     if x == b'\x08' {
-        return b'b';
+        return Some(b'b');
     }
     if x == b'\x0c' {
-        return b'f';
+        return Some(b'f');
     }
     if x == b'\n' {
-        return b'n';
+        return Some(b'n');
     }
     if x == b'\r' {
-        return b'r';
+        return Some(b'r');
     }
     if x == b'\t' {
-        return b't';
+        return Some(b't');
     }
-    0
+    None
 }
 
 fn number_len(form: Form, x: u8) -> usize
@@ -93,20 +93,22 @@ fn put_number(form: Form, x: u8, o: usize, out: &mut [u8])
 pub fn escape_len(form: Form, x: u8) -> usize
     ensures { result ≡ length (escape_byte form x) }
 {
-    if letter_of(form, x) != 0 {
-        return 2;
+    match letter_of(form, x) {
+        Some(_) => 2,
+        None => number_len(form, x),
     }
-    number_len(form, x)
 }
 
 // Stores the escape of a byte, as far as there is room.
 pub fn put_escape(form: Form, x: u8, o: usize, out: &mut [u8])
     ensures { out.new ≡ sets out.old o (escape_byte form x) }
 {
-    let k = letter_of(form, x);
-    if k != 0 {
-        put_two(b'\\', k, o, out);
-        return;
+    match letter_of(form, x) {
+        Some(k) => {
+            put_two(b'\\', k, o, out);
+        }
+        None => {
+            put_number(form, x, o, out);
+        }
     }
-    put_number(form, x, o, out);
 }

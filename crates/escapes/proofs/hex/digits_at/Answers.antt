@@ -1,5 +1,5 @@
 use native.Mathlib.Omega.{arith}
-use mathlib.Core.Path.{ap, ◌∙◌}
+use mathlib.Core.Path.{refl, ap, ◌∙◌}
 use Rattle.escapes.specs.Hex.{hex_val}
 use Rattle.escapes.proofs.HexLaws.{begun, again, stopped, full, room}
 use Rattle.escapes.proofs.hex.digits_at.Goals as goal
@@ -10,12 +10,9 @@ loop-count-init c = begun _ _
 pub byte_at-requires : goal.byte_at-requires
 byte_at-requires c = tt
 
-pub hex_val-d-requires : goal.hex_val-d-requires
-hex_val-d-requires c = tt
-
-pub returns-then-d-ge16 : goal.returns-then-d-ge16
-returns-then-d-ge16 c =
-    let p = stopped _ _ _ _ c.loop-count.invariant c.loop-count-test.true _ (c.hex_val-d.ensures.is ∙ ap hex_val c.byte_at.ensures) c.if-d-ge16.true in record { run = p.0; number = p.1; below = p.2 }
+pub returns-in-None : goal.returns-in-None
+returns-in-None c =
+    let p = stopped _ _ _ _ c.loop-count.invariant c.loop-count-test.true _ refl (omega (arith, c.in-None.ensures, ap hex_val c.byte_at.ensures)) in record { run = p.0; number = p.1; below = p.2 }
 
 pub overflow_mul-value : goal.overflow_mul-value
 overflow_mul-value c = omega (arith, room _ _ _ _ c.loop-count.invariant c.loop-count-test.true c.requires)
@@ -34,7 +31,7 @@ loop-count-smaller c = omega arith
 
 pub loop-count-preserved : goal.loop-count-preserved
 loop-count-preserved c =
-    again _ _ _ _ c.loop-count.invariant c.loop-count-test.true _ (c.wide.ensures ∙ c.hex_val-d.ensures.is ∙ ap hex_val c.byte_at.ensures) (rw c.wide.ensures c.if-d-ge16.false)
+    again _ _ _ _ c.loop-count.invariant c.loop-count-test.true _ (c.wide.ensures ∙ c.in-Some.ensures.1 ∙ ap hex_val c.byte_at.ensures) (rw c.wide.ensures c.in-Some.ensures.0)
 
 pub returns : goal.returns
 returns c = let p = full _ _ _ _ c.loop-count.invariant c.loop-count-test.false in record { run = p.0; number = p.1; below = p.2 }

@@ -1,6 +1,7 @@
 -- A letter, or what `fill_number` stores (Filling).
+use native.Mathlib.Omega.{arith}
 use Rattle.string_tokens.proofs.Filling.{letter_filled}
 use Rattle.string_tokens.proofs.fill.fill_escape.Goals as goal
 
-pub returns-then-b-ne0 : goal.returns-then-b-ne0
-returns-then-b-ne0 c = letter_filled _ c.args.s.now _ _ c.args.out.now _ _ _ c.requires.1 c.byte_at.ensures c.common-b.ensures c.if-b-ne0.true c.put.ensures
+pub returns-in-Some : goal.returns-in-Some
+returns-in-Some c = letter_filled _ c.args.s.now _ _ c.args.out.now _ _ _ c.requires.1 c.byte_at.ensures c.in-Some.ensures.1 (λ z. omega (arith, c.in-Some.ensures.0)) c.put.ensures

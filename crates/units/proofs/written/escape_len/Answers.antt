@@ -1,11 +1,12 @@
 -- By letter or by number (EscapeStores).
-use mathlib.Core.Path.{ap, ◌∙◌}
+use native.Mathlib.Omega.{arith}
+use mathlib.Core.Path.{refl, ap, ◌∙◌}
 use lib.ListN.{length}
 use Rattle.units.proofs.EscapeStores.{by_letter, as_number}
 use Rattle.units.proofs.written.escape_len.Goals as goal
 
-pub returns-then-letter_of-ne0 : goal.returns-then-letter_of-ne0
-returns-then-letter_of-ne0 c = ap length (by_letter c.args.form c.args.x c.letter_of.result c.letter_of.ensures c.if-letter_of-ne0.true)
+pub returns-in-Some : goal.returns-in-Some
+returns-in-Some c = ap length (by_letter c.args.form c.args.x _ c.in-Some.ensures.1 (λ z. omega (arith, c.in-Some.ensures.0)))
 
-pub returns : goal.returns
-returns c = c.number_len.ensures ∙ ap length (as_number c.args.form c.args.x c.letter_of.result c.letter_of.ensures c.if-letter_of-ne0.false)
+pub returns-in-None : goal.returns-in-None
+returns-in-None c = c.number_len.ensures ∙ ap length (as_number c.args.form c.args.x _ refl c.in-None.ensures)
