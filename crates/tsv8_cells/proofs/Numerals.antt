@@ -6,21 +6,23 @@ use mathlib.Core.List.{List, [], ◌∷◌}
 use mathlib.Core.Path.{◌≡◌, refl, sym, subst, ◌∙◌}
 use native.Mathlib.Numerals.{add-one}
 use native.Mathlib.Omega.{arith}
-use borrow.Author.Tests.{eq-eqb, ne_eqb, eqb-true, ltb-true, ltb-false, leb-true, lt-leb, lt-ltb, le-ltb}
+use borrow.Author.Tests.{ne_eqb, eqb-true, ltb-true, ltb-false, leb-true, lt-leb}
 use lib.Dec.{eqb, ltb, leb}
 use lib.ListN.{length, get_or, drop, drop_of_length-le}
 use lib.Seq.{drop-cons}
+use Rattle.std.specs.Prelude.{Option, Some, None}
 use Rattle.prelude.specs.Pick.{pick}
 use Rattle.prelude.proofs.Cases.{split, and_left, and_right, never}
 use Rattle.prelude.proofs.Picks.{and_no_second}
 use Rattle.prelude.proofs.Tables.{at_below}
 use Rattle.utf8.specs.Class.{class_of}
+use Rattle.utf8.specs.Utf8.{positive}
 use Rattle.eights.specs.inner.Words.{is_odd}
 use Rattle.tokens.specs.Words.{is_digit, same_bytes, false_word, true_word}
-use Rattle.tokens.specs.Numbers.{is_e, is_sign, is_number, behind_int, in_int, int, number_kind}
+use Rattle.tokens.specs.Numbers.{is_e, is_sign, is_number, behind_int, in_int, int, number_kind, kind_told}
 use Rattle.tokens.proofs.NumberTexts.{All, number_legal}
-use Rattle.tsv8_cells.specs.Types.{ColumnType, bools, ints, floats, strs, type_number, all_digits, is_float, is_int}
-use Rattle.tsv8_cells.specs.inner.Typed.{type_of, bool_kind, typed_kind}
+use Rattle.tsv8_cells.specs.Types.{ColumnType, bools, ints, floats, strs, all_digits, is_float, is_int}
+use Rattle.tsv8_cells.specs.inner.Typed.{bool_kind, typed_kind}
 use Rattle.tsv8_cells.specs.inner.Texts.{AllPlain}
 
 -- the loop
@@ -146,11 +148,11 @@ every_is (x ∷ r) e (suc j) h =
 word_plain : (w v : List ℕ) → every_plain v ≡ true → same_bytes w v ≡ true → AllPlain w
 word_plain w v p e = subst AllPlain (sym (same_is w v e)) (every_is v p)
 
-bool_plain : (w : List ℕ) → (bool_kind w ≡ 0 → ⊥) → AllPlain w
+bool_plain : (w : List ℕ) (k : ℕ) → Some k ≡ bool_kind w → AllPlain w
 unfolding bool_kind every_plain is_odd class_of pick
-bool_plain w h =
+bool_plain w k h =
     split (same_bytes w false_word) (λ e. word_plain w false_word refl e)
-    (λ e. split (same_bytes w true_word) (λ d. word_plain w true_word refl d) (λ d. absurd (h (rw (e, d)))))
+    (λ e. split (same_bytes w true_word) (λ d. word_plain w true_word refl d) (λ d. never (let z : Some k ≡ None = rw (e, d) at h in cc)))
 
 pub float_kind : (w : List ℕ) → is_float w ≡ true → number_kind w ≡ 0 → ⊥
 unfolding is_float
@@ -164,67 +166,52 @@ unfolding is_int
 int_float w e = and_left (is_float w) _ e
 
 -- what fits a type but Str is plain
-pub fit_plain : (t : ColumnType) (w : List ℕ) → (typed_kind t w ≡ 0 → ⊥) → AllPlain w
+pub fit_plain : (t : ColumnType) (w : List ℕ) (k : ℕ) → Some k ≡ typed_kind t w → AllPlain w
 unfolding pick
-fit_plain bools w h = bool_plain w h
-fit_plain ints w h = split (is_int w) (λ e. float_plain w (int_float w e)) (λ e. absurd (h (rw e)))
-fit_plain floats w h = split (is_float w) (λ e. float_plain w e) (λ e. absurd (h (rw e)))
-fit_plain strs w h = absurd (h refl)
+fit_plain bools w k h = bool_plain w k h
+fit_plain ints w k h = split (is_int w) (λ e. float_plain w (int_float w e)) (λ e. never (let z : Some k ≡ None = rw e at h in cc))
+fit_plain floats w k h = split (is_float w) (λ e. float_plain w e) (λ e. never (let z : Some k ≡ None = rw e at h in cc))
+fit_plain strs w k h = never cc
 
--- a text in a column, by its number
-module _ (w : List ℕ) (ty : ℕ) (h : ty < 4) where
-  low : ltb 3 ty ≡ false
-  low = le-ltb 3 ty (omega arith)
+-- a text in a column
+module _ (w : List ℕ) (b : Bool) (e : b ≡ is_int w) where
+  pub kind_int : b ≡ true → Some 3 ≡ typed_kind ints w
+  unfolding pick
+  kind_int t = rw (sym e, t)
 
-  pub kind_bool : (k : ℕ) → ty ≡ 1 → k ≡ bool_kind w → k ≡ typed_kind (type_of ty) w
-  unfolding type_of pick
-  kind_bool k a e = rw (low, eq-eqb ty 1 a) e
+  pub kind_no_int : b ≡ false → None ≡ typed_kind ints w
+  unfolding pick
+  kind_no_int f = rw (sym e, f)
 
-  pub kind_int : (b : Bool) → (ty ≡ 1 → ⊥) → ty ≡ 2 → b ≡ is_int w → b ≡ true → 3 ≡ typed_kind (type_of ty) w
-  unfolding type_of pick
-  kind_int b a d e f = rw (low, ne_eqb ty 1 a, eq-eqb ty 2 d, sym e, f)
+kind_float_lem : (j k : ℕ) → Some k ≡ kind_told j → ◌≡◌ {A = Option ℕ} (Some 4) (pick (positive j) (Some 4) None)
+unfolding pick
+kind_float_lem zero k e = never (let z : Some k ≡ None = e in cc)
+kind_float_lem (suc j) k e = refl
 
-  pub kind_no_int : (b : Bool) → (ty ≡ 1 → ⊥) → ty ≡ 2 → b ≡ is_int w → b ≡ false → 0 ≡ typed_kind (type_of ty) w
-  unfolding type_of pick
-  kind_no_int b a d e f = rw (low, ne_eqb ty 1 a, eq-eqb ty 2 d, sym e, f)
+no_float_lem : (j : ℕ) → None ≡ kind_told j → ◌≡◌ {A = Option ℕ} None (pick (positive j) (Some 4) None)
+unfolding pick
+no_float_lem zero e = refl
+no_float_lem (suc j) e = never (let z : None ≡ Some (suc j) = e in cc)
 
-  pub kind_no_float : (k : ℕ) → (ty ≡ 1 → ⊥) → (ty ≡ 2 → ⊥) → k ≡ number_kind w → k ≡ 0 → 0 ≡ typed_kind (type_of ty) w
-  unfolding type_of is_float pick
-  kind_no_float k a d e f = let z : number_kind w ≡ 0 = sym e ∙ f in rw (low, ne_eqb ty 1 a, ne_eqb ty 2 d, z)
+pub kind_float : (w : List ℕ) (k : ℕ) → Some k ≡ kind_told (number_kind w) → Some 4 ≡ typed_kind floats w
+unfolding is_float
+kind_float w k e = kind_float_lem (number_kind w) k e
 
-  pub kind_float : (k : ℕ) → (ty ≡ 1 → ⊥) → (ty ≡ 2 → ⊥) → k ≡ number_kind w → (k ≡ 0 → ⊥) → 4 ≡ typed_kind (type_of ty) w
-  unfolding type_of is_float pick
-  kind_float zero a d e f = absurd (f refl)
-  kind_float (suc k) a d e f = rw (low, ne_eqb ty 1 a, ne_eqb ty 2 d, sym e)
+pub kind_no_float : (w : List ℕ) → None ≡ kind_told (number_kind w) → None ≡ typed_kind floats w
+unfolding is_float
+kind_no_float w e = no_float_lem (number_kind w) e
 
 -- a Bool, by the words that it was compared with
 module _ (w : List ℕ) (a : Bool) (ea : a ≡ same_bytes w false_word) where
-  pub bool_no : a ≡ true → 1 ≡ bool_kind w
+  pub bool_no : a ≡ true → Some 1 ≡ bool_kind w
   unfolding bool_kind pick
   bool_no t = rw (sym ea, t)
 
   module _ (fa : a ≡ false) (b : Bool) (eb : b ≡ same_bytes w true_word) where
-    pub bool_yes : b ≡ true → 2 ≡ bool_kind w
+    pub bool_yes : b ≡ true → Some 2 ≡ bool_kind w
     unfolding bool_kind pick
     bool_yes t = rw (sym ea, fa, sym eb, t)
 
-    pub bool_none : b ≡ false → 0 ≡ bool_kind w
+    pub bool_none : b ≡ false → None ≡ bool_kind w
     unfolding bool_kind pick
     bool_none f = rw (sym ea, fa, sym eb, f)
-
--- a type's number
-pub number_str : (ty : ℕ) → 3 < ty → 4 ≡ type_number (type_of ty)
-unfolding type_of pick
-number_str ty h = rw (lt-ltb 3 ty h)
-
-pub number_bool : (ty : ℕ) → ty ≤ 3 → ty ≡ 1 → 1 ≡ type_number (type_of ty)
-unfolding type_of pick
-number_bool ty h a = rw (le-ltb 3 ty h, eq-eqb ty 1 a)
-
-pub number_int : (ty : ℕ) → ty ≤ 3 → (ty ≡ 1 → ⊥) → ty ≡ 2 → 2 ≡ type_number (type_of ty)
-unfolding type_of pick
-number_int ty h a b = rw (le-ltb 3 ty h, ne_eqb ty 1 a, eq-eqb ty 2 b)
-
-pub number_float : (ty : ℕ) → ty ≤ 3 → (ty ≡ 1 → ⊥) → (ty ≡ 2 → ⊥) → 3 ≡ type_number (type_of ty)
-unfolding type_of pick
-number_float ty h a b = rw (le-ltb 3 ty h, ne_eqb ty 1 a, ne_eqb ty 2 b)

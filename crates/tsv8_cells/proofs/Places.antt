@@ -20,7 +20,7 @@ use Rattle.eights.specs.inner.Words.{is_odd}
 use Rattle.line_ends.specs.inner.Ends.{line_run}
 use Rattle.line_ends.proofs.Ends.{run_nil, run_on, run_lf, run_within}
 use Rattle.string_tokens.specs.inner.Quotes.{Plains}
-use Rattle.tsv8_cells.specs.Parts.{part, divided, parts_of, Line, line, line_of, is_gap, is_ignored, unless_ignored, lines_left}
+use Rattle.tsv8_cells.specs.Parts.{part, divided, parts_of, Line, line_of, is_gap, is_ignored, unless_ignored, lines_left}
 use Rattle.tsv8_cells.specs.inner.Runs.{cell_run, gap_run, Starts, line_at, line_end, cells_at, lines_from, Left}
 
 -- cells, byte by byte

@@ -7,10 +7,12 @@ use mathlib.Core.List.{List, [], ◌∷◌, ◌++◌}
 use mathlib.Core.Path.{◌≡◌, refl, sym, ap, subst, ◌∙◌}
 use native.Mathlib.Nat.{add-zero}
 use native.Mathlib.Omega.{arith}
-use borrow.Author.Tests.{eq-eqb, ne_eqb, lt-ltb, le-ltb}
+use borrow.Author.Tests.{eq-eqb, ne_eqb}
 use lib.Dec.{eqb}
 use lib.ListN.{length, get_or, take, drop, length-drop}
 use lib.Seq.{drop-cons, get_or-take, get_or-drop, take-suc, take-length}
+use Rattle.std.specs.Prelude.{Some, None, Result, Ok}
+use Rattle.prelude.specs.declared.refusals.Refused.{Refused}
 use Rattle.prelude.specs.Bytes.{space, TAB, LF, CR}
 use Rattle.prelude.specs.Pick.{pick}
 use Rattle.prelude.proofs.Cases.{split, never}
@@ -23,8 +25,6 @@ use Rattle.runs.proofs.LiteralRuns.{here}
 use Rattle.string_tokens.specs.inner.Quotes.{PlainToken, Plains}
 use Rattle.string_tokens.proofs.Quoting.{plains_run, closed_told}
 use Rattle.tokens.specs.declared.numbers.Number.{Number}
-use Rattle.tokens.specs.declared.numbers.Number.TheVariants.{Legal, Malformed}
-use Rattle.tokens.specs.declared.words.Word.TheVariants.{Value, Other}
 use Rattle.tokens.specs.Words.{is_digit, is_word, word_of, same_bytes, null_word, false_word, true_word, word_value}
 use Rattle.tokens.specs.Numbers.{is_number, is_sign, is_e, number_token, number_kind, number_from, number_at, legal}
 use Rattle.tokens.specs.inner.Parts.{name_kind, Named}
@@ -34,19 +34,17 @@ use Rattle.tokens.proofs.Shorts.{digit}
 use Rattle.lines.specs.Line.{blank, leads, trimmed, strip, read_stripped}
 use Rattle.lines.proofs.LineEnds.{trim_stop}
 use Rattle.tsv8_cells.specs.declared.cells.Cell.{Cell as CellOut}
-use Rattle.tsv8_cells.specs.declared.cells.Cell.TheVariants.{Got}
 use Rattle.tsv8_cells.specs.declared.cells.Text.TheVariants.{Bare, Plain}
-use Rattle.tsv8_cells.specs.Parts.{part}
 use Rattle.tsv8_cells.specs.Types.{ColumnType, bools, ints, floats, strs, all_digits, is_int, is_float}
 use Rattle.tsv8_cells.specs.Cells.{cell_by, cell_at}
 use Rattle.tsv8_cells.specs.inner.Runs.{cell_run}
 use Rattle.tsv8_cells.specs.inner.Texts.{AllPlain}
-use Rattle.tsv8_cells.specs.inner.Typed.{type_of, bool_kind, typed_kind}
+use Rattle.tsv8_cells.specs.inner.Typed.{bool_kind, typed_kind}
 use Rattle.tsv8_cells.specs.inner.Told.{CellTold}
 use Rattle.tsv8_cells.specs.inner.Simple.{bytes_to, Over, Solid, QuotedCell, BareCell, TypedCell, NamedCell, Found}
 use Rattle.tsv8_cells.proofs.Places.{cell_tab, cell_lf, scan_on, plains_same, cell_ended}
 use Rattle.tsv8_cells.proofs.Numerals.{same_is, int_zero, int_other, float_kind, float_plain, int_float}
-use Rattle.tsv8_cells.proofs.CellTexts.{plain_text, plain_whole, str_bare, str_plain, typed_got}
+use Rattle.tsv8_cells.proofs.CellTexts.{out, plain_text, plain_whole, str_bare, str_plain, typed_got}
 use Rattle.tsv8_cells.proofs.Stripped.{cell_long, wider}
 
 -- a byte at a place, read past the end too
@@ -157,7 +155,7 @@ module _ (s : List ℕ) (q e : ℕ) (x : Solid s q e) where
   solid_some : 0 < length (bytes_to s q e)
   solid_some = omega (arith, solid_long, x.some)
 
-  found : (t : ColumnType) (m : ℕ) (r : CellOut)
+  found : (t : ColumnType) (m : ℕ) (r : Result CellOut Refused)
       → CellTold (cell_by (read_stripped (bytes_to s q e)) t q q m (bytes_to s q e)) (bytes_to s q e) (q + length (bytes_to s q e)) m r → Found s q t m e r
   unfolding cell_at
   found t m r y =
@@ -170,58 +168,52 @@ module _ (s : List ℕ) (q e : ℕ) (x : Solid s q e) where
             (subst (λ (w : List ℕ). CellTold (cell_by (read_stripped w) t q q m w) w e m r) (sym x.same) v);
       }
 
-  typed_found : (ty m k : ℕ) → k ≡ typed_kind (type_of ty) (bytes_to s q e) → (k ≡ 0 → ⊥) → Found s q (type_of ty) m e (Got k q (e - q))
-  typed_found ty m k f n =
-      subst (λ (i : ℕ). Found s q (type_of ty) m e (Got k q i)) solid_long
-      (found (type_of ty) m _ (typed_got (bytes_to s q e) solid_some ty q q m k f n))
+  typed_found : (t : ColumnType) (m k : ℕ) → Some k ≡ typed_kind t (bytes_to s q e) → Found s q t m e (Ok (out k q (e - q)))
+  typed_found t m k f =
+      subst (λ (i : ℕ). Found s q t m e (Ok (out k q i))) solid_long
+      (found t m _ (typed_got (bytes_to s q e) solid_some t q q m k f))
 
-pub quoted_found : (s : List ℕ) (q e m : ℕ) → QuotedCell s q e → Found s q strs m e (Got 5 (q + 1) (e - (q + 2)))
+pub quoted_found : (s : List ℕ) (q e m : ℕ) → QuotedCell s q e → Found s q strs m e (Ok (out 5 (q + 1) (e - (q + 2))))
 quoted_found s q e m x =
     let l = solid_long s q e x.solid in
     let z : length (bytes_to s q e) - 2 ≡ e - (q + 2) = omega (arith, l, x.marks) in
     let i = plain_whole (bytes_to s q e) (solid_some s q e x.solid) 1 (e - q - 1) x.token (omega (arith, l, x.marks)) in
-    subst (λ (k : ℕ). Found s q strs m e (Got 5 (q + 1) k)) z
+    subst (λ (k : ℕ). Found s q strs m e (Ok (out 5 (q + 1) k))) z
     (found s q e x.solid strs m _ (str_plain (bytes_to s q e) (Plain 1) i q q m 1 refl))
 
-pub bare_found : (s : List ℕ) (q e m : ℕ) → BareCell s q e → Found s q strs m e (Got 5 q (e - q))
+pub bare_found : (s : List ℕ) (q e m : ℕ) → BareCell s q e → Found s q strs m e (Ok (out 5 q (e - q)))
 bare_found s q e m x =
     let i = plain_text (bytes_to s q e) (solid_some s q e x.solid) x.plain in
-    subst (λ (k : ℕ). Found s q strs m e (Got 5 q k)) (solid_long s q e x.solid)
+    subst (λ (k : ℕ). Found s q strs m e (Ok (out 5 q k))) (solid_long s q e x.solid)
     (found s q e x.solid strs m _ (str_bare (bytes_to s q e) Bare i q q m refl))
 
-pub int_found : (s : List ℕ) (q e m : ℕ) → TypedCell s q e ints 3 → Found s q ints m e (Got 3 q (e - q))
-unfolding type_of pick
-int_found s q e m x = typed_found s q e x.solid 2 m 3 x.fit (λ z. omega (arith, z))
+pub int_found : (s : List ℕ) (q e m : ℕ) → TypedCell s q e ints 3 → Found s q ints m e (Ok (out 3 q (e - q)))
+int_found s q e m x = typed_found s q e x.solid ints m 3 x.fit
 
-pub float_found : (s : List ℕ) (q e m : ℕ) → TypedCell s q e floats 4 → Found s q floats m e (Got 4 q (e - q))
-unfolding type_of pick
-float_found s q e m x = typed_found s q e x.solid 3 m 4 x.fit (λ z. omega (arith, z))
+pub float_found : (s : List ℕ) (q e m : ℕ) → TypedCell s q e floats 4 → Found s q floats m e (Ok (out 4 q (e - q)))
+float_found s q e m x = typed_found s q e x.solid floats m 4 x.fit
 
-bool_found : (s : List ℕ) (q e m k : ℕ) → Solid s q e → k ≡ bool_kind (bytes_to s q e) → (k ≡ 0 → ⊥) → Found s q bools m e (Got k q (e - q))
-unfolding type_of pick
-bool_found s q e m k x f n = typed_found s q e x 1 m k f n
-
-pub true_found : (s : List ℕ) (q e m x : ℕ) → NamedCell s q e x → x ≡ 0x74 → Found s q bools m e (Got 2 q (e - q))
+pub true_found : (s : List ℕ) (q e m x : ℕ) → NamedCell s q e x → x ≡ 0x74 → Found s q bools m e (Ok (out 2 q (e - q)))
 unfolding name_kind word_value bool_kind pick
 true_found s q e m x n t =
     let w = bytes_to s q e in
-    let v : word_value w ≡ Value 2 = rw t at n.value in
-    let b : 2 ≡ bool_kind w =
-    split (same_bytes w null_word) (λ a. never (let z : Value 0 ≡ Value 2 = rw a at v in cc))
-    (λ a. split (same_bytes w false_word) (λ c. never (let z : Value 1 ≡ Value 2 = rw (a, c) at v in cc))
-    (λ c. split (same_bytes w true_word) (λ d. rw (c, d)) (λ d. never (let z : Other ≡ Value 2 = rw (a, c, d) at v in cc)))) in
-    bool_found s q e m 2 n.solid b (λ z. omega (arith, z))
+    let v : word_value w ≡ Some 2 = rw t at n.value in
+    let b : Some 2 ≡ bool_kind w =
+    split (same_bytes w null_word) (λ a. never (let z : Some 0 ≡ Some 2 = rw a at v in cc))
+    (λ a. split (same_bytes w false_word) (λ c. never (let z : Some 1 ≡ Some 2 = rw (a, c) at v in cc))
+    (λ c. split (same_bytes w true_word) (λ d. rw (c, d)) (λ d. never (let z : None ≡ Some 2 = rw (a, c, d) at v in cc)))) in
+    typed_found s q e n.solid bools m 2 b
 
-pub false_found : (s : List ℕ) (q e m x : ℕ) → NamedCell s q e x → x ≡ 0x66 → Found s q bools m e (Got 1 q (e - q))
+pub false_found : (s : List ℕ) (q e m x : ℕ) → NamedCell s q e x → x ≡ 0x66 → Found s q bools m e (Ok (out 1 q (e - q)))
 unfolding name_kind word_value bool_kind pick
 false_found s q e m x n t =
     let w = bytes_to s q e in
-    let v : word_value w ≡ Value 1 = rw t at n.value in
-    let b : 1 ≡ bool_kind w =
-    split (same_bytes w null_word) (λ a. never (let z : Value 0 ≡ Value 1 = rw a at v in cc))
+    let v : word_value w ≡ Some 1 = rw t at n.value in
+    let b : Some 1 ≡ bool_kind w =
+    split (same_bytes w null_word) (λ a. never (let z : Some 0 ≡ Some 1 = rw a at v in cc))
     (λ a. split (same_bytes w false_word) (λ c. rw c)
-    (λ c. split (same_bytes w true_word) (λ d. never (let z : Value 2 ≡ Value 1 = rw (a, c, d) at v in cc)) (λ d. never (let z : Other ≡ Value 1 = rw (a, c, d) at v in cc)))) in
-    bool_found s q e m 1 n.solid b (λ z. omega (arith, z))
+    (λ c. split (same_bytes w true_word) (λ d. never (let z : Some 2 ≡ Some 1 = rw (a, c, d) at v in cc)) (λ d. never (let z : None ≡ Some 1 = rw (a, c, d) at v in cc)))) in
+    typed_found s q e n.solid bools m 1 b
 
 -- in double quotes
 module _ (s : List ℕ) (q e : ℕ) (h : q < length s) (f : get_or s q 0 ≡ 0x22) (p : Plains s (q + 1) e) (g : e < length s) (c : get_or s e 0 ≡ 0x22) (o : Over s (e + 1)) where
@@ -297,9 +289,9 @@ module _ (s : List ℕ) (q e : ℕ) (h : q < e) (o : Over s e) where
       fit_solid (float_plain w f) (λ j k. number_space w (number_legal w (float_kind w f)).0 j (omega (arith, k, l)))
 
 -- a number token with a tab or LF behind it
-legal_is : (j l k n : ℕ) → Legal k n ≡ legal j l → (j ≡ 0 → ⊥) × (l ≡ n)
-legal_is zero l k n e = never (let z : Legal k n ≡ Malformed = e in cc)
-legal_is (suc j) l k n e = (λ z. omega (arith, z), let z : Legal k n ≡ Legal (suc j) l = e in let y : n ≡ l = cc in sym y)
+legal_is : (j l : ℕ) (v : Number) → Some v ≡ legal j l → (j ≡ 0 → ⊥) × (l ≡ v.len)
+legal_is zero l v e = never (let z : Some v ≡ None = e in cc)
+legal_is (suc j) l v e = (λ z. omega (arith, z), let z : Some v ≡ Some (record { kind = suc j; len = l }) = e in let y : v ≡ record { kind = suc j; len = l } = cc in ap (λ (u : Number). u.len) (sym y))
 
 float_so : (w : List ℕ) → (number_kind w ≡ 0 → ⊥) → is_float w ≡ true
 unfolding is_float
@@ -309,38 +301,35 @@ float_so w n = go (number_kind w) n
     go zero f = absurd (f refl)
     go (suc k) f = refl
 
-module _ (s : List ℕ) (q k n : ℕ) (h : q ≤ length s) (v : Number) (e : v ≡ number_at (drop q s)) (g : v ≡ Legal k n) where
-  abbrev r : Legal k n ≡ number_at (drop q s)
-  r = sym g ∙ e
-
+module _ (s : List ℕ) (q : ℕ) (h : q ≤ length s) (v : Number) (r : Some v ≡ number_at (drop q s)) where
   abbrev token : List ℕ
   token = number_token (drop q s)
 
-  number_is : (number_kind token ≡ 0 → ⊥) × (length token ≡ n)
+  number_is : (number_kind token ≡ 0 → ⊥) × (length token ≡ v.len)
   unfolding number_at number_from
-  number_is = let (a, b) = legal_is (number_kind token) (0 + length token) k n r in (a, omega (arith, b))
+  number_is = let (a, b) = legal_is (number_kind token) (0 + length token) v r in (a, omega (arith, b))
 
-  pub number_inside : q + n ≤ length s
+  pub number_inside : q + v.len ≤ length s
   number_inside = omega (arith, number_is.1, run_le is_number (drop q s), length-drop q s)
 
-  number_bytes : bytes_to s q (q + n) ≡ token
+  number_bytes : bytes_to s q (q + v.len) ≡ token
   number_bytes =
-      let z : q + n - q ≡ length token = omega (arith, number_is.1) in
+      let z : q + v.len - q ≡ length token = omega (arith, number_is.1) in
       ap (λ (i : ℕ). take i (drop q s)) z ∙ sym (run_take is_number (drop q s))
 
-  number_some : 0 < n
+  number_some : 0 < v.len
   unfolding number_kind
   number_some = go token number_is.0 number_is.1
     where
-      go : (w : List ℕ) → (number_kind w ≡ 0 → ⊥) → length w ≡ n → 0 < n
+      go : (w : List ℕ) → (number_kind w ≡ 0 → ⊥) → length w ≡ v.len → 0 < v.len
       go [] f l = absurd (f refl)
       go (x ∷ w) f l = omega (arith, l)
 
-  pub number_cell : Over s (q + n) → TypedCell s q (q + n) floats 4
+  pub number_cell : Over s (q + v.len) → TypedCell s q (q + v.len) floats 4
   unfolding pick
   number_cell o =
-      let f : is_float (bytes_to s q (q + n)) ≡ true = ap is_float number_bytes ∙ float_so token number_is.0 in
-      record { solid = number_solid s q (q + n) (omega (arith, number_some)) o f; fit = rw f }
+      let f : is_float (bytes_to s q (q + v.len)) ≡ true = ap is_float number_bytes ∙ float_so token number_is.0 in
+      record { solid = number_solid s q (q + v.len) (omega (arith, number_some)) o f; fit = rw f }
 
 -- digits
 digits_all : (w : List ℕ) → ((j : ℕ) → j < length w → is_digit (get_or w j 0) ≡ true) → all_digits w ≡ true
@@ -398,13 +387,13 @@ calm_space [] e j h z = omega arith
 calm_space (x ∷ r) e zero h z = never (let y : true ≡ false = sym (eq-eqb x space z) ∙ (calm_first x r e).1.0 in cc)
 calm_space (x ∷ r) e (suc j) h z = calm_space r (calm_first x r e).1.1 j (omega arith) z
 
-named_calm : (w : List ℕ) (k : ℕ) → word_value w ≡ Value k → (calm w ≡ true) × (0 < length w)
+named_calm : (w : List ℕ) (k : ℕ) → word_value w ≡ Some k → (calm w ≡ true) × (0 < length w)
 unfolding word_value calm is_odd class_of pick
 named_calm w k v =
     split (same_bytes w null_word) (λ a. let z = same_is w null_word a in (ap calm z, omega (arith, ap length z)))
     (λ a. split (same_bytes w false_word) (λ b. let z = same_is w false_word b in (ap calm z, omega (arith, ap length z)))
     (λ b. split (same_bytes w true_word) (λ d. let z = same_is w true_word d in (ap calm z, omega (arith, ap length z)))
-    (λ d. never (let z : Other ≡ Value k = rw (a, b, d) at v in cc))))
+    (λ d. never (let z : None ≡ Some k = rw (a, b, d) at v in cc))))
 
 module _ (s : List ℕ) (q x n : ℕ) (h : q ≤ length s) (r : Named (drop q s) x n) where
   named_bytes : bytes_to s q (q + n) ≡ word_of (drop q s)
@@ -417,7 +406,7 @@ module _ (s : List ℕ) (q x n : ℕ) (h : q ≤ length s) (r : Named (drop q s)
 
   pub named_cell : Over s (q + n) → NamedCell s q (q + n) x
   named_cell o =
-      let v : word_value (bytes_to s q (q + n)) ≡ Value (name_kind x) = ap word_value named_bytes ∙ r.value in
+      let v : word_value (bytes_to s q (q + n)) ≡ Some (name_kind x) = ap word_value named_bytes ∙ r.value in
       let (c, l) = named_calm (bytes_to s q (q + n)) (name_kind x) v in
       let i = ap length named_bytes ∙ r.long in
       record {
@@ -427,25 +416,3 @@ module _ (s : List ℕ) (q x n : ℕ) (h : q ≤ length s) (r : Named (drop q s)
 
 pub run_in : (s : List ℕ) (q e : ℕ) → q ≤ length s → e ≡ q + cell_run (drop q s) → (q ≤ e) × (e ≤ length s)
 run_in s q e h r = (omega (arith, r), (cell_ended s q e h r).0)
-
--- by the column's number
-module _ (s : List ℕ) (q ty m e : ℕ) (r : CellOut) where
-  pub by_str : 3 < ty → Found s q strs m e r → Found s q (type_of ty) m e r
-  unfolding type_of pick
-  by_str h x = rw (lt-ltb 3 ty h) x
-
-  pub by_int : ty ≤ 3 → ty ≡ 2 → Found s q ints m e r → Found s q (type_of ty) m e r
-  unfolding type_of pick
-  by_int h a x = rw (a) x
-
-  pub by_bool : ty ≤ 3 → ty ≡ 1 → Found s q bools m e r → Found s q (type_of ty) m e r
-  unfolding type_of pick
-  by_bool h a x = rw (a) x
-
-  pub by_float : ty ≤ 3 → (ty ≡ 2 → ⊥) → (ty ≡ 1 → ⊥) → Found s q floats m e r → Found s q (type_of ty) m e r
-  unfolding type_of pick
-  by_float h a b x = rw (le-ltb 3 ty h, ne_eqb ty 1 b, ne_eqb ty 2 a) x
-
-  pub found_told : e ≡ q + cell_run (drop q s)
-      → CellTold (cell_at (type_of ty) m (part q (bytes_to s q e))) (strip (bytes_to s q e)) e m r → Found s q (type_of ty) m e r
-  found_told a b = record { end = a; told = b }

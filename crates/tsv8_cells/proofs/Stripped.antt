@@ -5,21 +5,20 @@ use mathlib.Core.Bool.{Bool, true, false}
 use mathlib.Core.List.{List, [], ◌∷◌}
 use mathlib.Core.Path.{◌≡◌, refl, sym, ap, subst, ◌∙◌}
 use native.Mathlib.Omega.{arith}
-use borrow.Author.Tests.{lt-ltb}
 use lib.ListN.{length, take, drop, length-drop}
 use lib.Seq.{length-take-le, get_or-take, get_or-drop}
+use Rattle.std.specs.Prelude.{Result, Ok, Err}
+use Rattle.prelude.specs.declared.refusals.Refused.{Refused}
 use Rattle.prelude.specs.Limits.{text_max}
-use Rattle.prelude.specs.Pick.{pick}
+use Rattle.prelude.specs.Refusals.{empty_cell, refused_at}
 use Rattle.eights.specs.inner.Words.{is_odd}
 use Rattle.string_tokens.specs.inner.Quotes.{Plains}
 use Rattle.lines.specs.Line.{leads, trimmed, strip, read_stripped}
 use Rattle.lines.proofs.LineEnds.{leads_le, trim_le, strip_inside, strip_part}
 use Rattle.tsv8_cells.specs.declared.cells.Cell.{Cell as CellOut}
-use Rattle.tsv8_cells.specs.declared.cells.Cell.TheVariants.{Got, Refused}
 use Rattle.tsv8_cells.specs.Parts.{part}
-use Rattle.tsv8_cells.specs.Types.{ColumnType, strs}
+use Rattle.tsv8_cells.specs.Types.{ColumnType}
 use Rattle.tsv8_cells.specs.Cells.{Cells, cell_by, cell_at}
-use Rattle.tsv8_cells.specs.inner.Typed.{type_of}
 use Rattle.tsv8_cells.specs.inner.Texts.{AllPlain}
 use Rattle.tsv8_cells.specs.inner.Told.{CellGot, CellTold}
 
@@ -30,9 +29,9 @@ pub strip_le : (c : List ℕ) → length (strip c) ≤ length c
 unfolding strip
 strip_le c = omega (arith, trim_le (drop (leads c) c), length-drop (leads c) c)
 
-pub wider : (want : Cells) (w : List ℕ) (d e m : ℕ) (r : CellOut) → d ≤ e → CellTold want w d m r → CellTold want w e m r
-wider want w d e m (Got kind place size) h x =
-    let y : CellGot want w d m kind place size = x.so in
+pub wider : (want : Cells) (w : List ℕ) (d e m : ℕ) (r : Result CellOut Refused) → d ≤ e → CellTold want w d m r → CellTold want w e m r
+wider want w d e m (Ok c) h x =
+    let y : CellGot want w d m c.kind c.place c.size = x.so in
     record {
       so = record {
         bytes = y.bytes;
@@ -44,7 +43,7 @@ wider want w d e m (Got kind place size) h x =
         small = y.small;
       };
     }
-wider want w d e m (Refused number place) h x = record { so = x.so }
+wider want w d e m (Err f) h x = record { so = x.so }
 
 -- a text with its ends taken off
 module _ (c : List ℕ) (a n : ℕ) (ea : a ≡ leads c) (en : n ≡ length (trimmed (take (length c - a) (drop a c)))) where
@@ -61,12 +60,12 @@ module _ (c : List ℕ) (a n : ℕ) (ea : a ≡ leads c) (en : n ≡ length (tri
       go [] e = refl
       go (x ∷ w) e = absurd (omega (arith, e))
 
-  pub cell_empty : (t : ColumnType) (q e m : ℕ) → n ≡ 0 → CellTold (cell_at t m (part q c)) (strip c) e m (Refused 22 q)
+  pub cell_empty : (t : ColumnType) (q e m : ℕ) → n ≡ 0 → (f : Refused) → f ≡ refused_at empty_cell q → CellTold (cell_at t m (part q c)) (strip c) e m (Err f)
   unfolding cell_at read_stripped
-  cell_empty t q e m z = record { so = rw (strip_none z) }
+  cell_empty t q e m z f ef = rw ef record { so = rw (strip_none z) }
 
   -- what is told of the part
-  pub cell_told : (t : ColumnType) (q e m : ℕ) (r : CellOut) → q + length c ≤ e
+  pub cell_told : (t : ColumnType) (q e m : ℕ) (r : Result CellOut Refused) → q + length c ≤ e
       → CellTold (cell_by (read_stripped (take (a + n - a) (drop a c))) t q (q + a) m (take (a + n - a) (drop a c))) (take (a + n - a) (drop a c)) (q + a + length (take (a + n - a) (drop a c))) m r
       → CellTold (cell_at t m (part q c)) (strip c) e m r
   unfolding cell_at
@@ -102,17 +101,9 @@ module _ (text : List ℕ) (q e : ℕ) (h : q ≤ e) (g : e ≤ length text) whe
         ∙ get_or-take (e - q) (drop q text) (a + j) 0 (omega (arith, k, i.1)) ∙ get_or-drop q text (a + j) 0))
         ((f t).plain (q + (a + j)) (omega arith) (omega (arith, k, i.1)))
 
-  -- by the column's type
-  pub told_typed : (ty m a n : ℕ) (r : CellOut) → a ≡ leads (take (e - q) (drop q text))
+  -- whatever the column's type
+  pub told_whole : (t : ColumnType) (m a n : ℕ) (r : Result CellOut Refused) → a ≡ leads (take (e - q) (drop q text))
       → n ≡ length (trimmed (take (length (take (e - q) (drop q text)) - a) (drop a (take (e - q) (drop q text)))))
-      → ((j : ℕ) → CellTold (cell_by (read_stripped (take (a + n - a) (drop a (take (e - q) (drop q text))))) (type_of ty) q (q + a) j (take (a + n - a) (drop a (take (e - q) (drop q text))))) (take (a + n - a) (drop a (take (e - q) (drop q text)))) (q + a + length (take (a + n - a) (drop a (take (e - q) (drop q text))))) j r)
-      → CellTold (cell_at (type_of ty) m (part q (take (e - q) (drop q text)))) (strip (take (e - q) (drop q text))) e m r
-  told_typed ty m a n r ea en x = cell_told (take (e - q) (drop q text)) a n ea en (type_of ty) q e m r (omega (arith, cell_long)) (x m)
-
-  pub told_str : (ty m a n : ℕ) (r : CellOut) → a ≡ leads (take (e - q) (drop q text))
-      → n ≡ length (trimmed (take (length (take (e - q) (drop q text)) - a) (drop a (take (e - q) (drop q text))))) → 4 ≤ ty
-      → CellTold (cell_by (read_stripped (take (a + n - a) (drop a (take (e - q) (drop q text))))) strs q (q + a) m (take (a + n - a) (drop a (take (e - q) (drop q text))))) (take (a + n - a) (drop a (take (e - q) (drop q text)))) (q + a + length (take (a + n - a) (drop a (take (e - q) (drop q text))))) m r
-      → CellTold (cell_at (type_of ty) m (part q (take (e - q) (drop q text)))) (strip (take (e - q) (drop q text))) e m r
-  unfolding type_of pick
-  told_str ty m a n r ea en l x =
-      rw (lt-ltb 3 ty (omega arith)) (cell_told (take (e - q) (drop q text)) a n ea en strs q e m r (omega (arith, cell_long)) x)
+      → CellTold (cell_by (read_stripped (take (a + n - a) (drop a (take (e - q) (drop q text))))) t q (q + a) m (take (a + n - a) (drop a (take (e - q) (drop q text))))) (take (a + n - a) (drop a (take (e - q) (drop q text)))) (q + a + length (take (a + n - a) (drop a (take (e - q) (drop q text))))) m r
+      → CellTold (cell_at t m (part q (take (e - q) (drop q text)))) (strip (take (e - q) (drop q text))) e m r
+  told_whole t m a n r ea en x = cell_told (take (e - q) (drop q text)) a n ea en t q e m r (omega (arith, cell_long)) x

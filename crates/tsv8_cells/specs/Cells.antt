@@ -2,6 +2,7 @@
 -- Assumes nothing.
 use Rattle.std.specs.Prelude.{ℕ, ◌+◌, ◌-◌, Bool, true, false, List, [], ◌∷◌, ◌++◌, length}
 use Rattle.prelude.specs.Pick.{pick}
+use Rattle.prelude.specs.declared.refusals.Refusal.{Refusal}
 use Rattle.prelude.specs.Refusals.{wrong_type, empty_cell}
 use Rattle.notation.specs.Marks.{Opening, opens, unopened, opening}
 use Rattle.lines.specs.Line.{leads, strip, LineRead, ignored, holds, faulty, read_stripped}
@@ -19,19 +20,19 @@ pub record Cell : Type 0 where
 abbrev pub cell : ℕ → ℕ → ℕ → Cell
 cell k p n = record { kind = k; place = p; size = n }
 
--- cells in reading order, and the bytes that they append to the store; or a refusal's number and place
+-- cells in reading order, and the bytes that they append to the store; or a refusal and its place
 pub data Cells : Type 0 where
   got : List Cell → List ℕ → Cells
-  refused : ℕ → ℕ → Cells
+  refused : Refusal → ℕ → Cells
 
 abbrev pub more : List Cell → List ℕ → Cells → Cells
 more cs bs (got ds es) = got (cs ++ ds) (bs ++ es)
-more cs bs (refused number at) = refused number at
+more cs bs (refused refusal at) = refused refusal at
 
 -- one behind another, the first behind m bytes of the store
 abbrev pub chain : ℕ → Cells → (ℕ → Cells) → Cells
 chain m (got cs bs) go = more cs bs (go (m + length bs))
-chain m (refused number at) go = refused number at
+chain m (refused refusal at) go = refused refusal at
 
 -- a text w that is its own cell
 abbrev pub plain : ℕ → ℕ → List ℕ → Cells
@@ -55,7 +56,7 @@ cell_for strs q p m w bs = string_cell (opening w) (slashed w) p m w bs
 -- "in a cell 22, its own text wherever it fails, 21"
 abbrev pub cell_by : LineRead → ColumnType → ℕ → ℕ → ℕ → List ℕ → Cells
 cell_by ignored t q p m w = refused empty_cell q
-cell_by (faulty number at) t q p m w = refused number (p + at)
+cell_by (faulty refusal at) t q p m w = refused refusal (p + at)
 cell_by (holds kind bs) t q p m w = cell_for t q p m w bs
 
 -- a cell behind m bytes of the store

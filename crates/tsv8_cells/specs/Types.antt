@@ -1,4 +1,4 @@
--- The types of columns, and which bare texts fit them.
+-- The types of columns, "Bool, Int, Float or Str", and which bare texts fit them.
 -- Assumes nothing.
 use Rattle.std.specs.Prelude.{ℕ, zero, suc, Bool, true, ◌&&◌, List, [], ◌∷◌}
 use Rattle.prelude.specs.Bytes.{ascii}
@@ -7,14 +7,9 @@ use Rattle.utf8.specs.Utf8.{positive}
 use Rattle.lines.specs.Line.{strip}
 use Rattle.tokens.specs.Words.{is_digit, same_bytes}
 use Rattle.tokens.specs.Numbers.{number_kind}
+pub use Rattle.tsv8_cells.specs.declared.columns.ColumnType.{ColumnType}
+pub use Rattle.tsv8_cells.specs.declared.columns.ColumnType.TheVariants.{Bool as bools, Int as ints, Float as floats, Str as strs}
 use Rattle.tsv8_cells.specs.Parts.{Part}
-
--- "Bool, Int, Float or Str"
-pub data ColumnType : Type 0 where
-  bools : ColumnType
-  ints : ColumnType
-  floats : ColumnType
-  strs : ColumnType
 
 -- "(1 Bool, 2 Int, 3 Float, 4 Str)"
 abbrev pub type_number : ColumnType → ℕ

@@ -2,5 +2,6 @@
 #![tactic(auto)]
 
 pub mod cells;
+pub mod columns;
 pub mod ends;
 mod simple;

@@ -1,9 +1,9 @@
 -- What the code's readers of cells that few bytes tell promise each other: this speaks of the code alone, and no rule cites it.
 -- Assumes nothing.
-use Rattle.std.specs.Prelude.{ℕ, ◌+◌, ◌-◌, ◌≤◌, ◌<◌, List, ◌≡◌, length, take, drop}
+use Rattle.std.specs.Prelude.{ℕ, ◌+◌, ◌-◌, ◌≤◌, ◌<◌, List, ◌≡◌, Result, Some, length, take, drop}
+use Rattle.prelude.specs.declared.refusals.Refused.{Refused}
 use Rattle.string_tokens.specs.inner.Quotes.{PlainToken}
 use Rattle.lines.specs.Line.{leads, strip}
-use Rattle.tokens.specs.declared.words.Word.TheVariants.{Value}
 use Rattle.tokens.specs.Words.{word_value}
 use Rattle.tokens.specs.inner.Parts.{name_kind}
 use Rattle.tsv8_cells.specs.declared.cells.Cell.{Cell as CellOut}
@@ -45,14 +45,14 @@ pub record BareCell (s : List ℕ) (q e : ℕ) : Type 0 where
 -- fit for a type, by the kind k
 pub record TypedCell (s : List ℕ) (q e : ℕ) (t : ColumnType) (k : ℕ) : Type 0 where
   pub solid : Solid s q e
-  pub fit : k ≡ typed_kind t (bytes_to s q e)
+  pub fit : Some k ≡ typed_kind t (bytes_to s q e)
 
 -- the name of a value that begins with x
 pub record NamedCell (s : List ℕ) (q e x : ℕ) : Type 0 where
   pub solid : Solid s q e
-  pub value : word_value (bytes_to s q e) ≡ Value (name_kind x)
+  pub value : word_value (bytes_to s q e) ≡ Some (name_kind x)
 
 -- the cell from q on, behind m bytes of the store: its end, and what it is read to in a column of a type
-pub record Found (s : List ℕ) (q : ℕ) (t : ColumnType) (m e : ℕ) (r : CellOut) : Type 0 where
+pub record Found (s : List ℕ) (q : ℕ) (t : ColumnType) (m e : ℕ) (r : Result CellOut Refused) : Type 0 where
   pub end : e ≡ q + cell_run (drop q s)
   pub told : CellTold (cell_at t m (part q (bytes_to s q e))) (strip (bytes_to s q e)) e m r

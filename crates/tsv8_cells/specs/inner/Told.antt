@@ -1,11 +1,11 @@
 -- What the reader of a cell promises: this speaks of the code alone, and no rule cites it.
 -- Assumes nothing.
-use Rattle.std.specs.Prelude.{ℕ, ◌+◌, ◌≤◌, List, [], ◌∷◌, ◌≡◌, eqb, length}
+use Rattle.std.specs.Prelude.{ℕ, ◌+◌, ◌≤◌, List, [], ◌∷◌, ◌≡◌, Result, Ok, Err, eqb, length}
+use Rattle.prelude.specs.declared.refusals.Refused.{Refused}
 use Rattle.prelude.specs.Pick.{pick}
 use Rattle.strings.specs.Read.{read_token}
 use Rattle.string_tokens.specs.inner.Quotes.{denoted}
 use Rattle.tsv8_cells.specs.declared.cells.Cell.{Cell as CellOut}
-use Rattle.tsv8_cells.specs.declared.cells.Cell.TheVariants.{Got, Refused}
 use Rattle.tsv8_cells.specs.Cells.{cell, Cells, got, refused}
 
 -- what a cell of a kind and a length takes of the store
@@ -22,9 +22,9 @@ pub record CellGot (want : Cells) (w : List ℕ) (end m kind place size : ℕ) :
   pub inside : (kind ≡ 6 → ⊥) → place + size ≤ end
   pub small : size ≤ length w
 
-abbrev pub CellBy : Cells → List ℕ → ℕ → ℕ → CellOut → Type 0
-CellBy want w end m (Got kind place size) = CellGot want w end m kind place size
-CellBy want w end m (Refused number place) = want ≡ refused number place
+abbrev pub CellBy : Cells → List ℕ → ℕ → ℕ → Result CellOut Refused → Type 0
+CellBy want w end m (Ok c) = CellGot want w end m c.kind c.place c.size
+CellBy want w end m (Err f) = want ≡ refused f.refusal f.place
 
-pub record CellTold (want : Cells) (w : List ℕ) (end m : ℕ) (r : CellOut) : Type 0 where
+pub record CellTold (want : Cells) (w : List ℕ) (end m : ℕ) (r : Result CellOut Refused) : Type 0 where
   pub so : CellBy want w end m r

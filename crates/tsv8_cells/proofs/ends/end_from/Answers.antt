@@ -1,4 +1,3 @@
-use Prim.Native.Nat.{◌-◌}
 use mathlib.Core.Path.{refl}
 use native.Mathlib.Omega.{arith}
 use Rattle.tsv8_cells.proofs.Places.{scan_on, scan_tab, scan_lf, scan_end}

@@ -1,4 +1,3 @@
-use Prim.Native.Nat.{◌-◌}
 use native.Mathlib.Omega.{arith}
 use Rattle.tsv8_cells.proofs.Places.{left_here, left_end, left_stop, left_more}
 use Rattle.tsv8_cells.proofs.ends.line_from.Goals as goal

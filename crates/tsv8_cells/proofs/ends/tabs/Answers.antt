@@ -1,4 +1,3 @@
-use Prim.Native.Nat.{◌-◌}
 use native.Mathlib.Omega.{arith}
 use Rattle.tsv8_cells.proofs.Places.{count_none, count_more, count_stop, count_end}
 use Rattle.tsv8_cells.proofs.ends.tabs.Goals as goal
