@@ -18,8 +18,9 @@ use Rattle.strings_write.specs.Write.{write_string, wrote_into}
 use Rattle.rooms.specs.inner.Puts.{Put}
 use Rattle.rooms.proofs.Puts.{put_past, put_none, put_as, put_then}
 use Rattle.rooms.proofs.Passes.{Whole}
-use Rattle.prelude.specs.declared.answers.Written.{Written}
-use Rattle.prelude.specs.declared.answers.Written.TheVariants.{Wrote, Refused}
+use Rattle.std.specs.Prelude.{Result, Ok, Err}
+use Rattle.prelude.specs.declared.refusals.Refusal.{Refusal}
+use Rattle.prelude.specs.Refusals.{unfit, no_room}
 use Rattle.lines.specs.Line.{kind_of}
 use Rattle.records.specs.Records.{head_size}
 use Rattle.lines_write.specs.Write.{size_at, kind_at, payload_at, right_record, right_records, line_at, lines_from, wrote_lines, lines_into}
@@ -173,14 +174,14 @@ module _ {s : List ℕ} {room : ℕ} {out₀ : List ℕ} {at o : ℕ} {out : Lis
           }
 
 -- what a call answers and leaves
-abbrev WroteLines : List ℕ → List ℕ → Written → List ℕ → Type 0
+abbrev WroteLines : List ℕ → List ℕ → Result ℕ Refusal → List ℕ → Type 0
 WroteLines s out r new = (r ≡ wrote_lines (length out) s) × (new ≡ lines_into s out)
 
 module _ (s out : List ℕ) (b : Bool) (e : b ≡ right_records 0 s) where
-  pub not_right : b ≡ false → WroteLines s out (Refused 1) out
+  pub not_right : b ≡ false → WroteLines s out (Err unfit) out
   unfolding wrote_lines lines_into
   not_right z = (sym (pick_false _ _ _ (sym e ∙ z)), sym (pick_false _ _ _ (sym e ∙ z)))
 
-  pub all_right : b ≡ true → {r : Written} {new : List ℕ} → Whole Wrote (Refused 12) (lines_from 0 s) out r new → WroteLines s out r new
+  pub all_right : b ≡ true → {r : Result ℕ Refusal} {new : List ℕ} → Whole Ok (Err no_room) (lines_from 0 s) out r new → WroteLines s out r new
   unfolding wrote_lines lines_into wrote_into
   all_right z w = (w.0 ∙ sym (pick_true _ _ _ (sym e ∙ z)), w.1 ∙ sym (pick_true _ _ _ (sym e ∙ z)))

@@ -1,13 +1,12 @@
 -- The Lines writer: it "takes records .. and puts each string quoted, one LF after each, however long; 1 if a record is cut short or its
 -- kind doesn't fit its payload, then 12".
 -- Assumes nothing.
-use Rattle.std.specs.Prelude.{ℕ, zero, suc, pred, ◌+◌, ◌*◌, Bool, true, ◌&&◌, List, [], ◌∷◌, ◌++◌, leb, eqb, length, get_or, take, drop}
+use Rattle.std.specs.Prelude.{ℕ, zero, suc, pred, ◌+◌, ◌*◌, Bool, true, ◌&&◌, List, [], ◌∷◌, ◌++◌, leb, eqb, length, get_or, take, drop, Result, Ok, Err}
 use Rattle.prelude.specs.Bytes.{LF}
 use Rattle.prelude.specs.Pick.{pick}
+use Rattle.prelude.specs.declared.refusals.Refusal.{Refusal}
 use Rattle.prelude.specs.Refusals.{unfit, no_room}
 use Rattle.strings_write.specs.Write.{write_string}
-use Rattle.prelude.specs.declared.answers.Written.{Written}
-use Rattle.prelude.specs.declared.answers.Written.TheVariants.{Wrote, Refused}
 use Rattle.lines.specs.Line.{kind_of}
 use Rattle.records.specs.Records.{head_size}
 
@@ -45,11 +44,11 @@ lines_from (suc k) (x ∷ r) = lines_from k r
 abbrev pub write_quoted : List ℕ → List ℕ
 write_quoted records = lines_from 0 records
 
-unfoldable pub wrote_lines : ℕ → List ℕ → Written
+unfoldable pub wrote_lines : ℕ → List ℕ → Result ℕ Refusal
 wrote_lines room records =
     pick (right_records 0 records)
-    (pick (leb (length (write_quoted records)) room) (Wrote (length (write_quoted records))) (Refused no_room))
-    (Refused unfit)
+    (pick (leb (length (write_quoted records)) room) (Ok (length (write_quoted records))) (Err no_room))
+    (Err unfit)
 
 unfoldable pub lines_into : List ℕ → List ℕ → List ℕ
 lines_into records out =

@@ -1,15 +1,14 @@
 // The Lines writer.
 ghost use Rattle.std.specs.Prelude.{true, ◌≡◌, ◌+◌, ◌*◌, ◌≤◌, length, get_or, drop};
-ghost use Rattle.utf8.specs.Class.{IsTable};
 ghost use Rattle.rooms.specs.inner.Puts.{room_max, Put};
 ghost use Rattle.lines_write.specs.Write.{right_record, right_records, line_at, lines_from, wrote_lines, lines_into};
 
 use lines::read;
-use prelude::answers::Written;
-use prelude::{refusals, slices};
+use prelude::refusals::Refusal;
+use prelude::slices;
 use records::HEAD;
 use rooms::parts;
-use utf8::classes;
+use utf8::classes::Classes;
 
 // The two-byte number k places behind a place; what stands past the end is 0.
 fn number_at(s: &[u8], at: usize, k: usize) -> usize
@@ -22,8 +21,8 @@ fn number_at(s: &[u8], at: usize, k: usize) -> usize
 }
 
 // Whether the record at a place is there whole, and of its payload's kind.
-fn right_record(t: &[u8; 256], s: &[u8], at: usize) -> bool
-    requires { IsTable t.now × (at ≤ length s.now) }
+fn right_record(t: &Classes, s: &[u8], at: usize) -> bool
+    requires { at ≤ length s.now }
     ensures { result ≡ right_record (drop at s.now) }
 {
     let n = number_at(s, at, 0);
@@ -36,8 +35,7 @@ fn right_record(t: &[u8; 256], s: &[u8], at: usize) -> bool
 }
 
 // Whether all records are right.
-fn right_records(t: &[u8; 256], s: &[u8]) -> bool
-    requires { IsTable t.now }
+fn right_records(t: &Classes, s: &[u8]) -> bool
     ensures { result ≡ right_records 0 s.now }
 {
     let mut at = 0;
@@ -51,8 +49,8 @@ fn right_records(t: &[u8; 256], s: &[u8]) -> bool
 }
 
 // The line of a right record.
-fn put_line(t: &[u8; 256], s: &[u8], at: usize, room: usize, o: usize, out: &mut [u8]) -> usize
-    requires { IsTable t.now × (at ≤ length s.now) × (right_record (drop at s.now) ≡ true) × (room ≤ room_max) }
+fn put_line(t: &Classes, s: &[u8], at: usize, room: usize, o: usize, out: &mut [u8]) -> usize
+    requires { (at ≤ length s.now) × (right_record (drop at s.now) ≡ true) × (room ≤ room_max) }
     ensures { Put (line_at (drop at s.now)) room o result out.old out.new }
 {
     let n = number_at(s, at, 0);
@@ -63,8 +61,8 @@ fn put_line(t: &[u8; 256], s: &[u8], at: usize, room: usize, o: usize, out: &mut
 }
 
 // The lines of right records. The first that passes the room is the last that is put.
-fn pass(t: &[u8; 256], s: &[u8], room: usize, out: &mut [u8]) -> usize
-    requires { IsTable t.now × (right_records 0 s.now ≡ true) × (room ≤ room_max) }
+fn pass(t: &Classes, s: &[u8], room: usize, out: &mut [u8]) -> usize
+    requires { (right_records 0 s.now ≡ true) × (room ≤ room_max) }
     ensures { Put (lines_from 0 s.now) room 0 result out.old out.new }
 {
     let mut at = 0;
@@ -81,19 +79,19 @@ fn pass(t: &[u8; 256], s: &[u8], room: usize, out: &mut [u8]) -> usize
 
 // Writes the strings of records, each quoted and with an LF behind it: the text in front of out, or a refusal and out as it was.
 // All records are judged first; then one pass over no buffer measures the text, and one stores it.
-pub fn write(records: &[u8], out: &mut [u8]) -> Written
+pub fn write(records: &[u8], out: &mut [u8]) -> Result<usize, Refusal>
     ensures answer { result ≡ wrote_lines (length out.old) records.now }
     ensures stored { out.new ≡ lines_into records.now out.old }
 {
-    let t = classes::table();
+    let t = Classes::new();
     if !right_records(&t, records) {
-        return Written::Refused(refusals::UNFIT);
+        return Err(Refusal::Unfit);
     }
     let room = out.len();
     let n = pass(&t, records, room, &mut out[..0]);
     if room < n {
-        return Written::Refused(refusals::NO_ROOM);
+        return Err(Refusal::NoRoom);
     }
     pass(&t, records, room, out);
-    Written::Wrote(n)
+    Ok(n)
 }

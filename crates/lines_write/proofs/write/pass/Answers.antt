@@ -1,14 +1,13 @@
-use Prim.Native.Nat.{◌-◌}
 use native.Mathlib.Omega.{arith}
 use mathlib.Core.Path.{◌∙◌}
 use Rattle.lines_write.proofs.LineTexts.{begun, kept, here_right, overfull, moved, filled}
 use Rattle.lines_write.proofs.write.pass.Goals as goal
 
 pub loop-at-init : goal.loop-at-init
-loop-at-init c = begun _ _ _ c.requires.1
+loop-at-init c = begun _ _ _ c.requires.0
 
 pub put_line-o-requires : goal.put_line-o-requires
-put_line-o-requires c = (c.requires.0, c.loop-at.invariant.inside, here_right c.loop-at.invariant c.loop-at-test.true, c.requires.2)
+put_line-o-requires c = (c.loop-at.invariant.inside, here_right c.loop-at.invariant c.loop-at-test.true, c.requires.1)
 
 pub shape_of-out-then-room-o : goal.shape_of-out-then-room-o
 shape_of-out-then-room-o c = c.put_line-o.auto.out ∙ kept c.loop-at.invariant

@@ -1,4 +1,3 @@
-use Prim.Native.Nat.{◌-◌}
 use mathlib.Core.Path.{refl}
 use native.Mathlib.Omega.{arith}
 use Rattle.lines_write.proofs.LineTexts.{judged_all, judged_bad, judged_on}
@@ -8,7 +7,7 @@ pub loop-at-init : goal.loop-at-init
 loop-at-init c = record { inside = omega arith; same = refl }
 
 pub right_record-requires : goal.right_record-requires
-right_record-requires c = (c.requires, c.loop-at.invariant.inside)
+right_record-requires c = c.loop-at.invariant.inside
 
 pub returns-then-not-right_record : goal.returns-then-not-right_record
 returns-then-not-right_record c = judged_bad c.args.s.now c.loop-at.at c.loop-at.invariant c.loop-at-test.true _ c.right_record.ensures (c.if-not-right_record.true)
