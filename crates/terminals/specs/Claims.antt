@@ -23,7 +23,7 @@ all_printed (x ∷ r) = between 0x20 0x7e x && all_printed r
 
 unfoldable pub read_as : List ℕ → StringRead → Bool
 read_as s (accepted bs e) = same_bytes bs s
-read_as s (refused n at) = false
+read_as s (refused refusal at) = false
 
 -- what is shown of a byte string has printed ASCII alone, and reads back as it
 unfoldable pub tamed : List ℕ → Bool

@@ -5,101 +5,91 @@ ghost use Rattle.std.specs.Prelude.{◌≡◌, ◌≤◌, ◌<◌, length, drop}
 ghost use Rattle.strings_write.specs.Write.{written_in, wrote_into};
 ghost use Rattle.units.specs.Written.{hex_digit};
 ghost use Rattle.rooms.specs.inner.Puts.{room_max, Put};
-ghost use Rattle.terminals.specs.Terminals.{mode as mode_of, none, second, direction, isolate, arabic, general, control_of, control_in, outer, inner, mode_after, digits, code_text, escape_text, byte_text, safe_text};
+ghost use Rattle.terminals.specs.Terminals.{mode as mode_of, second, direction, isolate, arabic, general, control_of, control_in, outer, inner, plain_after, mode_after, digits, code_text, is_double, escape_text, byte_text, safe_text};
 
-use prelude::answers::Written;
-use prelude::{refusals, slices};
+use prelude::refusals::Refusal;
+use prelude::slices;
 use rooms::parts;
 
-// A character that would drive a terminal: its bytes' number, and its code point as two bytes; no byte where there is none.
+// A character that would drive a terminal: how many bytes stand behind its first, and its code point as two bytes.
 #[derive(Clone, Copy)]
 pub struct Control {
-    pub size: usize,
+    pub rest: usize,
     pub high: u8,
     pub low: u8,
 }
 
-// Where a byte stands: outside a string (0) or in one with this closing quote; behind a backslash there; among bytes of a character that is
-// escaped already.
+// Where a byte stands: outside a string or in one with this closing quote; behind a backslash there; among bytes of a character that is escaped
+// already.
 #[derive(Clone, Copy)]
 pub struct Mode {
-    pub quote: u8,
+    pub quote: Option<u8>,
     pub behind: bool,
     pub skip: usize,
 }
 
-fn nothing() -> Control
-    ensures { result ≡ none }
-{
-    Control {
-        size: 0,
-        high: 0,
-        low: 0,
-    }
-}
-
 // The character by the byte behind c2.
-fn second_of(y: u8) -> Control
+fn second_of(y: u8) -> Option<Control>
     ensures { result ≡ second y }
 {
     if y < 0x80 {
-        return nothing();
+        return None;
     }
     if y <= 0x9f {
-        return Control {
-            size: 2,
+        return Some(Control {
+            rest: 1,
             high: 0,
             low: y,
-        };
+        });
     }
-    nothing()
+    None
 }
 
 // A mark of direction, by the byte behind e2 80.
-fn direction_of(z: u8) -> Control
+fn direction_of(z: u8) -> Option<Control>
     ensures { result ≡ direction z }
 {
     if z < 0x8e {
-        return nothing();
+        return None;
     }
     if z <= 0x8f {
-        return Control {
-            size: 3,
+        return Some(Control {
+            rest: 2,
             high: 0x20,
             low: z - 0x80,
-        };
+        });
     }
     if z < 0xaa {
-        return nothing();
+        return None;
     }
     if z <= 0xae {
-        return Control {
-            size: 3,
+        return Some(Control {
+            rest: 2,
             high: 0x20,
             low: z - 0x80,
-        };
+        });
     }
-    nothing()
+    None
 }
 
 // By the byte behind e2 81.
-fn isolate_of(z: u8) -> Control
+fn isolate_of(z: u8) -> Option<Control>
     ensures { result ≡ isolate z }
 {
     if z < 0xa6 {
-        return nothing();
+        return None;
     }
     if z <= 0xa9 {
-        return Control {
-            size: 3,
+        return Some(Control {
+            rest: 2,
             high: 0x20,
             low: z - 0x40,
-        };
+        });
     }
-    nothing()
+    None
 }
 
-fn behind_e2(y: u8, z: u8) -> Control
+fn behind_e2(y: u8, z: u8) -> Option<Control>
     ensures { result ≡ general y z }
 {
     if y == 0x80 {
@@ -108,31 +98,31 @@ fn behind_e2(y: u8, z: u8) -> Control
     if y == 0x81 {
         return isolate_of(z);
     }
-    nothing()
+    None
 }
 
-fn behind_d8(y: u8) -> Control
+fn behind_d8(y: u8) -> Option<Control>
     ensures { result ≡ arabic y }
 {
     if y == 0x9c {
-        return Control {
-            size: 2,
+        return Some(Control {
+            rest: 1,
             high: 0x06,
             low: 0x1c,
-        };
+        });
     }
-    nothing()
+    None
 }
 
-fn control_of(x: u8, y: u8, z: u8) -> Control
+fn control_of(x: u8, y: u8, z: u8) -> Option<Control>
     ensures { result ≡ control_of x y z }
 {
     if x == 0x7f {
-        return Control {
-            size: 1,
+        return Some(Control {
+            rest: 0,
             high: 0,
             low: 0x7f,
-        };
+        });
     }
     if x == 0xc2 {
         return second_of(y);
@@ -143,20 +133,20 @@ fn control_of(x: u8, y: u8, z: u8) -> Control
     if x == 0xe2 {
         return behind_e2(y, z);
     }
-    nothing()
+    None
 }
 
-fn control_at(m: Mode, text: &[u8], at: usize) -> Control
+fn control_at(m: Mode, text: &[u8], at: usize) -> Option<Control>
     ensures { result ≡ control_in m (drop at text.now) }
 {
-    if m.quote == 0 {
-        return nothing();
+    if m.quote.is_none() {
+        return None;
     }
     if m.behind {
-        return nothing();
+        return None;
     }
     if m.skip > 0 {
-        return nothing();
+        return None;
     }
     let x = slices::byte_at(text, at, 0);
     let y = slices::byte_at(text, at, 1);
@@ -164,7 +154,7 @@ fn control_at(m: Mode, text: &[u8], at: usize) -> Control
     control_of(x, y, z)
 }
 
-fn standing(quote: u8, behind: bool, skip: usize) -> Mode
+fn standing(quote: Option<u8>, behind: bool, skip: usize) -> Mode
     ensures { result ≡ mode_of quote behind skip }
 {
     Mode {
@@ -179,12 +169,12 @@ fn outer_after(x: u8) -> Mode
     ensures { result ≡ outer x }
 {
     if x == b'"' {
-        return standing(x, false, 0);
+        return standing(Some(x), false, 0);
     }
     if x == b'\'' {
-        return standing(x, false, 0);
+        return standing(Some(x), false, 0);
     }
-    standing(0, false, 0)
+    standing(None, false, 0)
 }
 
 // Behind a byte of a string.
@@ -192,30 +182,37 @@ fn inner_after(quote: u8, x: u8) -> Mode
     ensures { result ≡ inner quote x }
 {
     if x == quote {
-        return standing(0, false, 0);
+        return standing(None, false, 0);
     }
     if x == b'\\' {
-        return standing(quote, true, 0);
+        return standing(Some(quote), true, 0);
     }
-    standing(quote, false, 0)
+    standing(Some(quote), false, 0)
 }
 
-fn mode_after(m: Mode, c: Control, x: u8) -> Mode
+// Behind a byte that begins no character to escape.
+fn plain_after(m: Mode, x: u8) -> Mode
+    ensures { result ≡ plain_after m x }
+{
+    if m.behind {
+        return standing(m.quote, false, 0);
+    }
+    match m.quote {
+        Some(quote) => inner_after(quote, x),
+        None => outer_after(x),
+    }
+}
+
+fn mode_after(m: Mode, c: Option<Control>, x: u8) -> Mode
     ensures { result ≡ mode_after m c x }
 {
     if m.skip > 0 {
         return standing(m.quote, false, m.skip - 1);
     }
-    if c.size > 0 {
-        return standing(m.quote, false, c.size - 1);
+    match c {
+        Some(c) => standing(m.quote, false, c.rest),
+        None => plain_after(m, x),
     }
-    if m.behind {
-        return standing(m.quote, false, 0);
-    }
-    if m.quote == 0 {
-        return outer_after(x);
-    }
-    inner_after(m.quote, x)
 }
 
 fn hex_digit(d: u8) -> u8
@@ -245,11 +242,20 @@ fn put_code(c: Control, room: usize, o: usize, out: &mut [u8]) -> usize
     put_digits(c.low, room, p, out)
 }
 
-fn put_escape(quote: u8, c: Control, room: usize, o: usize, out: &mut [u8]) -> usize
+fn is_double(quote: Option<u8>) -> bool
+    ensures { result ≡ is_double quote }
+{
+    match quote {
+        Some(quote) => quote == b'"',
+        None => false,
+    }
+}
+
+fn put_escape(quote: Option<u8>, c: Control, room: usize, o: usize, out: &mut [u8]) -> usize
     requires { room ≤ room_max }
     ensures { Put (escape_text quote c) room o result out.old out.new }
 {
-    if quote == b'"' {
+    if is_double(quote) {
         let p = parts::put_all(b"\\u", room, o, out);
         return put_code(c, room, p, out);
     }
@@ -258,17 +264,19 @@ fn put_escape(quote: u8, c: Control, room: usize, o: usize, out: &mut [u8]) -> u
     parts::put_byte(b'}', room, q, out)
 }
 
-fn put_safe_byte(m: Mode, c: Control, x: u8, room: usize, o: usize, out: &mut [u8]) -> usize
+fn put_safe_byte(m: Mode, c: Option<Control>, x: u8, room: usize, o: usize, out: &mut [u8]) -> usize
     requires { room ≤ room_max }
     ensures { Put (byte_text m c x) room o result out.old out.new }
 {
-    if c.size > 0 {
-        return put_escape(m.quote, c, room, o, out);
+    match c {
+        Some(c) => put_escape(m.quote, c, room, o, out),
+        None => {
+            if m.skip > 0 {
+                return o;
+            }
+            parts::put_byte(x, room, o, out)
+        }
     }
-    if m.skip > 0 {
-        return o;
-    }
-    parts::put_byte(x, room, o, out)
 }
 
 // What is shown of a text, as far as room and buffer reach.
@@ -276,7 +284,7 @@ fn put_safe(text: &[u8], room: usize, out: &mut [u8]) -> usize
     requires { room ≤ room_max }
     ensures { Put (safe_text text.now) room 0 result out.old out.new }
 {
-    let mut m = standing(0, false, 0);
+    let mut m = standing(None, false, 0);
     let mut o = 0;
     let mut at = 0;
     while at < text.len() {
@@ -289,16 +297,16 @@ fn put_safe(text: &[u8], room: usize, out: &mut [u8]) -> usize
     o
 }
 
-// Puts what is shown of a text in front of out, or answers 12 and leaves out as it was: one pass over no buffer measures it, one stores it.
-pub fn write(text: &[u8], out: &mut [u8]) -> Written
+// Puts what is shown of a text in front of out, or refuses with 12 and leaves out as it was: one pass over no buffer measures it, one stores it.
+pub fn write(text: &[u8], out: &mut [u8]) -> Result<usize, Refusal>
     ensures answer { result ≡ written_in (length out.old) (safe_text text.now) }
     ensures stored { out.new ≡ wrote_into (safe_text text.now) out.old }
 {
     let room = out.len();
     let n = put_safe(text, room, &mut out[..0]);
     if room < n {
-        return Written::Refused(refusals::NO_ROOM);
+        return Err(Refusal::NoRoom);
     }
     put_safe(text, room, out);
-    Written::Wrote(n)
+    Ok(n)
 }

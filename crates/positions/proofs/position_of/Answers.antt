@@ -1,4 +1,3 @@
-use Prim.Native.Nat.{◌-◌}
 use native.Mathlib.Omega.{arith}
 use Rattle.positions.proofs.Reading.{reading_first, reading_next, reading_last}
 use Rattle.positions.proofs.position_of.Goals as goal

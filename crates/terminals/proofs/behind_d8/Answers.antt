@@ -9,4 +9,4 @@ returns-then-y-eq156 c = search picks
 
 pub returns : goal.returns
 unfolding arabic
-returns c = search (picks, c.nothing.ensures)
+returns c = search picks

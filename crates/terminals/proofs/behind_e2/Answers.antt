@@ -13,4 +13,4 @@ returns-then-y-eq129 c = search (picks, c.isolate_of.ensures)
 
 pub returns : goal.returns
 unfolding general
-returns c = search (picks, c.nothing.ensures)
+returns c = search picks

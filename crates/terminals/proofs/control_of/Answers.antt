@@ -21,4 +21,4 @@ returns-then-x-eq226 c = search (picks, c.behind_e2.ensures)
 
 pub returns : goal.returns
 unfolding control_of
-returns c = search (picks, c.nothing.ensures)
+returns c = search picks

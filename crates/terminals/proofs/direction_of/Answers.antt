@@ -5,7 +5,7 @@ use Rattle.terminals.proofs.direction_of.Goals as goal
 
 pub returns-then-z-lt142 : goal.returns-then-z-lt142
 unfolding direction
-returns-then-z-lt142 c = search (picks, c.nothing.ensures)
+returns-then-z-lt142 c = search picks
 
 pub returns-then-z-le143 : goal.returns-then-z-le143
 unfolding direction
@@ -13,7 +13,7 @@ returns-then-z-le143 c = search picks
 
 pub returns-then-z-lt170 : goal.returns-then-z-lt170
 unfolding direction
-returns-then-z-lt170 c = search (picks, c.nothing-then-z-lt170.ensures)
+returns-then-z-lt170 c = search picks
 
 pub returns-then-z-le174 : goal.returns-then-z-le174
 unfolding direction
@@ -21,4 +21,4 @@ returns-then-z-le174 c = search picks
 
 pub returns : goal.returns
 unfolding direction
-returns c = search (picks, c.nothing-2.ensures)
+returns c = search picks

@@ -5,7 +5,7 @@ use Rattle.terminals.proofs.isolate_of.Goals as goal
 
 pub returns-then-z-lt166 : goal.returns-then-z-lt166
 unfolding isolate
-returns-then-z-lt166 c = search (picks, c.nothing.ensures)
+returns-then-z-lt166 c = search picks
 
 pub returns-then-z-le169 : goal.returns-then-z-le169
 unfolding isolate
@@ -13,4 +13,4 @@ returns-then-z-le169 c = search picks
 
 pub returns : goal.returns
 unfolding isolate
-returns c = search (picks, c.nothing-2.ensures)
+returns c = search picks

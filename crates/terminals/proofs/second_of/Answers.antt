@@ -5,7 +5,7 @@ use Rattle.terminals.proofs.second_of.Goals as goal
 
 pub returns-then-y-lt128 : goal.returns-then-y-lt128
 unfolding second
-returns-then-y-lt128 c = search (picks, c.nothing.ensures)
+returns-then-y-lt128 c = search picks
 
 pub returns-then-y-le159 : goal.returns-then-y-le159
 unfolding second
@@ -13,4 +13,4 @@ returns-then-y-le159 c = search picks
 
 pub returns : goal.returns
 unfolding second
-returns c = search (picks, c.nothing-2.ensures)
+returns c = search picks
