@@ -1,7 +1,6 @@
 // Notes spread into a table and a store.
 ghost use Rattle.std.specs.Prelude.{[], ◌∷◌, ◌≡◌, ◌+◌, ◌*◌, ◌≤◌, ◌<◌, length, take, set};
 ghost use Rattle.std.proofs.lemmas.List.Edits.{sets};
-ghost use Rattle.utf8.specs.Class.{IsTable};
 ghost use Rattle.prelude.specs.Limits.{text_max, node_max};
 ghost use Rattle.json8.specs.Nodes.{flat};
 ghost use Rattle.json8_leaves.specs.inner.Told.{nodes_of, bytes_of};
@@ -9,6 +8,7 @@ ghost use Rattle.json8_read.specs.inner.Spread.{node_of, nodes_in, sizes, Fits, 
 
 use prelude::limits::NODE_MAX;
 use string_tokens::fill;
+use utf8::classes::Classes;
 
 fn narrow(x: u64) -> u32
     requires { x ≤ text_max }
@@ -97,7 +97,7 @@ fn put_node(i: usize, kind: u64, count: u64, place: u64, size: u64, table: &mut 
 
 // One node behind i others in a table, and the bytes of a string with an escape behind m others in a store; the bytes then.
 fn spread_node(
-    t: &[u8; 256],
+    t: &Classes,
     text: &[u8],
     v: u64,
     i: usize,
@@ -105,7 +105,7 @@ fn spread_node(
     table: &mut [u32],
     store: &mut [u8],
 ) -> usize
-    requires { IsTable t.now × Fits text.now (node_of v) i m table.old store.old }
+    requires { Fits text.now (node_of v) i m table.old store.old }
     ensures count { result ≡ m + length (bytes_of text.now (node_of v ∷ [])) }
     ensures nodes { table.new ≡ sets table.old (4 * i) (flat (nodes_of m (node_of v ∷ []))) }
     ensures bytes { store.new ≡ sets store.old m (bytes_of text.now (node_of v ∷ [])) }
@@ -123,14 +123,14 @@ fn spread_node(
 
 // The first n nodes in front of a table, and the bytes of strings with an escape in front of a store; how many bytes.
 pub(crate) fn spread(
-    t: &[u8; 256],
+    t: &Classes,
     text: &[u8],
     n: usize,
     notes: &[u64; NODE_MAX],
     table: &mut [u32],
     store: &mut [u8],
 ) -> usize
-    requires { IsTable t.now × (n ≤ node_max) × (n ≤ length notes.now) × AllFit text.now (nodes_in (take n notes.now)) table.old store.old }
+    requires { (n ≤ node_max) × (n ≤ length notes.now) × AllFit text.now (nodes_in (take n notes.now)) table.old store.old }
     ensures count { result ≡ length (bytes_of text.now (nodes_in (take n notes.now))) }
     ensures nodes { table.new ≡ sets table.old 0 (flat (nodes_of 0 (nodes_in (take n notes.now)))) }
     ensures bytes { store.new ≡ sets store.old 0 (bytes_of text.now (nodes_in (take n notes.now))) }

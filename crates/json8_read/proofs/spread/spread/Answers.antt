@@ -1,4 +1,3 @@
-use Prim.Native.Nat.{◌-◌}
 use native.Mathlib.Omega.{arith}
 use Rattle.json8_read.proofs.Spreading.{spread_none, next_fits, spread_more, same_table, same_store, spread_all}
 use Rattle.json8_read.proofs.spread.spread.Goals as goal
@@ -7,11 +6,11 @@ pub loop-i-init : goal.loop-i-init
 loop-i-init c = spread_none _ _ _ _ _
 
 pub spread_node-m-requires : goal.spread_node-m-requires
-spread_node-m-requires c = (c.requires.0, next_fits _ _ _ _ _ _ _ _ _ c.loop-i.invariant c.requires.3 c.loop-i-test.true (omega (arith, c.requires.2, c.loop-i-test.true)))
+spread_node-m-requires c = (next_fits _ _ _ _ _ _ _ _ _ c.loop-i.invariant c.requires.2 c.loop-i-test.true (omega (arith, c.requires.1, c.loop-i-test.true)))
 
 pub loop-i-preserved : goal.loop-i-preserved
 loop-i-preserved c =
-    spread_more _ _ _ _ _ _ _ _ _ c.loop-i.invariant c.requires.3 c.loop-i-test.true (omega (arith, c.requires.2, c.loop-i-test.true)) _ _ _ (c.spread_node-m.ensures.count, (c.spread_node-m.ensures.nodes, c.spread_node-m.ensures.bytes))
+    spread_more _ _ _ _ _ _ _ _ _ c.loop-i.invariant c.requires.2 c.loop-i-test.true (omega (arith, c.requires.1, c.loop-i-test.true)) _ _ _ (c.spread_node-m.ensures.count, (c.spread_node-m.ensures.nodes, c.spread_node-m.ensures.bytes))
 
 pub shape_of-table : goal.shape_of-table
 shape_of-table c = same_table _ _ _ _ _ _ _ _ _ c.loop-i.invariant
