@@ -4,15 +4,16 @@ use Rattle.std.specs.Prelude.{ℕ, List, [], ◌∷◌, eqb}
 use Prim.Native.String.{String}
 use Rattle.prelude.specs.Bytes.{ascii}
 use Rattle.prelude.specs.Pick.{pick}
-use Rattle.prelude.specs.Refusals.{unfit, too_long, no_opening, cut_off, control, bad_escape, surrogate, too_large, byte_escape, trailing, no_room, misplaced, bad_number, too_deep, too_many, over_limit, ended, bad_header, bad_line, wrong_type, empty_cell, utf8_bad_encoding, utf8_incomplete, utf8_overlong, utf8_surrogate, utf8_too_large}
+use Rattle.prelude.specs.declared.refusals.Refusal.{Refusal}
+use Rattle.prelude.specs.Refusals.{number_of, unfit, too_long, no_opening, cut_off, control, bad_escape, surrogate, too_large, byte_escape, trailing, no_room, misplaced, bad_number, too_deep, too_many, over_limit, ended, bad_header, bad_line, wrong_type, empty_cell, utf8_bad_encoding, utf8_incomplete, utf8_overlong, utf8_surrogate, utf8_too_large}
 
 -- a refusal's number, and what it says to someone who doesn't know the numbers
 pub record Row : Type 0 where
   pub number : ℕ
   pub says : String
 
-abbrev pub row : ℕ → String → Row
-row n s = record { number = n; says = s }
+abbrev pub row : Refusal → String → Row
+row refusal s = record { number = number_of refusal; says = s }
 
 abbrev pub rows : List Row
 rows =

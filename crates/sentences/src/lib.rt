@@ -7,8 +7,7 @@ ghost use Rattle.rooms.specs.inner.Puts.{room_max, Put};
 ghost use Rattle.sentences.specs.Sentences.{sentence};
 ghost use Rattle.sentences.specs.inner.Lines.{from_line, line_of};
 
-use prelude::answers::Written;
-use prelude::refusals;
+use prelude::refusals::Refusal;
 use rooms::parts;
 
 // The place of line n of a text, from 0, or of its first line where it has no such.
@@ -85,15 +84,15 @@ this UTF-8 form is of a number above 10ffff, which no character has; only b'' ca
 }
 
 // Puts the sentence of a number in front of out, or answers 12 and leaves out as it was: one pass over no buffer measures it, one stores it.
-pub fn write(number: u32, out: &mut [u8]) -> Written
+pub fn write(number: u32, out: &mut [u8]) -> Result<usize, Refusal>
     ensures answer { result ≡ written_in (length out.old) (sentence number) }
     ensures stored { out.new ≡ wrote_into (sentence number) out.old }
 {
     let room = out.len();
     let n = put_sentence(number, room, &mut out[..0]);
     if room < n {
-        return Written::Refused(refusals::NO_ROOM);
+        return Err(Refusal::NoRoom);
     }
     put_sentence(number, room, out);
-    Written::Wrote(n)
+    Ok(n)
 }

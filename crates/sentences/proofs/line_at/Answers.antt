@@ -1,5 +1,4 @@
 use native.Mathlib.Omega.{arith}
-use Prim.Native.Nat.{◌-◌}
 use Rattle.sentences.proofs.SentenceLines.{looking_first, looking_end, looking_found, looking_line, looking_byte}
 use Rattle.sentences.proofs.line_at.Goals as goal
 
