@@ -6,16 +6,17 @@ use mathlib.Core.List.{List, [], ◌∷◌, ◌++◌}
 use mathlib.Core.Path.{◌≡◌, refl, ◌∙◌}
 use native.Mathlib.Omega.{arith}
 use borrow.Author.Tests.{leb-true, eqb-false, ne_eqb, le-leb}
-use lib.Dec.{leb, eqb}
+use lib.Dec.{eqb}
 use lib.ListN.{length, take, drop, length-append, length-take, length-drop, length-set}
 use Rattle.prelude.specs.Bytes.{LF}
 use Rattle.prelude.specs.Limits.{upload_max, line_max}
 use Rattle.prelude.specs.Pick.{pick}
-use Rattle.prelude.specs.Refusals.{too_long, no_room}
+use Rattle.prelude.specs.declared.refusals.Refusal.{Refusal}
+use Rattle.prelude.specs.Refusals.{too_long, number_of}
+use Rattle.prelude.proofs.Numbers.{number_positive}
 use Rattle.prelude.proofs.Cases.{never}
 use Rattle.lines.specs.Line.{LineRead, ignored, holds, faulty, read_line}
-use Rattle.records.specs.Records.{record_of, record_by, line_record, Fault, none, refuse, fault_by, line_fault, put_at}
-use Rattle.lines.proofs.Refusing.{refusing}
+use Rattle.records.specs.Records.{record_by, line_record, Fault, none, refuse, fault_by, line_fault, put_at}
 use Rattle.upload.specs.declared.uploads.Upload.{Upload}
 use Rattle.upload.specs.Calls.{Lent, keeps_refusal, stored, held_line, appended, closing, byte_fault, byte_by, feed_byte, feed_bytes, end_fault, finish_by, finish_all, fit_state, fit_lent}
 
@@ -28,12 +29,12 @@ pub lent_path : (x y : Lent) → x.state ≡ y.state → x.line ≡ y.line → x
 lent_path x y p q r = λ i. record { state = p i; line = q i; out = r i }
 
 -- a fault's parts
-pick_none : (k : Bool) (n p : ℕ) (f : Fault) → pick k (refuse n p) f ≡ none → (k ≡ false) × (f ≡ none)
+pick_none : (k : Bool) (n : Refusal) (p : ℕ) (f : Fault) → pick k (refuse n p) f ≡ none → (k ≡ false) × (f ≡ none)
 unfolding pick
 pick_none true n p f e = never (cc)
 pick_none false n p f e = (refl, e)
 
-room_none : (k : Bool) (n p : ℕ) (f : Fault) → pick k f (refuse n p) ≡ none → k ≡ true
+room_none : (k : Bool) (n : Refusal) (p : ℕ) (f : Fault) → pick k f (refuse n p) ≡ none → k ≡ true
 unfolding pick
 room_none true n p f e = refl
 room_none false n p f e = never (cc)
@@ -48,23 +49,8 @@ unfolding line_fault line_record pick
 line_fits room used l h e = fits_by room used (read_line l) h e
 
 -- a refusal's number is not 0
-abbrev pub NonZero : Fault → Type 0
-NonZero none = Unit {0}
-NonZero (refuse n p) = eqb n 0 ≡ false
-
-pub pick_nonzero : (k : Bool) (f g : Fault) → NonZero f → NonZero g → NonZero (pick k f g)
-unfolding pick
-pick_nonzero true f g a b = a
-pick_nonzero false f g a b = b
-
-line_nonzero_by : (room used : ℕ) (r : LineRead) → ((number at : ℕ) → r ≡ faulty number at → number ≡ 0 → ⊥) → NonZero (fault_by room used r)
-line_nonzero_by room used ignored h = tt
-line_nonzero_by room used (holds k p) h = pick_nonzero (leb (used + length (record_of k p)) room) none (refuse no_room 0) tt refl
-line_nonzero_by room used (faulty n p) h = ne_eqb n 0 (h n p refl)
-
-pub line_nonzero : (room used : ℕ) (l : List ℕ) → NonZero (line_fault room used l)
-unfolding line_fault pick
-line_nonzero room used l = line_nonzero_by room used (read_line l) (refusing l)
+pub numbered : (r : Refusal) → eqb (number_of r) 0 ≡ false
+numbered r = ne_eqb (number_of r) 0 (λ e. omega (arith, number_positive r))
 
 -- what is kept, with both buffers as first lent
 pub record Ok (line out : List ℕ) (m : Lent) : Type 0 where
@@ -92,7 +78,7 @@ module _ (line out : List ℕ) (m : Lent) (k : Ok line out m) where
   record_fits f =
       omega (arith, line_fits (length m.out) m.state.used (held_line m) (omega (arith, k.used, k.room)) f, k.room)
 
-  ok_refused : (n p : ℕ) → Ok line out (keeps_refusal m n p)
+  ok_refused : (n : Refusal) (p : ℕ) → Ok line out (keeps_refusal m n p)
   ok_refused n p =
       record { held = k.held; taken = k.taken; lfs = k.lfs; used = k.used; room = k.room; wide = k.wide; large = k.large }
 

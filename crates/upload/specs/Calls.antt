@@ -1,11 +1,12 @@
 -- The upload's calls, for any state and any buffers, from document 01's paragraphs on the upload and its state.
 -- Assumes nothing.
-use Rattle.std.specs.Prelude.{ℕ, ◌+◌, Bool, true, false, ◌&&◌, List, [], ◌∷◌, leb, eqb, length, take}
+use Rattle.std.specs.Prelude.{ℕ, ◌+◌, Bool, true, false, ◌&&◌, List, [], ◌∷◌, Option, Some, None, leb, eqb, length, take}
 use Rattle.std.proofs.lemmas.List.Edits.{sets}
 use Rattle.prelude.specs.Bytes.{LF}
 use Rattle.prelude.specs.Limits.{upload_max, line_max}
 use Rattle.prelude.specs.Pick.{pick}
-use Rattle.prelude.specs.Refusals.{unfit, too_long, over_limit, ended}
+use Rattle.prelude.specs.declared.refusals.Refusal.{Refusal}
+use Rattle.prelude.specs.Refusals.{unfit, too_long, over_limit, ended, number_of}
 use Rattle.records.specs.Records.{line_record, Fault, none, refuse, line_fault, put_at}
 use Rattle.upload.specs.declared.uploads.Upload.{Upload}
 use Rattle.upload.specs.declared.uploads.Answer.{Answer}
@@ -64,21 +65,21 @@ with_end s =
 
 -- "the refusal with its line (LFs read plus 1) and place in the line as received"; "The byte that causes a refusal isn't taken or counted;
 -- a refused finish doesn't end the upload."
-abbrev pub with_refusal : Upload → ℕ → ℕ → Upload
-with_refusal s number at =
+abbrev pub with_refusal : Upload → Refusal → ℕ → Upload
+with_refusal s refusal at =
     record {
       taken = s.taken;
       lfs = s.lfs;
       held = s.held;
       used = s.used;
       ended = s.ended;
-      refusal = number;
+      refusal = number_of refusal;
       line = s.lfs + 1;
       place = at;
     }
 
-abbrev pub keeps_refusal : Lent → ℕ → ℕ → Lent
-keeps_refusal m number at = lent (with_refusal m.state number at) m.line m.out
+abbrev pub keeps_refusal : Lent → Refusal → ℕ → Lent
+keeps_refusal m refusal at = lent (with_refusal m.state refusal at) m.line m.out
 
 -- "A byte other than LF is stored in the line buffer at the next place from 0": such bytes, one behind the other
 abbrev pub stored : Lent → List ℕ → Lent
@@ -115,7 +116,7 @@ byte_fault m b =
 
 abbrev pub byte_by : Fault → Lent → ℕ → Lent
 byte_by none m b = pick (eqb b LF) (appended m (line_record (held_line m))) (stored m (b ∷ []))
-byte_by (refuse number at) m b = keeps_refusal m number at
+byte_by (refuse refusal at) m b = keeps_refusal m refusal at
 
 -- one byte; "A refusal stays"
 unfoldable pub feed_byte : Lent → ℕ → Lent
@@ -132,7 +133,7 @@ end_fault m = pick (eqb m.state.held 0) none (line_fault (length m.out) m.state.
 
 abbrev pub finish_by : Fault → Lent → Lent
 finish_by none m = closing m (pick (eqb m.state.held 0) [] (line_record (held_line m)))
-finish_by (refuse number at) m = keeps_refusal m number at
+finish_by (refuse refusal at) m = keeps_refusal m refusal at
 
 unfoldable pub finish_all : Lent → Lent
 finish_all m = finish_by (end_fault m) m
@@ -165,22 +166,23 @@ kept_answer s = record { number = s.refusal; line = s.line; place = s.place }
 unfoldable pub answer_of : Upload → Answer
 answer_of s = pick (eqb s.refusal 0) zeros (kept_answer s)
 
--- "Order in a call: 1, kept refusal, 18.": what stops a call before it does anything, zeros where nothing does
-unfoldable pub stop_state : Upload → ℕ → ℕ → Answer
+-- "Order in a call: 1, kept refusal, 18.": what stops a call before it does anything, if something does
+unfoldable pub stop_state : Upload → ℕ → ℕ → Option Answer
 stop_state s line out =
     pick (fit_state s line out)
-    (pick (eqb s.refusal 0) (pick s.ended (without_line ended) zeros) (kept_answer s))
-    (without_line unfit)
+    (pick (eqb s.refusal 0) (pick s.ended (Some (without_line (number_of ended))) None) (Some (kept_answer s)))
+    (Some (without_line (number_of unfit)))
 
-abbrev pub stop_lent : Lent → Answer
+abbrev pub stop_lent : Lent → Option Answer
 stop_lent m = stop_state m.state (length m.line) (length m.out)
 
 -- "every later feed or finish repeats it and changes nothing", and 1 and 18 "change nothing" likewise
+abbrev pub guarded_by : Option Answer → Lent → Lent → Called
+guarded_by (Some answer) m done = record { lent = m; answer = answer }
+guarded_by None m done = record { lent = done; answer = answer_of done.state }
+
 abbrev pub guarded : Lent → Lent → Called
-guarded m done =
-    pick (eqb (stop_lent m).number 0)
-    (record { lent = done; answer = answer_of done.state })
-    (record { lent = m; answer = stop_lent m })
+guarded m done = guarded_by (stop_lent m) m done
 
 unfoldable pub feed : Lent → List ℕ → Called
 feed m piece = guarded m (feed_bytes m piece)

@@ -6,12 +6,13 @@ ghost use Rattle.upload.specs.inner.Fitness.{Fit};
 
 use crate::uploads::Upload;
 use prelude::limits::{LINE_MAX, UPLOAD_MAX};
-use prelude::{copies, refusals, slices};
+use prelude::refusals::{Refusal, Refused};
+use prelude::{copies, slices};
 
 // The state before a byte, with the refusal that the byte causes.
-fn with_refusal(before: Upload, number: u32, place: usize) -> Upload
+fn with_refusal(before: Upload, why: Refused) -> Upload
     requires { before.lfs ≤ upload_max }
-    ensures { result ≡ with_refusal before number place }
+    ensures { result ≡ with_refusal before why.refusal why.place }
 {
     Upload {
         taken: before.taken,
@@ -19,9 +20,9 @@ fn with_refusal(before: Upload, number: u32, place: usize) -> Upload
         held: before.held,
         used: before.used,
         ended: before.ended,
-        refusal: number,
+        refusal: why.refusal.number(),
         line: before.lfs + 1,
-        place,
+        place: why.place,
     }
 }
 
@@ -35,26 +36,26 @@ fn take_byte(s: Upload, b: u8, line: &mut [u8], out: &mut [u8]) -> Upload
         return s;
     }
     if s.taken == UPLOAD_MAX {
-        return with_refusal(s, refusals::OVER_LIMIT, held);
+        return with_refusal(s, Refusal::OverLimit.at(held));
     }
     if b == b'\n' {
-        let a = records::append_line(&line[..held], s.used, out);
-        if a.number != 0 {
-            return with_refusal(s, a.number, a.place);
-        }
-        return Upload {
-            taken: s.taken + 1,
-            lfs: s.lfs + 1,
-            held: 0,
-            used: s.used + a.count,
-            ended: s.ended,
-            refusal: s.refusal,
-            line: s.line,
-            place: s.place,
+        let added = records::append_line(&line[..held], s.used, out);
+        return match added {
+            Ok(count) => Upload {
+                taken: s.taken + 1,
+                lfs: s.lfs + 1,
+                held: 0,
+                used: s.used + count,
+                ended: s.ended,
+                refusal: s.refusal,
+                line: s.line,
+                place: s.place,
+            },
+            Err(why) => with_refusal(s, why),
         };
     }
     if held == LINE_MAX {
-        return with_refusal(s, refusals::TOO_LONG, LINE_MAX);
+        return with_refusal(s, Refusal::TooLong.at(LINE_MAX));
     }
     line[held] = b;
     Upload {
@@ -143,9 +144,9 @@ pub(crate) fn take_end(s: Upload, line: &[u8], out: &mut [u8]) -> Upload
     if held == 0 {
         return at_end(s, s.used);
     }
-    let a = records::append_line(&line[..held], s.used, out);
-    if a.number != 0 {
-        return with_refusal(s, a.number, a.place);
+    let added = records::append_line(&line[..held], s.used, out);
+    match added {
+        Ok(count) => at_end(s, s.used + count),
+        Err(why) => with_refusal(s, why),
     }
-    at_end(s, s.used + a.count)
 }

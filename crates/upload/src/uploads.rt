@@ -4,7 +4,7 @@ ghost use Rattle.upload.specs.Calls.{lent, fresh, called, fit_state, without_lin
 
 use crate::pieces;
 use prelude::limits::{LINE_MAX, UPLOAD_MAX};
-use prelude::refusals;
+use prelude::refusals::Refusal;
 
 // The state of an upload. A refusal of 0 says that nothing is refused.
 #[derive(Clone, Copy)]
@@ -78,24 +78,24 @@ fn answer_of(s: Upload) -> Answer
     }
 }
 
-// What stops a call before it does anything: an unfit state or buffer, the refusal that is kept, the end. A number of 0 says that nothing does.
-fn stop(s: Upload, line: usize, out: usize) -> Answer
+// What stops a call before it does anything: an unfit state or buffer, the refusal that is kept, the end.
+fn stop(s: Upload, line: usize, out: usize) -> Option<Answer>
     ensures { result ≡ stop_state s line out }
 {
     if !is_fit(s, line, out) {
-        return without_line(refusals::UNFIT);
+        return Some(without_line(Refusal::Unfit.number()));
     }
     if s.refusal != 0 {
-        return Answer {
+        return Some(Answer {
             number: s.refusal,
             line: s.line,
             place: s.place,
-        };
+        });
     }
     if s.ended {
-        return without_line(refusals::ENDED);
+        return Some(without_line(Refusal::Ended.number()));
     }
-    without_line(0)
+    None
 }
 
 impl Upload {
@@ -118,17 +118,19 @@ impl Upload {
     pub fn feed(self, piece: &[u8], line: &mut [u8], out: &mut [u8]) -> Fed
         ensures { called result line.new out.new ≡ feed (lent self line.old out.old) piece.now }
     {
-        let a = stop(self, line.len(), out.len());
-        if a.number != 0 {
-            return Fed {
+        let stopped = stop(self, line.len(), out.len());
+        match stopped {
+            Some(answer) => Fed {
                 state: self,
-                answer: a,
-            };
-        }
-        let s = pieces::take_bytes(self, piece, line, out);
-        Fed {
-            state: s,
-            answer: answer_of(s),
+                answer,
+            },
+            None => {
+                let s = pieces::take_bytes(self, piece, line, out);
+                Fed {
+                    state: s,
+                    answer: answer_of(s),
+                }
+            }
         }
     }
 
@@ -136,17 +138,19 @@ impl Upload {
     pub fn finish(self, line: &[u8], out: &mut [u8]) -> Fed
         ensures { called result line.now out.new ≡ finish (lent self line.now out.old) }
     {
-        let a = stop(self, line.len(), out.len());
-        if a.number != 0 {
-            return Fed {
+        let stopped = stop(self, line.len(), out.len());
+        match stopped {
+            Some(answer) => Fed {
                 state: self,
-                answer: a,
-            };
-        }
-        let s = pieces::take_end(self, line, out);
-        Fed {
-            state: s,
-            answer: answer_of(s),
+                answer,
+            },
+            None => {
+                let s = pieces::take_end(self, line, out);
+                Fed {
+                    state: s,
+                    answer: answer_of(s),
+                }
+            }
         }
     }
 }

@@ -3,12 +3,12 @@ use Rattle.upload.specs.Calls.{finish}
 use Rattle.upload.proofs.Values.{call_stopped, finish_done, not_stopped}
 use Rattle.upload.proofs.uploads.Upload.finish.Goals as goal
 
-pub returns-then-a-ne0 : goal.returns-then-a-ne0
+pub returns-in-Some : goal.returns-in-Some
 unfolding finish
-returns-then-a-ne0 c = call_stopped _ _ c.stop-a.ensures _ c.if-a-ne0.true
+returns-in-Some c = call_stopped _ _ c.stop-stopped.ensures _ _ c.in-Some.is
 
 pub take_end-s-requires : goal.take_end-s-requires
-take_end-s-requires c = not_stopped _ _ c.stop-a.ensures c.if-a-ne0.false
+take_end-s-requires c = not_stopped _ _ c.stop-stopped.ensures c.in-None.is
 
-pub returns : goal.returns
-returns c = finish_done _ _ c.stop-a.ensures c.if-a-ne0.false _ c.take_end-s.ensures _ c.answer_of.ensures
+pub returns-in-None : goal.returns-in-None
+returns-in-None c = finish_done _ _ c.stop-stopped.ensures c.in-None.is _ c.take_end-s.ensures _ c.answer_of.ensures
