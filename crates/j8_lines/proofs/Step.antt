@@ -1,46 +1,28 @@
 -- One byte: what the calls do with it is what one byte more of the text does in the definition; the fault is the same by `same_fault`, and
 -- each part of the state by the laws of Snoc.antt.
 -- Assumes nothing.
-use Prim.Native.Nat.{ℕ, zero, suc, ◌+◌, ◌≤◌}
+use Prim.Native.Nat.{ℕ, suc, ◌+◌, ◌≤◌}
 use mathlib.Core.Bool.{Bool, true, false}
 use mathlib.Core.List.{List, [], ◌∷◌, ◌++◌, append_assoc}
-use mathlib.Core.Path.{◌≡◌, refl, sym, subst}
+use mathlib.Core.Path.{◌≡◌, refl, sym}
 use native.Mathlib.Nat.{zero-add}
 use native.Mathlib.Omega.{arith}
 use lib.Dec.{eqb}
-use lib.ListN.{length, take, drop, get_or, length-append, length-drop}
+use lib.ListN.{length, take, drop, length-append, length-drop}
 use lib.Seq.{take-append-le, get_or-append_seam, take-append_seam, take_all, drop-append-add, drop-drop}
 use Rattle.prelude.specs.Bytes.{LF}
-use Rattle.prelude.specs.Limits.{upload_max, line_max}
+use Rattle.prelude.specs.Limits.{line_max}
 use Rattle.prelude.specs.Pick.{pick}
-use Rattle.prelude.specs.Refusals.{too_long}
+use Rattle.prelude.specs.declared.refusals.Refusal.{Refusal}
 use Rattle.records.specs.Records.{line_record, Fault, none, refuse, put_at}
 use Rattle.upload.specs.Calls.{Lent, stored, held_line, appended, byte_fault, byte_by, feed_byte}
-use Rattle.upload.proofs.Kept.{state_path, lent_path, NonZero, pick_nonzero, line_nonzero, Ok}
-use Rattle.j8_lines.specs.Lines.{cut, records, fault_behind, fault_of_byte, FirstFault, or_else, first_from, first_fault, front, left, by_first, j8_lines}
+use Rattle.upload.proofs.Kept.{state_path, lent_path, numbered, Ok}
+use Rattle.j8_lines.specs.Lines.{cut, records, fault_behind, FirstFault, or_else, first_fault, front, left, by_first, j8_lines}
 use Rattle.j8_lines.proofs.Snoc.{cut_lf, cut_byte, count_snoc, records_snoc, buffer_shut, buffer_set, buffer_held, first_snoc, none_end, fault_inside}
 
 -- what is left where the upload isn't ended
 abbrev pub standing : List ℕ → Fault → List ℕ → List ℕ → Lent
 standing taken why line out = left taken why false line out
-
--- a refusal's number is not 0
-behind_nonzero : (room : ℕ) (t : List ℕ) (b : ℕ) → NonZero (fault_behind room t b)
-unfolding fault_behind pick
-behind_nonzero room t b =
-    pick_nonzero (eqb (length t) upload_max) _ _ refl
-    (pick_nonzero (eqb b LF) _ _ (line_nonzero room (length (records (cut t).closed)) (cut t).open_line)
-    (pick_nonzero (eqb (length (cut t).open_line) line_max) (refuse too_long line_max) none refl tt))
-
-else_nonzero : (p : ℕ) (f : Fault) (s : FirstFault) → NonZero f → NonZero s.why → NonZero (or_else p f s).why
-else_nonzero p none s a b = b
-else_nonzero p (refuse n q) s a b = a
-
-first_nonzero : (room : ℕ) (t : List ℕ) (n p : ℕ) → NonZero (first_from room t p n).why
-unfolding first_from pick
-first_nonzero room t zero p = tt
-first_nonzero room t (suc n) p =
-    else_nonzero p (fault_of_byte room t p) (first_from room t (suc p) n) (behind_nonzero room (take p t) (get_or t p 0)) (first_nonzero room t n (suc p))
 
 -- the bytes of the records at the output's front
 pub front_put : (rs r out : List ℕ) → length rs ≤ length out → put_at (front rs out) (length rs) r ≡ front (rs ++ r) out
@@ -119,19 +101,16 @@ pub fault_snoc : (room : ℕ) (t : List ℕ) (b : ℕ) → (first_fault room t).
 fault_snoc room t b e =
     rw (first_snoc room t b, fault_none room t e, take-append_seam t (b ∷ []), get_or-append_seam t b [] 0)
 
-pub fault_kept : (room : ℕ) (t : List ℕ) (b n p : ℕ) → (first_fault room t).why ≡ refuse n p → first_fault room (t ++ (b ∷ [])) ≡ first_fault room t
+pub fault_kept : (room : ℕ) (t : List ℕ) (b : ℕ) (n : Refusal) (p : ℕ) → (first_fault room t).why ≡ refuse n p → first_fault room (t ++ (b ∷ [])) ≡ first_fault room t
 fault_kept room t b n p e = rw (first_snoc room t b, e)
 
 pub defined_none : (t line out : List ℕ) → (first_fault (length out) t).why ≡ none → j8_lines t false line out ≡ standing t none line out
 unfolding j8_lines pick
 defined_none t line out e = rw (fault_none (length out) t e, take_all (length t) t (omega arith))
 
-pub defined_refused : (t line out : List ℕ) (n p : ℕ) → (first_fault (length out) t).why ≡ refuse n p → j8_lines t false line out ≡ standing (take (first_fault (length out) t).before t) (refuse n p) line out
+pub defined_refused : (t line out : List ℕ) (n : Refusal) (p : ℕ) → (first_fault (length out) t).why ≡ refuse n p → j8_lines t false line out ≡ standing (take (first_fault (length out) t).before t) (refuse n p) line out
 unfolding j8_lines pick
 defined_refused t line out n p e = rw e
-
-pub nonzero_at : (room : ℕ) (t : List ℕ) (n p : ℕ) → (first_fault room t).why ≡ refuse n p → eqb n 0 ≡ false
-nonzero_at room t n p e = subst NonZero e (first_nonzero room t (length t) 0)
 
 step_none : (t line out : List ℕ) (b : ℕ) → (first_fault (length out) t).why ≡ none → Ok line out (standing t none line out) → feed_byte (standing t none line out) b ≡ j8_lines (t ++ (b ∷ [])) false line out
 unfolding feed_byte j8_lines left pick
@@ -140,11 +119,11 @@ step_none t line out b e k =
     (same_step t line out b (record { room = k.used; short = k.held; large = k.large }) (fault_behind (length out) t b) refl)
 
 -- a kept refusal stays
-pub stays : (t line out : List ℕ) (n p b : ℕ) → eqb n 0 ≡ false → feed_byte (standing t (refuse n p) line out) b ≡ standing t (refuse n p) line out
+pub stays : (t line out : List ℕ) (n : Refusal) (p b : ℕ) → feed_byte (standing t (refuse n p) line out) b ≡ standing t (refuse n p) line out
 unfolding feed_byte left pick
-stays t line out n p b z = rw z
+stays t line out n p b = rw (numbered n)
 
-kept : (t line out : List ℕ) (b n p : ℕ) → (first_fault (length out) t).why ≡ refuse n p → j8_lines (t ++ (b ∷ [])) false line out ≡ j8_lines t false line out
+kept : (t line out : List ℕ) (b : ℕ) (n : Refusal) (p : ℕ) → (first_fault (length out) t).why ≡ refuse n p → j8_lines (t ++ (b ∷ [])) false line out ≡ j8_lines t false line out
 unfolding j8_lines pick
 kept t line out b n p e =
     rw (fault_kept (length out) t b n p e, take-append-le (first_fault (length out) t).before t (b ∷ []) (fault_inside (length out) t))
@@ -152,7 +131,7 @@ kept t line out b n p e =
 step_by : (t line out : List ℕ) (b : ℕ) → Ok line out (j8_lines t false line out) → (f : Fault) → (first_fault (length out) t).why ≡ f → feed_byte (j8_lines t false line out) b ≡ j8_lines (t ++ (b ∷ [])) false line out
 step_by t line out b k none e = rw (defined_none t line out e) (step_none t line out b e (rw (defined_none t line out e) at k))
 step_by t line out b k (refuse n p) e =
-    rw (kept t line out b n p e, defined_refused t line out n p e) (stays _ line out n p b (nonzero_at (length out) t n p e))
+    rw (kept t line out b n p e, defined_refused t line out n p e) (stays _ line out n p b)
 
 -- ONE BYTE
 pub step : (t line out : List ℕ) (b : ℕ) → Ok line out (j8_lines t false line out) → feed_byte (j8_lines t false line out) b ≡ j8_lines (t ++ (b ∷ [])) false line out

@@ -1,7 +1,7 @@
 -- The whole list of feeds and finishes, by induction on the list: a feed adds its piece to the definition's text, byte by byte, a finish
 -- ends it, and after a finish nothing changes.
 -- Assumes nothing.
-use Prim.Native.Nat.{ℕ, ◌+◌, ◌≤◌}
+use Prim.Native.Nat.{ℕ, ◌≤◌}
 use mathlib.Core.Bool.{Bool, true, false}
 use mathlib.Core.List.{List, [], ◌∷◌, ◌++◌, append_assoc, append-nil}
 use mathlib.Core.Path.{◌≡◌, refl, sym, ap, ◌∙◌}
@@ -10,15 +10,16 @@ use lib.Dec.{eqb, eqb-suc-zero}
 use lib.ListN.{length, take, length-append}
 use lib.Seq.{take_all}
 use Rattle.prelude.specs.Limits.{line_max}
+use Rattle.prelude.specs.declared.refusals.Refusal.{Refusal}
 use Rattle.prelude.specs.Pick.{pick}
 use Rattle.lines.specs.Line.{read_line, read_stripped, strip, trimmed, leads}
 use Rattle.records.specs.Records.{line_record, Fault, none, refuse, line_fault}
 use Rattle.upload.specs.Calls.{Lent, lent, fresh, keeps_refusal, closing, feed_bytes, end_fault, finish_by, finish_all, fit_lent, Called, zeros, kept_answer, answer_of, stop_state, guarded, feed, finish}
-use Rattle.upload.proofs.Kept.{state_path, lent_path, NonZero, line_nonzero, Ok, ok_fit, ok_byte, ok_bytes, ok_finish}
+use Rattle.upload.proofs.Kept.{state_path, lent_path, numbered, Ok, ok_fit, ok_byte, ok_bytes, ok_finish}
 use Rattle.j8_lines.specs.Lines.{cut, count_lf, records, first_from, first_fault, open_fault, left, end_by, j8_lines, j8_answer}
 use Rattle.j8_lines.specs.Lists.{Call, feeds, finishes, call, run, began, joined, finished, earlier, defined}
 use Rattle.j8_lines.proofs.Snoc.{buffer_none}
-use Rattle.j8_lines.proofs.Step.{standing, front_put, front_length, Roomy, held_open, fault_none, defined_none, defined_refused, nonzero_at, stays, step}
+use Rattle.j8_lines.proofs.Step.{standing, front_put, front_length, Roomy, held_open, fault_none, defined_none, defined_refused, stays, step}
 
 -- the start
 pub begun : (line out : List ℕ) → lent fresh line out ≡ j8_lines [] false line out
@@ -65,7 +66,7 @@ module _ (t line out : List ℕ) (s : Roomy t line out) where
   unfolding left pick
   held_is = refl
 
-  refuses : (n p : ℕ) → keeps_refusal (standing t none line out) n p ≡ standing t (refuse n p) line out
+  refuses : (n : Refusal) (p : ℕ) → keeps_refusal (standing t none line out) n p ≡ standing t (refuse n p) line out
   unfolding left pick
   refuses n p = refl
 
@@ -84,28 +85,28 @@ module _ (t line out : List ℕ) (s : Roomy t line out) where
       rw (end_fault_lem, q, e) (ends_open (line_fault (length out) (length (records (cut t).closed)) (b ∷ bs)) q)
 
 -- the answers
-answer_standing : (t : List ℕ) (f : Fault) (line out : List ℕ) → NonZero f → kept_answer (standing t f line out).state ≡ j8_answer (standing t f line out).state false
+answer_standing : (t : List ℕ) (f : Fault) (line out : List ℕ) → kept_answer (standing t f line out).state ≡ j8_answer (standing t f line out).state false
 unfolding left j8_answer pick
-answer_standing t none line out z = refl
-answer_standing t (refuse n p) line out z = rw z
+answer_standing t none line out = refl
+answer_standing t (refuse n p) line out = rw (numbered n)
 
 -- What the definition says after the calls so far: the joined text, whether a finish came, and whether one came before the last call.
 abbrev pub says : List ℕ → Bool → Bool → List ℕ → List ℕ → Called
 says t fin e line out = record { lent = j8_lines t fin line out; answer = j8_answer (j8_lines t fin line out).state e }
 
-stays_all : (t line out : List ℕ) (n p : ℕ) (bs : List ℕ) → eqb n 0 ≡ false → feed_bytes (standing t (refuse n p) line out) bs ≡ standing t (refuse n p) line out
+stays_all : (t line out : List ℕ) (n : Refusal) (p : ℕ) (bs : List ℕ) → feed_bytes (standing t (refuse n p) line out) bs ≡ standing t (refuse n p) line out
 unfolding feed_bytes pick
-stays_all t line out n p [] z = refl
-stays_all t line out n p (b ∷ bs) z = rw (stays t line out n p b z) (stays_all t line out n p bs z)
+stays_all t line out n p [] = refl
+stays_all t line out n p (b ∷ bs) = rw (stays t line out n p b) (stays_all t line out n p bs)
 
 -- a call with nothing refused so far, and one after a refusal
 guard_none : (t line out : List ℕ) (d : Lent) → fit_lent (standing t none line out) ≡ true → guarded (standing t none line out) d ≡ record { lent = d; answer = j8_answer d.state false }
 unfolding left j8_answer answer_of stop_state pick
 guard_none t line out d f = rw f
 
-guard_refused : (t line out : List ℕ) (n p : ℕ) (d : Lent) → eqb n 0 ≡ false → fit_lent (standing t (refuse n p) line out) ≡ true → guarded (standing t (refuse n p) line out) d ≡ record { lent = standing t (refuse n p) line out; answer = kept_answer (standing t (refuse n p) line out).state }
+guard_refused : (t line out : List ℕ) (n : Refusal) (p : ℕ) (d : Lent) → fit_lent (standing t (refuse n p) line out) ≡ true → guarded (standing t (refuse n p) line out) d ≡ record { lent = standing t (refuse n p) line out; answer = kept_answer (standing t (refuse n p) line out).state }
 unfolding left stop_state pick
-guard_refused t line out n p d z f = rw (f, z) (rw z)
+guard_refused t line out n p d f = rw (f, numbered n)
 
 module _ (t line out : List ℕ) (h : line_max ≤ length line) where
   feed_by : (piece : List ℕ) (f : Fault) → (first_fault (length out) t).why ≡ f → feed (j8_lines t false line out) piece ≡ says (t ++ piece) false false line out
@@ -117,11 +118,10 @@ module _ (t line out : List ℕ) (h : line_max ≤ length line) where
   feed_by piece (refuse n p) e =
       let k = ok_defined t line out h in
       let q = defined_refused t line out n p e in
-      let z = nonzero_at (length out) t n p e in
       let T = take (first_fault (length out) t).before t in
       let same : j8_lines (t ++ piece) false line out ≡ standing T (refuse n p) line out =
-      sym (steps t line out piece k) ∙ ap (λ m. feed_bytes m piece) q ∙ stays_all T line out n p piece z in
-      rw (steps t line out piece k, q, same, guard_refused T line out n p (standing T (refuse n p) line out) z (rw q at (ok_fit line out _ k)), answer_standing T (refuse n p) line out z)
+      sym (steps t line out piece k) ∙ ap (λ m. feed_bytes m piece) q ∙ stays_all T line out n p piece in
+      rw (steps t line out piece k, q, same, guard_refused T line out n p (standing T (refuse n p) line out) (rw q at (ok_fit line out _ k)), answer_standing T (refuse n p) line out)
 
   pub feed_call : (piece : List ℕ) → feed (j8_lines t false line out) piece ≡ says (t ++ piece) false false line out
   feed_call piece = feed_by piece (first_fault (length out) t).why refl
@@ -131,7 +131,7 @@ pub ended_none : (t line out : List ℕ) → (first_fault (length out) t).why �
 unfolding j8_lines pick
 ended_none t line out e = rw (fault_none (length out) t e, take_all (length t) t (omega arith))
 
-pub ended_refused : (t line out : List ℕ) (n p : ℕ) → (first_fault (length out) t).why ≡ refuse n p → j8_lines t true line out ≡ standing (take (first_fault (length out) t).before t) (refuse n p) line out
+pub ended_refused : (t line out : List ℕ) (n : Refusal) (p : ℕ) → (first_fault (length out) t).why ≡ refuse n p → j8_lines t true line out ≡ standing (take (first_fault (length out) t).before t) (refuse n p) line out
 unfolding j8_lines pick
 ended_refused t line out n p e = rw e
 
@@ -143,25 +143,18 @@ settled_over : (t line out : List ℕ) → Settled (left t none true line out)
 unfolding left pick
 settled_over t line out = refl
 
-settled_refused : (t line out : List ℕ) (n p : ℕ) → eqb n 0 ≡ false → Settled (standing t (refuse n p) line out)
+settled_refused : (t line out : List ℕ) (n : Refusal) (p : ℕ) → Settled (standing t (refuse n p) line out)
 unfolding left pick
-settled_refused t line out n p z = rw z
+settled_refused t line out n p = rw (numbered n)
 
-end_by_lem : (t line out : List ℕ) (f : Fault) → NonZero f → Settled (end_by f t line out)
-end_by_lem t line out none z = settled_over t line out
-end_by_lem t line out (refuse n p) z = settled_refused t line out n p z
-
-open_nonzero : (room used : ℕ) (o : List ℕ) → NonZero (open_fault room used o)
-open_nonzero room used [] = tt
-open_nonzero room used (b ∷ bs) = line_nonzero room used (b ∷ bs)
-
-end_of : (t line out o : List ℕ) → Settled (end_by (open_fault (length out) (length (records (cut t).closed)) o) t line out)
-end_of t line out o = end_by_lem t line out (open_fault (length out) (length (records (cut t).closed)) o) (open_nonzero (length out) (length (records (cut t).closed)) o)
+end_by_lem : (t line out : List ℕ) (f : Fault) → Settled (end_by f t line out)
+end_by_lem t line out none = settled_over t line out
+end_by_lem t line out (refuse n p) = settled_refused t line out n p
 
 settled_guard : (m d : Lent) → fit_lent m ≡ true → (k : Bool) → eqb m.state.refusal 0 ≡ k → pick k m.state.ended true ≡ true → guarded m d ≡ record { lent = m; answer = j8_answer m.state true }
 unfolding j8_answer stop_state pick
 settled_guard m d f true e s = rw (f, e, s)
-settled_guard m d f false e s = rw (f, e) (rw e)
+settled_guard m d f false e s = rw (f, e)
 
 module _ (t line out : List ℕ) (h : line_max ≤ length line) where
   ended_by : (f : Fault) → (first_fault (length out) t).why ≡ f → (finish (j8_lines t false line out) ≡ says t true false line out) × (Ok line out (j8_lines t true line out) × Settled (j8_lines t true line out))
@@ -171,7 +164,7 @@ module _ (t line out : List ℕ) (h : line_max ≤ length line) where
       let q = defined_none t line out e in
       let k' : Ok line out (standing t none line out) = rw q at k in
       let s : Roomy t line out = record { room = unfold left in k'.used; short = unfold left in k'.held; large = k'.large } in
-      let en = end_of t line out (cut t).open_line in
+      let en = end_by_lem t line out (open_fault (length out) (length (records (cut t).closed)) (cut t).open_line) in
       let done : finish_all (standing t none line out) ≡ end_by (open_fault (length out) (length (records (cut t).closed)) (cut t).open_line) t line out = ends t line out s (cut t).open_line refl in (
         rw (q, ended_none t line out e, guard_none t line out (finish_all (standing t none line out)) (ok_fit line out _ k'), done),
         (rw (ended_none t line out e, ← done) (ok_finish line out (standing t none line out) k'), rw (ended_none t line out e) en),
@@ -180,12 +173,11 @@ module _ (t line out : List ℕ) (h : line_max ≤ length line) where
       let k = ok_defined t line out h in
       let q = defined_refused t line out n p e in
       let r = ended_refused t line out n p e in
-      let z = nonzero_at (length out) t n p e in
       let T = take (first_fault (length out) t).before t in
       let k' : Ok line out (standing T (refuse n p) line out) = rw q at k in
-      let a = answer_standing T (refuse n p) line out z in (
-        rw (q, r, guard_refused T line out n p (finish_all (standing T (refuse n p) line out)) z (ok_fit line out _ k'), a),
-        (rw r k', rw r (settled_refused T line out n p z)),
+      let a = answer_standing T (refuse n p) line out in (
+        rw (q, r, guard_refused T line out n p (finish_all (standing T (refuse n p) line out)) (ok_fit line out _ k'), a),
+        (rw r k', rw r (settled_refused T line out n p)),
       )
 
   pub finish_call : finish (j8_lines t false line out) ≡ says t true false line out

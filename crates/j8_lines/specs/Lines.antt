@@ -5,7 +5,7 @@ use Rattle.std.specs.Prelude.{ℕ, zero, suc, ◌+◌, Bool, true, false, List, 
 use Rattle.prelude.specs.Bytes.{LF}
 use Rattle.prelude.specs.Limits.{line_max, upload_max}
 use Rattle.prelude.specs.Pick.{pick}
-use Rattle.prelude.specs.Refusals.{too_long, over_limit, ended}
+use Rattle.prelude.specs.Refusals.{too_long, over_limit, ended, number_of}
 use Rattle.records.specs.Records.{line_record, Fault, none, refuse, line_fault}
 use Rattle.upload.specs.declared.uploads.Upload.{Upload}
 use Rattle.upload.specs.declared.uploads.Answer.{Answer}
@@ -57,7 +57,7 @@ pub record FirstFault : Type 0 where
 
 abbrev pub or_else : ℕ → Fault → FirstFault → FirstFault
 or_else p none later = later
-or_else p (refuse number at) later = record { before = p; why = refuse number at }
+or_else p (refuse refusal at) later = record { before = p; why = refuse refusal at }
 
 -- the first at the n places from p on
 unfoldable pub first_from : ℕ → List ℕ → ℕ → ℕ → FirstFault
@@ -99,16 +99,16 @@ line_buffer ls o i (d ∷ ds) = get_or o i (last_at i d ls) ∷ line_buffer ls o
 -- "Where nothing is refused, the state's refusal, its line and its place are 0."
 abbrev pub fault_number : Fault → ℕ
 fault_number none = 0
-fault_number (refuse number at) = number
+fault_number (refuse refusal at) = number_of refusal
 
 abbrev pub fault_place : Fault → ℕ
 fault_place none = 0
-fault_place (refuse number at) = at
+fault_place (refuse refusal at) = at
 
 -- "its line (LFs read plus 1)"
 abbrev pub fault_line : Fault → ℕ → ℕ
 fault_line none lfs = 0
-fault_line (refuse number at) lfs = lfs + 1
+fault_line (refuse refusal at) lfs = lfs + 1
 
 -- What is left, by the bytes taken, the refusal behind them, whether the upload is ended, and both buffers as first lent: "Taken are the
 -- bytes before the refused one, or all. LFs read are the LFs among them." "used is their length", of the records.
@@ -133,12 +133,12 @@ left taken why over line out =
 -- the open line's fault decides: "if nothing is refused, the upload is ended"
 abbrev pub end_by : Fault → List ℕ → List ℕ → List ℕ → Lent
 end_by none taken line out = left taken none true line out
-end_by (refuse number at) taken line out = left taken (refuse number at) false line out
+end_by (refuse refusal at) taken line out = left taken (refuse refusal at) false line out
 
 -- "If there is none and a finish came"
 abbrev pub by_finish : Bool → Fault → List ℕ → List ℕ → List ℕ → Lent
 by_finish false why taken line out = left taken why false line out
-by_finish true (refuse number at) taken line out = left taken (refuse number at) false line out
+by_finish true (refuse refusal at) taken line out = left taken (refuse refusal at) false line out
 by_finish true none taken line out =
     end_by (open_fault (length out) (length (records (cut taken).closed)) (cut taken).open_line) taken line out
 
@@ -153,5 +153,5 @@ j8_lines text finish line out = by_first finish (first_fault (length out) text) 
 unfoldable pub j8_answer : Upload → Bool → Answer
 j8_answer s earlier =
     pick (eqb s.refusal 0)
-    (pick earlier (record { number = ended; line = 0; place = 0 }) zeros)
+    (pick earlier (record { number = number_of ended; line = 0; place = 0 }) zeros)
     (record { number = s.refusal; line = s.line; place = s.place })
