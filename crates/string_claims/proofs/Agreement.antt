@@ -4,7 +4,7 @@
 use Prim.Native.Nat.{ℕ, zero, suc, pred, ◌+◌, ◌-◌, ◌*◌, ◌≤◌}
 use mathlib.Core.Bool.{true, false}
 use mathlib.Core.List.{List, [], ◌∷◌, ◌++◌}
-use mathlib.Core.Path.{◌≡◌, refl, sym, ap, ◌∙◌}
+use mathlib.Core.Path.{◌≡◌, refl, sym, ◌∙◌}
 use native.Mathlib.Omega.{arith}
 use lib.Dec.{ltb, eqb, lit≤}
 use lib.ListN.{take, drop, get_or}
@@ -14,10 +14,11 @@ use Rattle.prelude.specs.Pick.{pick}
 use Rattle.prelude.proofs.Cases.{split, and_right}
 use Rattle.utf8.specs.Class.{class_of}
 use Rattle.utf8.specs.Utf8.{between, low_of, high_of, char_len, wanted, has_tails, start_bits, tails_on, value_of, fault_from, char_fault, char_by}
+use Rattle.utf8.proofs.Faults.{fault_told}
 use Rattle.utf8.proofs.Characters.{tails, size_of, low_bound, char_is, char_tails}
 use Rattle.notation.specs.declared.styles.Style.{Style}
 use Rattle.notation.specs.declared.styles.Style.TheVariants.{Json, Unicode, Bytes}
-use Rattle.notation.specs.Styles.{quote, fault}
+use Rattle.notation.specs.Styles.{quote}
 use Rattle.escapes.specs.Hex.{hex_val, hex_digits, hex_run}
 use Rattle.escapes.specs.Escapes.{low_half, four_digits, braced, code_point, raw_byte, escape}
 use Rattle.units.specs.Units.{literal, unit_at}
@@ -138,7 +139,9 @@ fault_agree st x {s} a =
 
 literal_agree : (st : Style) (x : ℕ) {s t : List ℕ} (n : ℕ) → char_len (x ∷ s) ≡ n → Agree st s t
     → literal (char_by n (x ∷ s)) (x ∷ s) ≡ literal (char_by n (x ∷ t)) (x ∷ t)
-literal_agree st x zero e a = ap fault (fault_agree st x a)
+literal_agree st x {s} {t} zero e a =
+    let (f, (p, b)) = fault_told (x ∷ s) e in
+    let q = sym (fault_agree st x a) ∙ p in rw (p, q)
 literal_agree st x {s} (suc n) e a = rw (take_agree st (low_of (class_of x)) (high_of (class_of x)) n (low_bound (class_of x)) a (char_tails x s n e).1)
 
 pub unit_agree : (st : Style) {s t : List ℕ} → Agree st s t → unit_at st s ≡ unit_at st t

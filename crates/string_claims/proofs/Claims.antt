@@ -1,7 +1,7 @@
 -- The claims of specs/Claims.antt, each from the law that has it.
 -- Assumes nothing.
 use mathlib.Core.List.{[]}
-use mathlib.Core.Path.{◌≡◌, refl, sym, ap}
+use mathlib.Core.Path.{◌≡◌, refl, ap}
 use native.Mathlib.Omega.{arith}
 use lib.Dec.{lit≤}
 use Rattle.prelude.specs.Pick.{pick}
@@ -12,9 +12,11 @@ use Rattle.escapes.specs.Hex.{hex_val, hex_digits, hex_from}
 use Rattle.escapes.specs.Escapes.{lookup, low_half, code_unit, four_digits, scalar, braced, raw_byte, escape}
 use Rattle.units.specs.Units.{unit_at}
 use Rattle.units.proofs.Sizes.{took_size}
-use Rattle.strings.specs.declared.answers.Token.TheVariants.{Ended, Failed}
+use Rattle.std.specs.Prelude.{Ok, Err}
+use Rattle.prelude.specs.Refusals.{refused_at}
+use Rattle.prelude.proofs.Numbers.{number_injective, number_positive}
 use Rattle.notation.specs.Marks.{opening}
-use Rattle.strings.specs.Read.{read_units, read_token, read_string, TokenNumbers}
+use Rattle.strings.specs.Read.{read_units, read_token, read_string, token_at, TokenNumbers}
 use Rattle.strings_write.specs.Write.{write_bytes, write_string}
 use Rattle.string_claims.specs.Claims.{examples, ExampleStrings, WrittenReadsBack, BytesFormReadsBack, WrittenTokenReadsBack, BytesFormTokenReadsBack, EndsAtItsQuote, UnicodeIsUtf8, UnicodeTokenIsUtf8, WriterIsInjective, WrittenIsOneLine, BytesFormIsOneLine, PlacesInside, RefusalsNumbered, FaultsPassedUp, CutOffAtEnd, UnitsProgress, WrittenLength, ReadLength, TokensTellAll}
 use Rattle.string_claims.proofs.Ends.{token_cut}
@@ -61,10 +63,10 @@ pub bytes_form_is_one_line : BytesFormIsOneLine
 bytes_form_is_one_line s = printed_at (write_bytes s) (quoted_printed AsBytes s)
 
 pub places_inside : PlacesInside
-places_inside room s number at r = (rw r at (text_inside room s)).0.1
+places_inside room s refusal at r = (rw r at (text_inside room s)).0.1
 
 pub refusals_numbered : RefusalsNumbered
-refusals_numbered room s number at e = rw e at (text_numbered room s)
+refusals_numbered room s refusal at e = rw e at (text_numbered room s)
 
 pub faults_passed_up : FaultsPassedUp
 faults_passed_up = passed_up
@@ -82,11 +84,11 @@ pub read_length : ReadLength
 read_length s bs e r = omega (arith, rw r at (string_length s), rw r at (string_inside s))
 
 pub tokens_tell_all : TokensTellAll
-tokens_tell_all (Ended e n) (Ended f m) x y p =
-    let a : e ≡ f = ap (λ (r : TokenNumbers). r.end) p in
-    let b : n ≡ m = ap (λ (r : TokenNumbers). r.size) p in λ i. Ended (a i) (b i)
-tokens_tell_all (Ended e n) (Failed number at) x y p = absurd (y (sym (ap (λ (r : TokenNumbers). r.number) p)))
-tokens_tell_all (Failed number at) (Ended e n) x y p = absurd (x (ap (λ (r : TokenNumbers). r.number) p))
-tokens_tell_all (Failed number at) (Failed other q) x y p =
-    let a : number ≡ other = ap (λ (r : TokenNumbers). r.number) p in
-    let b : at ≡ q = ap (λ (r : TokenNumbers). r.place) p in λ i. Failed (a i) (b i)
+tokens_tell_all (Ok t) (Ok u) p =
+    let a : t.end ≡ u.end = ap (λ (r : TokenNumbers). r.end) p in
+    let b : t.len ≡ u.len = ap (λ (r : TokenNumbers). r.size) p in λ i. Ok (token_at (a i) (b i))
+tokens_tell_all (Ok t) (Err f) p = absurd (omega (arith, number_positive f.refusal, ap (λ (r : TokenNumbers). r.number) p))
+tokens_tell_all (Err f) (Ok t) p = absurd (omega (arith, number_positive f.refusal, ap (λ (r : TokenNumbers). r.number) p))
+tokens_tell_all (Err f) (Err g) p =
+    let a : f.refusal ≡ g.refusal = number_injective f.refusal g.refusal (ap (λ (r : TokenNumbers). r.number) p) in
+    let b : f.place ≡ g.place = ap (λ (r : TokenNumbers). r.place) p in λ i. Err (refused_at (a i) (b i))

@@ -28,13 +28,13 @@ pub record Ended (st : Style) (p : ℕ) (s bs : List ℕ) (e : ℕ) : Type 0 whe
 
 abbrev pub Ends : Style → ℕ → List ℕ → StringRead → Type 0
 Ends st p s (accepted bs e) = Ended st p s bs e
-Ends st p s (refused number at) = Unit
+Ends st p s (refused refusal at) = Unit
 
 ends_close : (st : Style) (p x : ℕ) (r : List ℕ) → x ≡ quote st → Ended st p (x ∷ r) [] (p + 1)
 ends_close st p x r e = record { before = []; behind = r; parts = rw e; ends = refl; again = read_close st p }
 
 ends_more : (st : Style) (p : ℕ) (s : List ℕ) (n : ℕ) (bs : List ℕ) → unit_at st s ≡ took n bs → (r : StringRead) → Ends st (p + n) (drop n s) r → Ends st p s (more bs r)
-ends_more st p s n bs e (refused number at) d = tt
+ends_more st p s n bs e (refused refusal at) d = tt
 ends_more st p s n bs e (accepted cs m) d =
     let u : List ℕ = take n s in
     let l : length u ≡ n = length-take-le n s (took_size st s n bs e).1 in
@@ -59,7 +59,7 @@ ends_one st x r ih p = go (unit_at st (x ∷ r)) refl
     go (took zero bs) e = absurd (omega (arith, took_size st (x ∷ r) zero bs e))
     go (took (suc n) bs) e =
         rw (read_skip st (p + suc n) n r) (ends_more st p (x ∷ r) (suc n) bs e (read_units st (p + suc n) 0 (drop n r)) (ih n (p + suc n)))
-    go (fault number) e = tt
+    go (fault refusal) e = tt
 
 pub units_end : (st : Style) (s : List ℕ) (p : ℕ) → Ends st p s (read_units st p 0 s)
 unfolding read_units

@@ -20,7 +20,7 @@ use Rattle.string_claims.specs.Claims.{Example}
 
 fitted_valid : (room : ℕ) (r : StringRead) → Valid r → Valid (fitted room r)
 fitted_valid room (accepted bs e) v = pick_case Valid (ltb room (length bs)) _ _ (λ q. tt) (λ q. v)
-fitted_valid room (refused number at) v = tt
+fitted_valid room (refused refusal at) v = tt
 
 pub text_valid : (room : ℕ) (s : List ℕ) (n : ℕ) → opening s ≡ opens Unicode n → Valid (read_text room s)
 unfolding read_text
@@ -34,13 +34,13 @@ token_valid s n o = rw (o, read_skip Unicode n n s) (units_valid (drop n s) n)
 -- examples
 abbrev Short : StringRead → Type 0
 Short (accepted bs e) = length bs ≤ 4
-Short (refused number at) = Unit
+Short (refused refusal at) = Unit
 
 text_of : (room : ℕ) (s : List ℕ) (r : StringRead) → read_string s ≡ r → length s ≤ text_max → Short r → 4 ≤ room → read_text room s ≡ r
 unfolding read_text pick
 text_of room s (accepted bs e) p h k l =
     let f : length bs ≤ room = omega arith in rw (le-ltb text_max (length s) h, p, le-ltb room (length bs) f)
-text_of room s (refused number at) p h k l = rw (le-ltb text_max (length s) h, p)
+text_of room s (refused refusal at) p h k l = rw (le-ltb text_max (length s) h, p)
 
 pub record Good (e : Example) : Type 0 where
   pub read : read_string (ascii e.text) ≡ e.answer

@@ -1,9 +1,11 @@
 -- What is claimed of the definitions of reading and writing strings, beside the contracts: each claim is a type, and
 -- proofs/Claims.antt has a term of it.
 -- Assumes nothing.
-use Rattle.std.specs.Prelude.{ℕ, ◌+◌, ◌*◌, ◌≤◌, ◌<◌, true, List, [], ◌∷◌, ◌++◌, map, ◌⊎◌, ◌≡◌, length, get_or, take}
+use Rattle.std.specs.Prelude.{ℕ, ◌+◌, ◌*◌, ◌≤◌, ◌<◌, true, List, [], ◌∷◌, ◌++◌, map, ◌⊎◌, ◌≡◌, length, get_or, take, Some, Result}
 use Prim.Native.String.{String}
 use Rattle.prelude.specs.Bytes.{IsBytes, ascii}
+use Rattle.prelude.specs.declared.refusals.Refusal.{Refusal}
+use Rattle.prelude.specs.declared.refusals.Refused.{Refused}
 use Rattle.prelude.specs.Refusals.{too_long, no_opening, cut_off, bad_escape, surrogate, too_large, byte_escape, trailing, no_room, TextFault}
 use Rattle.utf8.specs.Utf8.{char_len, char_fault, valid_utf8}
 use Rattle.notation.specs.declared.styles.Style.{Style}
@@ -11,7 +13,6 @@ use Rattle.notation.specs.declared.styles.Style.TheVariants.{Unicode}
 use Rattle.notation.specs.Styles.{took}
 use Rattle.units.specs.Units.{unit_at}
 use Rattle.strings.specs.declared.answers.Token.{Token}
-use Rattle.strings.specs.declared.answers.Token.TheVariants.{Ended, Failed}
 use Rattle.notation.specs.Marks.{opens, opening}
 use Rattle.strings.specs.Read.{StringRead, accepted, refused, read_units, read_token, read_string, read_text, token_numbers}
 use Rattle.prelude.specs.Limits.{text_max}
@@ -86,18 +87,20 @@ BytesFormIsOneLine = (s : List ℕ) (i : ℕ) → i < length (write_bytes s) →
 
 -- a refusal's place is in the text or at its end
 abbrev pub PlacesInside : Type 0
-PlacesInside = (room : ℕ) (s : List ℕ) (number at : ℕ) → read_text room s ≡ refused number at → at ≤ length s
+PlacesInside = (room : ℕ) (s : List ℕ) (refusal : Refusal) (at : ℕ) → read_text room s ≡ refused refusal at → at ≤ length s
 
 -- a text is refused with 2, 3, what its string is refused for, or 12; never with 5
-abbrev pub Numbered : ℕ → Type 0
-Numbered number = (number ≡ too_long) ⊎ ((number ≡ no_opening) ⊎ (TextFault number ⊎ (number ≡ no_room)))
+abbrev pub Numbered : Refusal → Type 0
+Numbered refusal = (refusal ≡ too_long) ⊎ ((refusal ≡ no_opening) ⊎ (TextFault refusal ⊎ (refusal ≡ no_room)))
 
 abbrev pub RefusalsNumbered : Type 0
-RefusalsNumbered = (room : ℕ) (s : List ℕ) (number at : ℕ) → read_text room s ≡ refused number at → Numbered number
+RefusalsNumbered = (room : ℕ) (s : List ℕ) (refusal : Refusal) (at : ℕ) → read_text room s ≡ refused refusal at → Numbered refusal
 
 -- request [2], "Strings .. pass it up; places stay": where a unit begins and no character does, the refusal is the character's fault, there
 abbrev pub FaultsPassedUp : Type 0
-FaultsPassedUp = (st : Style) (p : ℕ) (s : List ℕ) → 0 < length s → char_len s ≡ 0 → read_units st p 0 s ≡ refused (char_fault s) p
+FaultsPassedUp =
+    (st : Style) (p : ℕ) (s : List ℕ) → 0 < length s → char_len s ≡ 0
+    → (fault : Refusal) × ((char_fault s ≡ Some fault) × (read_units st p 0 s ≡ refused fault p))
 
 -- refusal 4 stands at the text's end
 abbrev pub CutOffAtEnd : Type 0
@@ -115,11 +118,6 @@ WrittenLength = (s : List ℕ) → length (write_string s) ≤ 6 * length s + 2
 abbrev pub ReadLength : Type 0
 ReadLength = (s bs : List ℕ) (e : ℕ) → read_string s ≡ accepted bs e → length bs ≤ length s
 
--- a refusal has a number other than 0
-abbrev pub TokenNumbered : Token → Type 0
-TokenNumbered (Ended e n) = Unit
-TokenNumbered (Failed number at) = number ≡ 0 → ⊥
-
--- an enum's numbers lose nothing of it: one set of numbers, one answer
+-- an answer's numbers lose nothing of it: one set of numbers, one answer
 abbrev pub TokensTellAll : Type 0
-TokensTellAll = (v w : Token) → TokenNumbered v → TokenNumbered w → token_numbers v ≡ token_numbers w → v ≡ w
+TokensTellAll = (v w : Result Token Refused) → token_numbers v ≡ token_numbers w → v ≡ w
