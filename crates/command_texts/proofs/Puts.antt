@@ -10,12 +10,12 @@ use borrow.Rule.Slice.PartMut.{put_mid, put_same}
 use lib.Dec.{leb}
 use lib.ListN.{length, length-append, length-drop, take, drop}
 use lib.Seq.{sets, length-sets, length-take-le, take-append_seam}
+use Rattle.std.specs.Prelude.{Result, Ok, Err}
 use Rattle.io.specs.Counts.{IsPrefixLen}
 use Rattle.prelude.proofs.Cases.{split, never}
 use Rattle.prelude.proofs.Picks.{pick_true, pick_false}
 use Rattle.prelude.proofs.Stores.{sets_over, sets_part}
-use Rattle.prelude.specs.declared.answers.Written.{Written}
-use Rattle.prelude.specs.declared.answers.Written.TheVariants.{Wrote, Refused}
+use Rattle.prelude.specs.declared.refusals.Refusal.{Refusal}
 use Rattle.strings_write.specs.Write.{write_string, written_in, wrote_into}
 use Rattle.terminals.specs.Terminals.{safe_text}
 use Rattle.command_texts.specs.Texts.{PutWhole, behind_written, quoted_in}
@@ -41,9 +41,9 @@ none_put at out =
     (λ e. record { answer = (let z : at ≡ at + 0 = omega arith in z) ∙ sym (pick_true _ _ _ e); stored = sym (pick_true _ _ _ e) })
     (λ e. record { answer = sym (pick_false _ _ _ e); stored = sym (pick_false _ _ _ e) })
 
-module _ (w : Written) (n at size : ℕ) (e : w ≡ Wrote n) where
-  told : (k : ℕ) → k ≡ behind_written (Wrote n) at size → k ≡ behind_written w at size
-  told k f = subst (λ (x : Written). k ≡ behind_written x at size) (sym e) f
+module _ (w : Result ℕ Refusal) (n at size : ℕ) (e : w ≡ Ok n) where
+  told : (k : ℕ) → k ≡ behind_written (Ok n) at size → k ≡ behind_written w at size
+  told k f = subst (λ (x : Result ℕ Refusal). k ≡ behind_written x at size) (sym e) f
 
   pub behind_past : size < at → at ≡ behind_written w at size
   unfolding behind_written
@@ -59,12 +59,12 @@ module _ (w : Written) (n at size : ℕ) (e : w ≡ Wrote n) where
       let l : size < at + n = leb-false (at + n) size q in
       (let z : at + k ≡ size = omega (arith, g (omega arith)) in z) ∙ sym (pick_false _ _ _ q ∙ pick_false _ _ _ (le-ltb size at h))))
 
-pub behind_refused : (w : Written) (k at size : ℕ) → w ≡ Refused k → at ≡ behind_written w at size
+pub behind_refused : (w : Result ℕ Refusal) (k : Refusal) (at size : ℕ) → w ≡ Err k → at ≡ behind_written w at size
 unfolding behind_written
-behind_refused w k at size e = subst (λ (x : Written). at ≡ behind_written x at size) (sym e) refl
+behind_refused w k at size e = subst (λ (x : Result ℕ Refusal). at ≡ behind_written x at size) (sym e) refl
 
 -- a writer that is lent the part from a place on
-module _ (t out : List ℕ) (at : ℕ) (w : Written) (part : List ℕ) (h : at ≤ length out) (a : w ≡ written_in (length (take (length out - at) (drop at out))) t)
+module _ (t out : List ℕ) (at : ℕ) (w : Result ℕ Refusal) (part : List ℕ) (h : at ≤ length out) (a : w ≡ written_in (length (take (length out - at) (drop at out))) t)
     (s : part ≡ wrote_into t (take (length out - at) (drop at out))) where
   abbrev old : List ℕ
   old = take (length out - at) (drop at out)
@@ -88,7 +88,7 @@ module _ (t out : List ℕ) (at : ℕ) (w : Written) (part : List ℕ) (h : at �
     answered : (r : ℕ) → r ≡ behind_written w at (length whole) → r ≡ at + length t
     unfolding written_in behind_written
     answered r q =
-        q ∙ ap (λ (x : Written). behind_written x at (length whole)) (a ∙ pick_true _ _ _ e)
+        q ∙ ap (λ (x : Result ℕ Refusal). behind_written x at (length whole)) (a ∙ pick_true _ _ _ e)
         ∙ pick_true _ _ _ (le-leb (at + length t) (length whole) (omega (arith, fits, ap length stored, length-sets out at t)))
 
   module _ (e : leb (length t) (length old) ≡ false) where
@@ -101,7 +101,7 @@ module _ (t out : List ℕ) (at : ℕ) (w : Written) (part : List ℕ) (h : at �
 
     kept : (r : ℕ) → r ≡ behind_written w at (length whole) → r ≡ at
     unfolding written_in behind_written
-    kept r q = q ∙ ap (λ (x : Written). behind_written x at (length whole)) (a ∙ pick_false _ _ _ e)
+    kept r q = q ∙ ap (λ (x : Result ℕ Refusal). behind_written x at (length whole)) (a ∙ pick_false _ _ _ e)
 
   pub written_put : (r : ℕ) → r ≡ behind_written w at (length whole) → PutWhole t at r out whole
   written_put r q =
@@ -112,19 +112,19 @@ module _ (t out : List ℕ) (at : ℕ) (w : Written) (part : List ℕ) (h : at �
       (subst (λ (k : ℕ). PutWhole t at k out out) (sym (kept e r q)) (left_out t at out (over e))))
 
 -- a string that was written in a buffer: its bytes are the first ones
-abbrev is_wrote : Written → Bool
-is_wrote (Wrote n) = true
-is_wrote (Refused k) = false
+abbrev is_wrote : Result ℕ Refusal → Bool
+is_wrote (Ok n) = true
+is_wrote (Err k) = false
 
-abbrev size_of : Written → ℕ
-size_of (Wrote n) = n
-size_of (Refused k) = 0
+abbrev size_of : Result ℕ Refusal → ℕ
+size_of (Ok n) = n
+size_of (Err k) = 0
 
-module _ (s line : List ℕ) (w : Written) (a : w ≡ written_in (length line) (write_string s)) where
+module _ (s line : List ℕ) (w : Result ℕ Refusal) (a : w ≡ written_in (length line) (write_string s)) where
   abbrev string : List ℕ
   string = write_string s
 
-  module _ (n : ℕ) (e : w ≡ Wrote n) where
+  module _ (n : ℕ) (e : w ≡ Ok n) where
     string_fits : leb (length string) (length line) ≡ true
     unfolding written_in
     string_fits =
@@ -153,7 +153,7 @@ module _ (s line : List ℕ) (w : Written) (a : w ≡ written_in (length line) (
       unfolding quoted_in
       string_put p = whole_as (pick_true _ _ _ string_fits ∙ ap safe_text (sym string_taken)) p
 
-  pub string_left : (k at : ℕ) (out : List ℕ) → w ≡ Refused k → PutWhole (quoted_in (length line) s) at at out out
+  pub string_left : (k : Refusal) (at : ℕ) (out : List ℕ) → w ≡ Err k → PutWhole (quoted_in (length line) s) at at out out
   unfolding quoted_in written_in
   string_left k at out e =
       split (leb (length string) (length line))

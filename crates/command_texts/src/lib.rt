@@ -10,7 +10,7 @@ ghost use Rattle.strings_write.specs.Write.{write_string, wrote_into};
 ghost use Rattle.terminals.specs.Terminals.{safe_text};
 ghost use Rattle.command_texts.specs.Texts.{PutWhole, behind_written, quoted_in, line_in};
 
-use prelude::answers::Written;
+use prelude::refusals::Refusal;
 use prelude::slices;
 use strings_write::write;
 
@@ -37,17 +37,17 @@ pub fn put(s: &[u8], at: usize, out: &mut [u8]) -> usize
 }
 
 // The place behind what was written into a buffer from a place on.
-pub fn behind(written: Written, at: usize, out: &[u8]) -> usize
+pub fn behind(written: Result<usize, Refusal>, at: usize, out: &[u8]) -> usize
     ensures { result ≡ behind_written written at (length out.now) }
 {
     match written {
-        Written::Wrote(n) => {
+        Ok(n) => {
             if out.len() < at {
                 return at;
             }
             at + slices::least(n, out.len() - at)
         }
-        Written::Refused(_) => at,
+        Err(_) => at,
     }
 }
 
@@ -79,10 +79,9 @@ pub fn put_quoted(s: &[u8], at: usize, line: &mut [u8], out: &mut [u8]) -> usize
     ensures put_whole { PutWhole (quoted_in (length line.old) s.now) at result out.old out.new }
     ensures made { line.new ≡ wrote_into (write_string s.now) line.old }
 {
-    let written = write::write(s, line);
-    match written {
-        Written::Wrote(n) => put_shown(n, line, at, out),
-        Written::Refused(_) => at,
+    match write::write(s, line) {
+        Ok(n) => put_shown(n, line, at, out),
+        Err(_) => at,
     }
 }
 
