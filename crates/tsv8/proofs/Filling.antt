@@ -12,6 +12,8 @@ use borrow.Rule.Slice.PartMut.{put_mid}
 use lib.Dec.{eqb}
 use lib.ListN.{length, get_or, take, drop, set, length-drop, length-append}
 use lib.Seq.{sets, length-sets, drop-drop, take-suc, length-take-le}
+use Rattle.std.specs.Prelude.{Result, Ok, Err}
+use Rattle.prelude.specs.declared.refusals.Refused.{Refused}
 use Rattle.prelude.specs.Bytes.{TAB}
 use Rattle.prelude.specs.Limits.{text_max}
 use Rattle.prelude.specs.Pick.{pick}
@@ -28,14 +30,14 @@ use Rattle.json8.specs.Leaves.{slashed}
 use Rattle.lines.specs.Line.{LineRead, ignored, holds, faulty, leads, strip, trimmed, read_stripped}
 use Rattle.lines.proofs.LineEnds.{strip_part}
 use Rattle.tsv8_cells.specs.declared.cells.Cell.{Cell as CellOut}
-use Rattle.tsv8_cells.specs.declared.cells.Cell.TheVariants.{Got, Refused}
 use Rattle.tsv8_cells.specs.Parts.{Part, part}
-use Rattle.tsv8_cells.specs.Types.{ColumnType, bools, ints, floats, strs, type_number, is_int, is_float}
+use Rattle.tsv8_cells.specs.declared.columns.ColumnType.{ColumnType}
+use Rattle.tsv8_cells.specs.declared.columns.ColumnType.TheVariants.{Bool as bools, Int as ints, Float as floats, Str as strs}
+use Rattle.tsv8_cells.specs.Types.{type_number, is_int, is_float}
 use Rattle.tsv8_cells.specs.Cells.{Cell, cell, Cells, got, refused, more, chain, string_cell, cell_for, cell_by, cell_at, cells_of}
 use Rattle.tsv8.specs.Lines.{read_lines}
 use Rattle.tsv8.specs.Answers.{flat}
 use Rattle.tsv8_cells.specs.inner.Runs.{cell_run, Starts, line_end, cells_at, lines_from}
-use Rattle.tsv8_cells.specs.inner.Typed.{type_of, types_of}
 use Rattle.tsv8_cells.specs.inner.Told.{stored_by, CellGot, CellBy, CellTold}
 use Rattle.tsv8.specs.inner.Rows.{row_read}
 use Rattle.tsv8.specs.inner.Stored.{cells_in, bytes_in, cell_here, Fits}
@@ -43,7 +45,6 @@ use Rattle.tsv8_cells.proofs.Places.{line_on, cells_tab, cells_none, cell_ended,
 use Rattle.tsv8_cells.proofs.Stripped.{strip_le, cell_long}
 use Rattle.tsv8.proofs.RowTexts.{types_from, types_long, types_next, types_over, types_first, cells_step, cells_done, tab_there, tab_passes}
 use Rattle.tsv8.proofs.LineTexts.{skip_got, row_reads, row_got}
-use Rattle.tsv8.proofs.TypeTexts.{types_append}
 
 pub flat_append : (a b : List Cell) → flat (a ++ b) ≡ flat a ++ flat b
 unfolding flat
@@ -69,18 +70,18 @@ pub record Chained (m : ℕ) (first : Cells) (go : ℕ → Cells) (cs : List Cel
 more_is : (xs : List Cell) (ys : List ℕ) (x : Cells) (cs : List Cell) (bs : List ℕ) → more xs ys x ≡ got cs bs
     → (o : List Cell) × ((r : List ℕ) × ((x ≡ got o r) × ((cs ≡ xs ++ o) × (bs ≡ ys ++ r))))
 more_is xs ys (got o r) cs bs e = (o, (r, (refl, (let a : xs ++ o ≡ cs = cc in sym a, let b : ys ++ r ≡ bs = cc in sym b))))
-more_is xs ys (refused number at) cs bs e = never cc
+more_is xs ys (refused refusal at) cs bs e = never cc
 
 pub chained : (m : ℕ) (x : Cells) (go : ℕ → Cells) (cs : List Cell) (bs : List ℕ) → chain m x go ≡ got cs bs → Chained m x go cs bs
 chained m (got xs ys) go cs bs e =
     let (o, (r, (a, (b, d)))) = more_is xs ys (go (m + length ys)) cs bs e in
     record { cells = xs; bytes = ys; same = refl; others = o; rest = r; behind = a; all = b; every = d }
-chained m (refused number at) go cs bs e = never cc
+chained m (refused refusal at) go cs bs e = never cc
 
 -- a cell that is read is one
 abbrev One : Cells → Type 0
 One (got cs bs) = length cs ≡ 1
-One (refused number at) = Unit
+One (refused refusal at) = Unit
 
 pick_one : (b : Bool) (x y : Cells) → One x → One y → One (pick b x y)
 pick_one b x y f g = pick_case One b x y (λ e. f) (λ e. g)
@@ -98,7 +99,7 @@ for_one strs q p m w bs = string_one (opening w) (slashed w) p m w bs
 
 by_one : (v : LineRead) (t : ColumnType) (q p m : ℕ) (w : List ℕ) → One (cell_by v t q p m w)
 by_one ignored t q p m w = tt
-by_one (faulty number at) t q p m w = tt
+by_one (faulty refusal at) t q p m w = tt
 by_one (holds kind bs) t q p m w = for_one t q p m w bs
 
 pub cell_one : (t : ColumnType) (m : ℕ) (c : Part) (cs : List Cell) (bs : List ℕ) → cell_at t m c ≡ got cs bs → length cs ≡ 1
@@ -123,29 +124,38 @@ unfolding flat
 flat_none = refl
 
 -- one cell
-module _ (s : List ℕ) (q e ty i m : ℕ) (h : q ≤ length s) (ee : e ≡ q + cell_run (drop q s)) where
+module _ (s : List ℕ) (q e : ℕ) (ty : ColumnType) (i m : ℕ) (h : q ≤ length s) (ee : e ≡ q + cell_run (drop q s)) where
   abbrev w : List ℕ
   w = strip (take (e - q) (drop q s))
 
   abbrev want : Cells
-  want = cell_here s (type_of ty) m q
+  want = cell_here s ty m q
 
   pub here_in : (q ≤ e) × (e ≤ length s)
   here_in = (omega (arith, ee), (cell_ended s q e h ee).0)
 
-  here_is : cell_at (type_of ty) m (part q (take (e - q) (drop q s))) ≡ want
-  here_is = ap (λ (k : ℕ). cell_at (type_of ty) m (part q (take k (drop q s)))) (let z : e - q ≡ cell_run (drop q s) = omega (arith, ee) in z)
+  here_is : cell_at ty m (part q (take (e - q) (drop q s))) ≡ want
+  here_is = ap (λ (k : ℕ). cell_at ty m (part q (take k (drop q s)))) (let z : e - q ≡ cell_run (drop q s) = omega (arith, ee) in z)
 
-  module _ (r : CellOut) (v : CellTold (cell_at (type_of ty) m (part q (take (e - q) (drop q s)))) w e m r) where
-    module _ (kind place size : ℕ) (g : r ≡ Got kind place size) where
-      told : CellGot (cell_at (type_of ty) m (part q (take (e - q) (drop q s)))) w e m kind place size
+  module _ (r : Result CellOut Refused) (v : CellTold (cell_at ty m (part q (take (e - q) (drop q s)))) w e m r) where
+    module _ (o : CellOut) (g : r ≡ Ok o) where
+      abbrev kind : ℕ
+      kind = o.kind
+
+      abbrev place : ℕ
+      place = o.place
+
+      abbrev size : ℕ
+      size = o.size
+
+      told : CellGot (cell_at ty m (part q (take (e - q) (drop q s)))) w e m kind place size
       told = subst (CellBy _ w e m) g v.so
 
       same : want ≡ got (cell kind place size ∷ []) told.bytes
       same = sym here_is ∙ told.same
 
       pub numbers_small : length s ≤ text_max → m ≤ text_max + 1 → (place ≤ text_max + 1) × (size ≤ text_max + 1)
-      numbers_small l o =
+      numbers_small l n =
           let y = told in
           let k : size ≤ text_max = omega (arith, y.small, strip_le (take (e - q) (drop q s)), cell_long s q e here_in.0 here_in.1, here_in.1) in
           split (eqb kind 6) (λ z. (omega (arith, y.stored (eqb-true kind 6 z)), omega (arith, k)))
@@ -195,10 +205,10 @@ module _ (s : List ℕ) (q e ty i m : ℕ) (h : q ≤ length s) (ee : e ≡ q + 
           let b : bytes_in want ≡ [] = ap bytes_in same ∙ told.denotes ∙ rw (ne_eqb kind 6 ne) in
           (ee, (omega (arith, ap length b), (stored_table t t' x, ap (sets st m) (sym b))))
 
-    pub none_put : (number at : ℕ) → r ≡ Refused number at → (t st : List ℕ)
+    pub none_put : (f : Refused) → r ≡ Err f → (t st : List ℕ)
         → (e ≡ q + cell_run (drop q s)) × ((m ≡ m + length (bytes_in want)) × ((t ≡ sets t (3 * i) (flat (cells_in want))) × (st ≡ sets st m (bytes_in want))))
-    none_put number at g t st =
-        let y : want ≡ refused number at = sym here_is ∙ subst (CellBy _ w e m) g v.so in
+    none_put f g t st =
+        let y : want ≡ refused f.refusal f.place = sym here_is ∙ subst (CellBy _ w e m) g v.so in
         let b : bytes_in want ≡ [] = ap bytes_in y in
         let d : flat (cells_in want) ≡ [] = ap (λ (x : Cells). flat (cells_in x)) y ∙ flat_none in
         (ee, (omega (arith, ap length b), (ap (sets t (3 * i)) (sym d), ap (sets st m) (sym b))))
@@ -213,7 +223,7 @@ pub filled_is : (c new : List ℕ) (a n : ℕ) → a ≡ leads c → n ≡ lengt
 filled_is c new a n ea en e = e ∙ ap (λ (x : List ℕ). denoted (read_token x)) (strip_part c a n ea en)
 
 -- a line's cells: k are stored, and the rest is left
-pub record Writing (s types : List ℕ) (from n i m : ℕ) (cs : List Cell) (bs table₀ store₀ : List ℕ) (q k j : ℕ) (table store : List ℕ) : Type 0 where
+pub record Writing (s : List ℕ) (types : List ColumnType) (from n i m : ℕ) (cs : List Cell) (bs table₀ store₀ : List ℕ) (q k j : ℕ) (table store : List ℕ) : Type 0 where
   pub cells : List Cell
   pub bytes : List ℕ
   pub others : List Cell
@@ -231,10 +241,10 @@ pub record Writing (s types : List ℕ) (from n i m : ℕ) (cs : List Cell) (bs 
   pub numbers : table ≡ sets table₀ (3 * i) (flat cells)
   pub put : store ≡ sets store₀ m bytes
 
-module _ (s types : List ℕ) (from n i m : ℕ) (table₀ store₀ : List ℕ) (a : n ≤ length types) (f : Fits (cells_of (types_of (take n types)) m (cells_at s from)) i m table₀ store₀)
+module _ (s : List ℕ) (types : List ColumnType) (from n i m : ℕ) (table₀ store₀ : List ℕ) (a : n ≤ length types) (f : Fits (cells_of (take n types) m (cells_at s from)) i m table₀ store₀)
     (d : length (cells_at s from) ≡ n) where
   row_count : length f.cells ≡ n
-  row_count = cells_count (types_of (take n types)) m (cells_at s from) f.cells f.bytes f.same (d ∙ sym (types_long types n a)) ∙ types_long types n a
+  row_count = cells_count (take n types) m (cells_at s from) f.cells f.bytes f.same (d ∙ sym (types_long types n a)) ∙ types_long types n a
 
   pub writing_none : from ≤ length s → Starts s from → Writing s types from n i m f.cells f.bytes table₀ store₀ from 0 m table₀ store₀
   unfolding flat
@@ -265,14 +275,14 @@ module _ (s types : List ℕ) (from n i m : ℕ) (table₀ store₀ : List ℕ) 
     pub store_long : length store ≡ length store₀
     store_long = ap length w.put ∙ length-sets store₀ m w.bytes
 
-    pub row_put : n ≤ k → (q ≡ line_end s from) × ((j ≡ m + length (bytes_in (cells_of (types_of (take n types)) m (cells_at s from))))
-        × ((table ≡ sets table₀ (3 * i) (flat (cells_in (cells_of (types_of (take n types)) m (cells_at s from))))) × (store ≡ sets store₀ m (bytes_in (cells_of (types_of (take n types)) m (cells_at s from))))))
+    pub row_put : n ≤ k → (q ≡ line_end s from) × ((j ≡ m + length (bytes_in (cells_of (take n types) m (cells_at s from))))
+        × ((table ≡ sets table₀ (3 * i) (flat (cells_in (cells_of (take n types) m (cells_at s from))))) × (store ≡ sets store₀ m (bytes_in (cells_of (take n types) m (cells_at s from))))))
     row_put h =
         let z : got [] [] ≡ got w.others w.left = sym (ap (λ (ts : List ColumnType). cells_of ts j (cells_at s q)) (types_over types n k h) ∙ cells_done j (cells_at s q)) ∙ w.rest in
         let o : [] ≡ w.others = cc in
         let l : [] ≡ w.left = cc in
-        let cs : w.cells ≡ cells_in (cells_of (types_of (take n types)) m (cells_at s from)) = sym (append-nil w.cells) ∙ ap (λ (x : List Cell). w.cells ++ x) o ∙ sym w.all ∙ sym (ap cells_in f.same) in
-        let bs : w.bytes ≡ bytes_in (cells_of (types_of (take n types)) m (cells_at s from)) = sym (append-nil w.bytes) ∙ ap (λ (x : List ℕ). w.bytes ++ x) l ∙ sym w.every ∙ sym (ap bytes_in f.same) in
+        let cs : w.cells ≡ cells_in (cells_of (take n types) m (cells_at s from)) = sym (append-nil w.cells) ∙ ap (λ (x : List Cell). w.cells ++ x) o ∙ sym w.all ∙ sym (ap cells_in f.same) in
+        let bs : w.bytes ≡ bytes_in (cells_of (take n types) m (cells_at s from)) = sym (append-nil w.bytes) ∙ ap (λ (x : List ℕ). w.bytes ++ x) l ∙ sym w.every ∙ sym (ap bytes_in f.same) in
         (at_end_lem, (w.stored ∙ ap (λ (x : List ℕ). m + length x) bs, (w.numbers ∙ ap (λ (x : List Cell). sets table₀ (3 * i) (flat x)) cs, w.put ∙ ap (sets store₀ m) bs)))
       where
         over : line_run (drop q s) ≡ 0
@@ -293,7 +303,7 @@ module _ (s types : List ℕ) (from n i m : ℕ) (table₀ store₀ : List ℕ) 
           (λ t. let z : length (cells_at s q) ≡ 0 = ap length (cells_none s q w.starts (eqb-false (get_or (drop q s) 0 0) TAB t)).0 in absurd (omega (arith, w.due, z)))
 
       abbrev one : Cells
-      one = cell_here s (type_of (get_or types k 0)) j (q + 1)
+      one = cell_here s (get_or types k bools) j (q + 1)
 
       abbrev e : ℕ
       e = q + 1 + cell_run (drop (q + 1) s)
@@ -307,7 +317,7 @@ module _ (s types : List ℕ) (from n i m : ℕ) (table₀ store₀ : List ℕ) 
       step =
           chained j one (λ y. cells_of (types_from types n (k + 1)) y (cells_at s e)) w.others w.left
           (sym (ap₂ (λ (l : List ColumnType) (r : List Part). cells_of l j r) (types_next types n k h (omega arith)) cells_are
-          ∙ cells_step (type_of (get_or types k 0)) (types_from types n (k + 1)) j (part (q + 1) (take (cell_run (drop (q + 1) s)) (drop (q + 1) s))) (cells_at s e)) ∙ w.rest)
+          ∙ cells_step (get_or types k bools) (types_from types n (k + 1)) j (part (q + 1) (take (cell_run (drop (q + 1) s)) (drop (q + 1) s))) (cells_at s e)) ∙ w.rest)
 
       one_bytes : length (bytes_in one) ≡ length step.bytes
       one_bytes = ap (λ (x : Cells). length (bytes_in x)) step.same
@@ -323,7 +333,7 @@ module _ (s types : List ℕ) (from n i m : ℕ) (table₀ store₀ : List ℕ) 
           → Writing s types from n i m f.cells f.bytes table₀ store₀ end (k + 1) count t' s'
       writing_more end count t' s' (ue, (uc, (ut, us))) =
           let x = step in
-          let n1 = cell_one (type_of (get_or types k 0)) j (part (q + 1) (take (cell_run (drop (q + 1) s)) (drop (q + 1) s))) x.cells x.bytes x.same in
+          let n1 = cell_one (get_or types k bools) j (part (q + 1) (take (cell_run (drop (q + 1) s)) (drop (q + 1) s))) x.cells x.bytes x.same in
           let lc : cells_in one ≡ x.cells = ap cells_in x.same in
           let lb : bytes_in one ≡ x.bytes = ap bytes_in x.same in
           let ce = cell_ended s (q + 1) end cell_fits.0 ue in
@@ -393,34 +403,30 @@ map_length : (a : List ColumnType) → length (map type_number a) ≡ length a
 map_length [] = refl
 map_length (t ∷ a) = ap suc (map_length a)
 
-abbrev pub numbers_of : List ℕ → ℕ → List ℕ
-numbers_of types k = map type_number (types_of (take k types))
+abbrev pub numbers_of : List ColumnType → ℕ → List ℕ
+numbers_of types k = map type_number (take k types)
 
 -- the first k are stored
-pub record Numbering (types out₀ : List ℕ) (n k : ℕ) (out : List ℕ) : Type 0 where
+pub record Numbering (types : List ColumnType) (out₀ : List ℕ) (n k : ℕ) (out : List ℕ) : Type 0 where
   pub few : k ≤ n
   pub same : out ≡ sets out₀ 0 (numbers_of types k)
 
-pub types_none : (types out : List ℕ) (n : ℕ) → Numbering types out n 0 out
-unfolding types_of
+pub types_none : (types : List ColumnType) (out : List ℕ) (n : ℕ) → Numbering types out n 0 out
 types_none types out n = record { few = omega arith; same = refl }
 
-numbers_more : (types : List ℕ) (k : ℕ) → k < length types → numbers_of types (k + 1) ≡ numbers_of types k ++ (type_number (type_of (get_or types k 0)) ∷ [])
-unfolding types_of
-numbers_more types k h =
-    rw (add-one k, take-suc types k 0 h)
-    (ap (map type_number) (types_append (take k types) (get_or types k 0 ∷ [])) ∙ map_append (types_of (take k types)) (type_of (get_or types k 0) ∷ []))
+numbers_more : (types : List ColumnType) (k : ℕ) → k < length types → numbers_of types (k + 1) ≡ numbers_of types k ++ (type_number (get_or types k bools) ∷ [])
+numbers_more types k h = rw (add-one k, take-suc types k bools h) (map_append (take k types) (get_or types k bools ∷ []))
 
-pub numbers_length : (types : List ℕ) (k : ℕ) → k ≤ length types → length (numbers_of types k) ≡ k
-numbers_length types k h = map_length (types_of (take k types)) ∙ types_long types k h
+pub numbers_length : (types : List ColumnType) (k : ℕ) → k ≤ length types → length (numbers_of types k) ≡ k
+numbers_length types k h = map_length (take k types) ∙ types_long types k h
 
-module _ (types out₀ : List ℕ) (n k : ℕ) (out : List ℕ) (w : Numbering types out₀ n k out) where
-  pub types_more : (v : ℕ) → k < n → n ≤ length types → v ≡ type_number (type_of (get_or types k 0)) → Numbering types out₀ n (k + 1) (set out k v)
+module _ (types : List ColumnType) (out₀ : List ℕ) (n k : ℕ) (out : List ℕ) (w : Numbering types out₀ n k out) where
+  pub types_more : (v : ℕ) → k < n → n ≤ length types → v ≡ type_number (get_or types k bools) → Numbering types out₀ n (k + 1) (set out k v)
   types_more v h l ev =
       record {
         few = omega arith;
         same =
-            (λ y. set (w.same y) k (ev y)) ∙ sets_append (numbers_of types k) (type_number (type_of (get_or types k 0)) ∷ []) out₀ 0 k (omega (arith, numbers_length types k (omega arith)))
+            (λ y. set (w.same y) k (ev y)) ∙ sets_append (numbers_of types k) (type_number (get_or types k bools) ∷ []) out₀ 0 k (omega (arith, numbers_length types k (omega arith)))
             ∙ ap (sets out₀ 0) (sym (numbers_more types k (omega arith)));
       }
 
@@ -446,10 +452,10 @@ pub record Spreading (s : List ℕ) (ts : List ColumnType) (m : ℕ) (cs : List 
   pub numbers : table ≡ sets table₀ 0 (flat cells)
   pub put : store ≡ sets store₀ m bytes
 
-module _ (s types : List ℕ) (from n m : ℕ) (table₀ store₀ : List ℕ) (a : n ≤ length types)
-    (f : Fits (read_lines false (types_of (take n types)) m (lines_from s from)) 0 m table₀ store₀) where
+module _ (s : List ℕ) (types : List ColumnType) (from n m : ℕ) (table₀ store₀ : List ℕ) (a : n ≤ length types)
+    (f : Fits (read_lines false (take n types) m (lines_from s from)) 0 m table₀ store₀) where
   abbrev ts : List ColumnType
-  ts = types_of (take n types)
+  ts = take n types
 
   pub spreading_none : from ≤ length s + 1 → Spreading s ts m f.cells f.bytes table₀ store₀ from 0 m table₀ store₀
   unfolding flat

@@ -11,23 +11,25 @@ use borrow.Author.Tests.{eq-eqb, ne_eqb, eqb-true, eqb-false, lt-ltb}
 use lib.Dec.{eqb, ltb}
 use lib.ListN.{length, get_or, take, drop, length-drop, length-append}
 use lib.Seq.{drop-cons, drop-drop}
+use Rattle.std.specs.Prelude.{Ok, Err}
+use Rattle.prelude.specs.declared.refusals.Refusal.{Refusal}
+use Rattle.prelude.specs.declared.refusals.Refused.{Refused}
 use Rattle.prelude.specs.Bytes.{TAB, LF}
 use Rattle.prelude.specs.Pick.{pick}
+use Rattle.prelude.specs.Refusals.{bad_header, bad_line, refused_at}
 use Rattle.prelude.proofs.Cases.{split, never}
 use Rattle.line_ends.specs.inner.Ends.{line_run}
 use Rattle.line_ends.proofs.Ends.{run_on, run_lf, run_within}
 use Rattle.tokens.specs.Words.{same_bytes}
 use Rattle.tsv8.specs.declared.rows.Row.{Row}
-use Rattle.tsv8.specs.declared.rows.Row.TheVariants.{Ended, Refused as RowRefused}
 use Rattle.tsv8.specs.declared.rows.Line.{Line as LineOut}
-use Rattle.tsv8.specs.declared.rows.Line.TheVariants.{Skipped, Read, Refused as LineRefused}
-use Rattle.tsv8.specs.declared.rows.Counted.TheVariants.{All, Refused as CountRefused}
-use Rattle.tsv8_cells.specs.Parts.{Part, part, Line, line, line_of, divided, is_gap, is_ignored}
-use Rattle.tsv8_cells.specs.Types.{ColumnType}
+use Rattle.tsv8.specs.declared.rows.Line.TheVariants.{Skipped, Read}
+use Rattle.tsv8_cells.specs.Parts.{Part, part, Line, line_of, divided, is_gap, is_ignored}
+use Rattle.tsv8_cells.specs.declared.columns.ColumnType.{ColumnType}
 use Rattle.tsv8_cells.specs.Cells.{Cell, Cells, got, refused, more, chain, cells_of}
 use Rattle.tsv8.specs.Lines.{LineSort, row, typing, other, stray, type_mark, sort_of, line_by, read_line, is_row, read_lines}
 use Rattle.tsv8_cells.specs.inner.Runs.{cell_run, gap_run, line_at, line_end, cells_at, lines_from}
-use Rattle.tsv8.specs.inner.Rows.{row_read, RowGot, RowBy, RowTold, LineSkipped, LineGot, LineBy, LineTold, LinesTold}
+use Rattle.tsv8.specs.inner.Rows.{row_read, RowGot, RowTold, LineSkipped, LineGot, LineTold, LinesTold}
 use Rattle.tsv8_cells.proofs.Places.{cell_on, cell_tab, cell_line, line_on, gap_over, gap_not, first_at, cells_on, lines_skip, lines_line, lines_none}
 use Rattle.tsv8.proofs.RowTexts.{more_more, more_none, more_got}
 
@@ -60,7 +62,7 @@ tab_gap : (x : ℕ) → x ≡ TAB → is_gap x ≡ false
 unfolding is_gap pick
 tab_gap x e = rw e
 
-behind_data : (y : Bool) (ts : List ColumnType) (m : ℕ) (l : Line) → line_by (pick y typing other) true ts m l ≡ refused 20 l.place
+behind_data : (y : Bool) (ts : List ColumnType) (m : ℕ) (l : Line) → line_by (pick y typing other) true ts m l ≡ refused bad_line l.place
 unfolding pick
 behind_data true ts m l = refl
 behind_data false ts m l = refl
@@ -73,7 +75,7 @@ sort_no_row x r e =
     (λ a. never (let z : stray ≡ row = sym (rw a) ∙ e in cc))
 
 skip_by : (c : Bool) (u : LineSort) (behind : Bool) (ts : List ColumnType) (m : ℕ) (l : Line) (go : ℕ → Cells) (cs : List Cell) (bs : List ℕ) → (u ≡ row → ⊥)
-    → chain m (pick c (line_by u behind ts m l) (refused 20 l.place)) go ≡ got cs bs → go m ≡ got cs bs
+    → chain m (pick c (line_by u behind ts m l) (refused bad_line l.place)) go ≡ got cs bs → go m ≡ got cs bs
 unfolding pick
 skip_by false u behind ts m l go cs bs n e = never cc
 skip_by true row behind ts m l go cs bs n e = absurd (n refl)
@@ -89,10 +91,10 @@ pub row_got : (ts : List ColumnType) (m p : ℕ) (ps : List Part) (cs : List Cel
 unfolding row_read pick
 row_got ts m p ps cs bs e =
     split (eqb (length ps) (length ts)) (λ q. (eqb-true (length ps) (length ts) q, sym (rw q) ∙ e))
-    (λ q. never (let z : refused 20 p ≡ got cs bs = sym (rw q) ∙ e in cc))
+    (λ q. never (let z : refused bad_line p ≡ got cs bs = sym (rw q) ∙ e in cc))
 
 as_read : (s : List ℕ) (at : ℕ) (ts : List ColumnType) (m : ℕ)
-    → pick (eqb (length (cells_at s at)) (length ts)) (line_by row true ts m (line_of (part at (line_at s at)))) (refused 20 at) ≡ row_read ts m at (cells_at s at)
+    → pick (eqb (length (cells_at s at)) (length ts)) (line_by row true ts m (line_of (part at (line_at s at)))) (refused bad_line at) ≡ row_read ts m at (cells_at s at)
 unfolding row_read cells_at
 as_read s at ts m = refl
 
@@ -140,36 +142,36 @@ module _ (s : List ℕ) (at : ℕ) (h : at < length s) where
     line_is e = ap (read_lines behind ts m) (lines_line s at e)
 
     line_by_lem : read_line behind ts m (line_of (part at (line_at s at)))
-        ≡ pick (eqb (length (cells_at s at)) (length ts)) (line_by (sort_of first) behind ts m (line_of (part at (line_at s at)))) (refused 20 at)
+        ≡ pick (eqb (length (cells_at s at)) (length ts)) (line_by (sort_of first) behind ts m (line_of (part at (line_at s at)))) (refused bad_line at)
     unfolding read_line cells_at
     line_by_lem = refl
 
     -- one that is refused whatever its count
-    refused_line : is_ignored (line_at s at) ≡ false → (number : ℕ) → read_line behind ts m (line_of (part at (line_at s at))) ≡ refused number at
-        → read_lines behind ts m (lines_from s at) ≡ refused number at
-    refused_line e number q = line_is e ∙ ap (λ (o : Cells). chain m o (λ d. read_lines (is_row (sort_of first)) ts d rest)) q
+    refused_line : is_ignored (line_at s at) ≡ false → (refusal : Refusal) → read_line behind ts m (line_of (part at (line_at s at))) ≡ refused refusal at
+        → read_lines behind ts m (lines_from s at) ≡ refused refusal at
+    refused_line e refusal q = line_is e ∙ ap (λ (o : Cells). chain m o (λ d. read_lines (is_row (sort_of first)) ts d rest)) q
 
     -- begun by neither tab nor `!`
     module _ (t : x ≡ TAB → ⊥) (b : x ≡ 0x21 → ⊥) (n e : ℕ) (ee : e ≡ at + gap_run (drop at s)) (o : Bool) (eo : o ≡ eqb (line_run (drop e s)) 0) where
       there : drop e s ≡ drop (gap_run (drop at s)) (drop at s)
       there = ap (λ (k : ℕ). drop k s) ee ∙ sym (drop-drop (gap_run (drop at s)) at s)
 
-      pub gap_skipped : o ≡ true → LineTold s behind ts m at n (Skipped e)
+      pub gap_skipped : o ≡ true → LineTold s behind ts m at n (Ok (Skipped e))
       gap_skipped q =
           let g = gap_over (drop at s) (ap line_run (sym there) ∙ eqb-true _ _ (sym eo ∙ q)) in
           let z : line_end s at ≡ e = omega (arith, g.1) in
           record { so = record { ends = sym z; same = ap (read_lines behind ts m) (lines_skip s at g.0 ∙ ap (λ (k : ℕ). lines_from s (suc k)) z) } }
 
-      pub gap_stray : o ≡ false → LineTold s behind ts m at n (LineRefused 20 at)
-      gap_stray q =
+      pub gap_stray : o ≡ false → (f : Refused) → f ≡ refused_at bad_line at → LineTold s behind ts m at n (Err f)
+      gap_stray q f ef =
           let i : is_ignored (line_at s at) ≡ false = gap_not (drop at s) (λ z. eqb-false _ _ (sym eo ∙ q) (ap line_run there ∙ z)) in
-          record { so = refused_line i 20 (line_by_lem ∙ stray_by (eqb (length (cells_at s at)) (length ts)) (first_begins (not_ended i) t)) }
+          rw ef record { so = refused_line i bad_line (line_by_lem ∙ stray_by (eqb (length (cells_at s at)) (length ts)) (first_begins (not_ended i) t)) }
         where
           stray_by : (y : Bool) → first ≡ x ∷ take (cell_run (drop (suc at) s)) (drop (suc at) s)
-              → pick y (line_by (sort_of first) behind ts m (line_of (part at (line_at s at)))) (refused 20 at) ≡ refused 20 at
+              → pick y (line_by (sort_of first) behind ts m (line_of (part at (line_at s at)))) (refused bad_line at) ≡ refused bad_line at
           stray_by y f =
-              ap (λ (u : LineSort). pick y (line_by u behind ts m (line_of (part at (line_at s at)))) (refused 20 at)) (ap sort_of f ∙ stray_sort x (take (cell_run (drop (suc at) s)) (drop (suc at) s)) b)
-              ∙ both y (refused 20 at)
+              ap (λ (u : LineSort). pick y (line_by u behind ts m (line_of (part at (line_at s at)))) (refused bad_line at)) (ap sort_of f ∙ stray_sort x (take (cell_run (drop (suc at) s)) (drop (suc at) s)) b)
+              ∙ both y (refused bad_line at)
 
     -- begun by `!`
     module _ (b : x ≡ 0x21) (q : ℕ) (eq : q ≡ at + cell_run (drop at s)) (c n : ℕ) (ec : c ≡ length (cells_at s q)) (l : length ts ≡ n) where
@@ -190,18 +192,18 @@ module _ (s : List ℕ) (at : ℕ) (h : at < length s) where
           let f = first_begins no_lf no_tab in
           ap sort_of f ∙ note_sort x (take (cell_run (drop (suc at) s)) (drop (suc at) s)) b ∙ ap (λ (u : List ℕ). pick (same_bytes u type_mark) typing other) (sym f)
 
-      pub note_count : (c ≡ n → ⊥) → LineTold s behind ts m at n (LineRefused 20 at)
+      pub note_count : (c ≡ n → ⊥) → (f : Refused) → f ≡ refused_at bad_line at → LineTold s behind ts m at n (Err f)
       unfolding pick
-      note_count ne = record { so = refused_line stays 20 (line_by_lem ∙ rw (ne_eqb (length (cells_at s at)) (length ts) (λ z. ne (sym count_is ∙ z ∙ l)))) }
+      note_count ne f ef = rw ef record { so = refused_line stays bad_line (line_by_lem ∙ rw (ne_eqb (length (cells_at s at)) (length ts) (λ z. ne (sym count_is ∙ z ∙ l)))) }
 
       module _ (ce : c ≡ n) where
         counted : read_line behind ts m (line_of (part at (line_at s at))) ≡ line_by (sort_of first) behind ts m (line_of (part at (line_at s at)))
         unfolding pick
         counted = line_by_lem ∙ rw (eq-eqb (length (cells_at s at)) (length ts) (count_is ∙ ce ∙ sym l))
 
-        pub note_behind : behind ≡ true → LineTold s behind ts m at n (LineRefused 20 at)
-        note_behind z =
-            record { so = refused_line stays 20 (counted ∙ rw (z, sort_is) (behind_data (same_bytes first type_mark) ts m (line_of (part at (line_at s at))))) }
+        pub note_behind : behind ≡ true → (f : Refused) → f ≡ refused_at bad_line at → LineTold s behind ts m at n (Err f)
+        note_behind z f ef =
+            rw ef record { so = refused_line stays bad_line (counted ∙ rw (z, sort_is) (behind_data (same_bytes first type_mark) ts m (line_of (part at (line_at s at))))) }
 
         module _ (z : behind ≡ false) (d : Bool) (ed : d ≡ same_bytes (take (q - at) (drop at s)) type_mark) where
           first_is : first ≡ take (q - at) (drop at s)
@@ -210,11 +212,11 @@ module _ (s : List ℕ) (at : ℕ) (h : at < length s) where
           mark_is : same_bytes first type_mark ≡ d
           mark_is = ap (λ (u : List ℕ). same_bytes u type_mark) first_is ∙ sym ed
 
-          pub note_typing : d ≡ true → LineTold s behind ts m at n (LineRefused 19 at)
+          pub note_typing : d ≡ true → (f : Refused) → f ≡ refused_at bad_header at → LineTold s behind ts m at n (Err f)
           unfolding pick
-          note_typing y = record { so = refused_line stays 19 (counted ∙ rw (z, sort_is, mark_is ∙ y)) }
+          note_typing y f ef = rw ef record { so = refused_line stays bad_header (counted ∙ rw (z, sort_is, mark_is ∙ y)) }
 
-          pub note_other : (e : ℕ) → d ≡ false → e ≡ q + line_run (drop q s) → LineTold s behind ts m at n (Skipped e)
+          pub note_other : (e : ℕ) → d ≡ false → e ≡ q + line_run (drop q s) → LineTold s behind ts m at n (Ok (Skipped e))
           unfolding pick
           note_other e y ee =
               let w : line_end s at ≡ e =
@@ -248,22 +250,22 @@ module _ (s : List ℕ) (at : ℕ) (h : at < length s) where
     row_reads t =
         let o : sort_of first ≡ row = ap sort_of (first_none t) ∙ no_first in
         line_is (line_stays (λ z. omega (arith, t, z)) (tab_gap x t))
-        ∙ (λ i. chain m ((line_by_lem ∙ ap (λ (u : LineSort). pick (eqb (length (cells_at s at)) (length ts)) (line_by u behind ts m (line_of (part at (line_at s at)))) (refused 20 at)) o ∙ as_read s at ts m) i) (λ d. read_lines (is_row (o i)) ts d rest))
+        ∙ (λ i. chain m ((line_by_lem ∙ ap (λ (u : LineSort). pick (eqb (length (cells_at s at)) (length ts)) (line_by u behind ts m (line_of (part at (line_at s at)))) (refused bad_line at)) o ∙ as_read s at ts m) i) (λ d. read_lines (is_row (o i)) ts d rest))
 
     -- begun by a tab
-    module _ (t : x ≡ TAB) (n : ℕ) (r : Row) (w : RowTold (row_read ts m at (cells_at s at)) (line_end s at) at n m r) where
+    module _ (t : x ≡ TAB) (n : ℕ) where
       row_stays : is_ignored (line_at s at) ≡ false
       row_stays = line_stays (λ z. omega (arith, t, z)) (tab_gap x t)
 
       row_is : read_line behind ts m (line_of (part at (line_at s at))) ≡ row_read ts m at (cells_at s at)
-      row_is = line_by_lem ∙ ap (λ (u : LineSort). pick (eqb (length (cells_at s at)) (length ts)) (line_by u behind ts m (line_of (part at (line_at s at)))) (refused 20 at)) (ap sort_of (first_none t) ∙ no_first) ∙ as_row
+      row_is = line_by_lem ∙ ap (λ (u : LineSort). pick (eqb (length (cells_at s at)) (length ts)) (line_by u behind ts m (line_of (part at (line_at s at)))) (refused bad_line at)) (ap sort_of (first_none t) ∙ no_first) ∙ as_row
         where
-          as_row : pick (eqb (length (cells_at s at)) (length ts)) (line_by row behind ts m (line_of (part at (line_at s at)))) (refused 20 at) ≡ row_read ts m at (cells_at s at)
+          as_row : pick (eqb (length (cells_at s at)) (length ts)) (line_by row behind ts m (line_of (part at (line_at s at)))) (refused bad_line at) ≡ row_read ts m at (cells_at s at)
           as_row = as_read s at ts m
 
-      pub row_line : (e j : ℕ) → r ≡ Ended e j → LineTold s behind ts m at n (Read e j)
-      row_line e j q =
-          let g : RowGot (row_read ts m at (cells_at s at)) (line_end s at) at n m e j = subst (RowBy (row_read ts m at (cells_at s at)) (line_end s at) at n m) q w.so in
+      pub row_line : (r : Row) → RowTold (row_read ts m at (cells_at s at)) (line_end s at) at n m (Ok r) → LineTold s behind ts m at n (Ok (Read r))
+      row_line r w =
+          let g : RowGot (row_read ts m at (cells_at s at)) (line_end s at) at n m r.end r.stored = w.so in
           record {
             so = record {
               cells = g.cells;
@@ -282,9 +284,9 @@ module _ (s : List ℕ) (at : ℕ) (h : at < length s) where
           rows : sort_of first ≡ row
           rows = ap sort_of (first_none t) ∙ no_first
 
-      pub row_stop : (number place : ℕ) → r ≡ RowRefused number place → LineTold s behind ts m at n (LineRefused number place)
-      row_stop number place q =
-          let g : row_read ts m at (cells_at s at) ≡ refused number place = subst (RowBy (row_read ts m at (cells_at s at)) (line_end s at) at n m) q w.so in
+      pub row_stop : (f : Refused) → RowTold (row_read ts m at (cells_at s at)) (line_end s at) at n m (Err f) → LineTold s behind ts m at n (Err f)
+      row_stop f w =
+          let g : row_read ts m at (cells_at s at) ≡ refused f.refusal f.place = w.so in
           record { so = line_is row_stays ∙ ap (λ (o : Cells). chain m o (λ d. read_lines (is_row (sort_of first)) ts d rest)) (row_is ∙ g) }
 
 -- all lines: those passed, and the rest
@@ -315,7 +317,7 @@ line_in_lem : (s : List ℕ) (at e : ℕ) → at < length s → e ≡ line_end s
 line_in_lem s at e h q = (omega (arith, q), omega (arith, q, run_within (drop at s), length-drop at s))
 
 module _ (s : List ℕ) (ts : List ColumnType) (from n m at c j : ℕ) (w : Passing s ts from n m at c j) where
-  pub passing_end : length s ≤ at → LinesTold (length s) (read_lines false ts m (lines_from s from)) m (All c j)
+  pub passing_end : length s ≤ at → LinesTold (length s) (read_lines false ts m (lines_from s from)) m (Ok (record { cells = c; stored = j }))
   unfolding read_lines
   passing_end h =
       record {
@@ -329,16 +331,16 @@ module _ (s : List ℕ) (ts : List ColumnType) (from n m at c j : ℕ) (w : Pass
         };
       }
 
-  module _ (h : at < length s) (r : LineOut) (v : LineTold s (ltb 0 c) ts j at n r) where
-    pub passing_stop : (number place : ℕ) → r ≡ LineRefused number place → LinesTold (length s) (read_lines false ts m (lines_from s from)) m (CountRefused number place)
-    passing_stop number place q =
-        let g : read_lines (ltb 0 c) ts j (lines_from s at) ≡ refused number place = subst (LineBy s (ltb 0 c) ts j at n) q v.so in
-        record { so = w.same ∙ ap (more w.cells w.bytes) g }
+  pub passing_stop : (f : Refused) → LineTold s (ltb 0 c) ts j at n (Err f) → LinesTold (length s) (read_lines false ts m (lines_from s from)) m (Err f)
+  passing_stop f v =
+      let g : read_lines (ltb 0 c) ts j (lines_from s at) ≡ refused f.refusal f.place = v.so in
+      record { so = w.same ∙ ap (more w.cells w.bytes) g }
 
+  module _ (h : at < length s) (r : LineOut) (v : LineTold s (ltb 0 c) ts j at n (Ok r)) where
     module _ (e : ℕ) where
       pub passing_skip : r ≡ Skipped e → Passing s ts from n m (e + 1) c j
       passing_skip q =
-          let g : LineSkipped s (ltb 0 c) ts j at e = subst (LineBy s (ltb 0 c) ts j at n) q v.so in
+          let g : LineSkipped s (ltb 0 c) ts j at e = (subst (λ (u : LineOut). LineTold s (ltb 0 c) ts j at n (Ok u)) q v).so in
           let i = line_in_lem s at e h g.ends in
           record {
             cells = w.cells;
@@ -352,31 +354,37 @@ module _ (s : List ℕ) (ts : List ColumnType) (from n m at c j : ℕ) (w : Pass
           }
 
       pub skip_in : r ≡ Skipped e → (at ≤ e) × (e ≤ length s)
-      skip_in q = let g : LineSkipped s (ltb 0 c) ts j at e = subst (LineBy s (ltb 0 c) ts j at n) q v.so in line_in_lem s at e h g.ends
+      skip_in q = let g : LineSkipped s (ltb 0 c) ts j at e = (subst (λ (u : LineOut). LineTold s (ltb 0 c) ts j at n (Ok u)) q v).so in line_in_lem s at e h g.ends
 
-      module _ (d : ℕ) (q : r ≡ Read e d) where
-        got_line : LineGot s (ltb 0 c) ts j at n e d
-        got_line = subst (LineBy s (ltb 0 c) ts j at n) q v.so
+    module _ (o : Row) (q : r ≡ Read o) where
+      abbrev e : ℕ
+      e = o.end
 
-        pub read_in : (at + n ≤ e) × ((e ≤ length s) × (c + n ≤ e))
-        read_in = let i = line_in_lem s at e h got_line.ends in (got_line.room, (i.1, omega (arith, got_line.room, w.few)))
+      abbrev d : ℕ
+      d = o.stored
 
-        pub passing_read : 0 < n → Passing s ts from n m (e + 1) (c + n) d
-        passing_read p =
-            let g = got_line in
-            let i = line_in_lem s at e h g.ends in
-            record {
-              cells = w.cells ++ g.cells;
-              bytes = w.bytes ++ g.bytes;
-              same =
-                  w.same ∙ ap (more w.cells w.bytes) g.same ∙ more_more w.cells g.cells w.bytes g.bytes (read_lines true ts d (lines_from s (suc e)))
-                  ∙ (λ k. more (w.cells ++ g.cells) (w.bytes ++ g.bytes) (read_lines (sym some k) ts d (lines_from s (sym (add-one e) k))));
-              count = omega (arith, w.count, g.count, length-append w.cells g.cells);
-              stored = omega (arith, w.stored, g.stored, length-append w.bytes g.bytes);
-              small = omega (arith, g.small);
-              few = omega (arith, read_in.1.1);
-              inside = omega (arith, i.1);
-            }
-          where
-            some : ltb 0 (c + n) ≡ true
-            some = lt-ltb 0 (c + n) (omega arith)
+      got_line : LineGot s (ltb 0 c) ts j at n e d
+      got_line = (subst (λ (u : LineOut). LineTold s (ltb 0 c) ts j at n (Ok u)) q v).so
+
+      pub read_in : (at + n ≤ e) × ((e ≤ length s) × (c + n ≤ e))
+      read_in = let i = line_in_lem s at e h got_line.ends in (got_line.room, (i.1, omega (arith, got_line.room, w.few)))
+
+      pub passing_read : 0 < n → Passing s ts from n m (e + 1) (c + n) d
+      passing_read p =
+          let g = got_line in
+          let i = line_in_lem s at e h g.ends in
+          record {
+            cells = w.cells ++ g.cells;
+            bytes = w.bytes ++ g.bytes;
+            same =
+                w.same ∙ ap (more w.cells w.bytes) g.same ∙ more_more w.cells g.cells w.bytes g.bytes (read_lines true ts d (lines_from s (suc e)))
+                ∙ (λ k. more (w.cells ++ g.cells) (w.bytes ++ g.bytes) (read_lines (sym some k) ts d (lines_from s (sym (add-one e) k))));
+            count = omega (arith, w.count, g.count, length-append w.cells g.cells);
+            stored = omega (arith, w.stored, g.stored, length-append w.bytes g.bytes);
+            small = omega (arith, g.small);
+            few = omega (arith, read_in.1.1);
+            inside = omega (arith, i.1);
+          }
+        where
+          some : ltb 0 (c + n) ≡ true
+          some = lt-ltb 0 (c + n) (omega arith)

@@ -10,22 +10,22 @@ use borrow.Author.Tests.{eq-eqb, ne_eqb}
 use lib.Dec.{eqb}
 use lib.ListN.{length, get_or, take, drop, length-drop, length-append}
 use lib.Seq.{drop-cons, drop-drop, length-take-le}
+use Rattle.std.specs.Prelude.{Result, Ok, Err}
+use Rattle.prelude.specs.declared.refusals.Refused.{Refused}
 use Rattle.prelude.specs.Bytes.{TAB, LF}
 use Rattle.prelude.specs.Pick.{pick}
+use Rattle.prelude.specs.Refusals.{bad_line, refused_at}
 use Rattle.prelude.proofs.Cases.{split}
 use Rattle.prelude.proofs.Rest.{get_or_inside}
 use Rattle.line_ends.specs.inner.Ends.{line_run}
 use Rattle.line_ends.proofs.Ends.{run_on}
 use Rattle.lines.specs.Line.{strip}
 use Rattle.tsv8_cells.specs.declared.cells.Cell.{Cell as CellOut}
-use Rattle.tsv8_cells.specs.declared.cells.Cell.TheVariants.{Got, Refused}
-use Rattle.tsv8.specs.declared.rows.Row.{Row}
-use Rattle.tsv8.specs.declared.rows.Row.TheVariants.{Ended, Refused as RowRefused}
 use Rattle.tsv8_cells.specs.Parts.{Part, part}
-use Rattle.tsv8_cells.specs.Types.{ColumnType}
+use Rattle.tsv8_cells.specs.declared.columns.ColumnType.{ColumnType}
+use Rattle.tsv8_cells.specs.declared.columns.ColumnType.TheVariants.{Bool as bools}
 use Rattle.tsv8_cells.specs.Cells.{Cell, cell, Cells, got, refused, more, chain, cell_at, cells_of}
 use Rattle.tsv8_cells.specs.inner.Runs.{cell_run, Starts, line_end, cells_at}
-use Rattle.tsv8_cells.specs.inner.Typed.{type_of, types_of}
 use Rattle.tsv8_cells.specs.inner.Told.{stored_by, CellGot, CellBy, CellTold}
 use Rattle.tsv8.specs.inner.Rows.{row_read, refused_row, RowTold}
 use Rattle.tsv8_cells.proofs.Places.{cell_line, line_on, cells_tab, cells_none, cell_ended}
@@ -34,39 +34,32 @@ use Rattle.tsv8_cells.proofs.Stripped.{strip_le, cell_long}
 -- joining
 pub more_more : (xs cs : List Cell) (bs ds : List ℕ) (x : Cells) → more xs bs (more cs ds x) ≡ more (xs ++ cs) (bs ++ ds) x
 more_more xs cs bs ds (got es fs) = λ i. got (sym (append_assoc xs cs es) i) (sym (append_assoc bs ds fs) i)
-more_more xs cs bs ds (refused number at) = refl
+more_more xs cs bs ds (refused refusal at) = refl
 
 pub more_none : (x : Cells) → more [] [] x ≡ x
 more_none (got cs bs) = refl
-more_none (refused number at) = refl
+more_none (refused refusal at) = refl
 
 pub more_got : (xs : List Cell) (bs : List ℕ) → more xs bs (got [] []) ≡ got xs bs
 more_got xs bs = λ i. got (append-nil xs i) (append-nil bs i)
 
 -- the types of the columns from one on
-abbrev pub types_from : List ℕ → ℕ → ℕ → List ColumnType
-types_from types n k = types_of (take (n - k) (drop k types))
+abbrev pub types_from : List ColumnType → ℕ → ℕ → List ColumnType
+types_from types n k = take (n - k) (drop k types)
 
-pub types_length : (l : List ℕ) → length (types_of l) ≡ length l
-unfolding types_of
-types_length [] = refl
-types_length (x ∷ r) = ap suc (types_length r)
+pub types_long : (types : List ColumnType) (n : ℕ) → n ≤ length types → length (take n types) ≡ n
+types_long types n h = length-take-le n types h
 
-pub types_long : (types : List ℕ) (n : ℕ) → n ≤ length types → length (types_of (take n types)) ≡ n
-types_long types n h = types_length (take n types) ∙ length-take-le n types h
-
-pub types_next : (types : List ℕ) (n k : ℕ) → k < n → k < length types → types_from types n k ≡ type_of (get_or types k 0) ∷ types_from types n (k + 1)
-unfolding types_of
+pub types_next : (types : List ColumnType) (n k : ℕ) → k < n → k < length types → types_from types n k ≡ get_or types k bools ∷ types_from types n (k + 1)
 types_next types n k h l =
     let z : n - k ≡ suc (n - suc k) = omega arith in
-    rw (z, drop-cons types k 0 l, add-one k)
+    rw (z, drop-cons types k bools l, add-one k)
 
-pub types_over : (types : List ℕ) (n k : ℕ) → n ≤ k → types_from types n k ≡ []
-unfolding types_of
+pub types_over : (types : List ColumnType) (n k : ℕ) → n ≤ k → types_from types n k ≡ []
 types_over types n k h = let z : n - k ≡ 0 = omega arith in rw z
 
-pub types_first : (types : List ℕ) (n : ℕ) → types_of (take n types) ≡ types_from types n 0
-types_first types n = let z : n ≡ n - 0 = omega arith in ap (λ (k : ℕ). types_of (take k types)) z
+pub types_first : (types : List ColumnType) (n : ℕ) → take n types ≡ types_from types n 0
+types_first types n = let z : n ≡ n - 0 = omega arith in ap (λ (k : ℕ). take k types) z
 
 -- one more cell
 pub cells_step : (t : ColumnType) (ts : List ColumnType) (m : ℕ) (c : Part) (cs : List Part) → cells_of (t ∷ ts) m (c ∷ cs) ≡ chain m (cell_at t m c) (λ j. cells_of ts j cs)
@@ -78,10 +71,10 @@ unfolding cells_of
 cells_done m cs = refl
 
 -- k cells are read, from the first tab on to another tab or the line's end; the rest is read as it stands
-pub record Reading (s types : List ℕ) (from n m q k j : ℕ) : Type 0 where
+pub record Reading (s : List ℕ) (types : List ColumnType) (from n m q k j : ℕ) : Type 0 where
   pub cells : List Cell
   pub bytes : List ℕ
-  pub same : cells_of (types_of (take n types)) m (cells_at s from) ≡ more cells bytes (cells_of (types_from types n k) j (cells_at s q))
+  pub same : cells_of (take n types) m (cells_at s from) ≡ more cells bytes (cells_of (types_from types n k) j (cells_at s q))
   pub count : length cells ≡ k
   pub stored : j ≡ m + length bytes
   pub passed : k + length (cells_at s q) ≡ length (cells_at s from)
@@ -92,7 +85,7 @@ pub record Reading (s types : List ℕ) (from n m q k j : ℕ) : Type 0 where
   pub room : from + k ≤ q
   pub few : k ≤ n
 
-pub reading_none : (s types : List ℕ) (from n m : ℕ) → from ≤ length s → Starts s from → m ≤ from → Reading s types from n m from 0 m
+pub reading_none : (s : List ℕ) (types : List ColumnType) (from n m : ℕ) → from ≤ length s → Starts s from → m ≤ from → Reading s types from n m from 0 m
 reading_none s types from n m h w l =
     record {
       cells = [];
@@ -127,28 +120,28 @@ tab_there s q x e t =
     let l : q < length s = omega (arith, h, length-drop q s) in
     (l, sym (rw (drop-cons s q 0 l)) ∙ sym e ∙ t)
 
-module _ (s types : List ℕ) (from n m q k j : ℕ) (w : Reading s types from n m q k j) where
+module _ (s : List ℕ) (types : List ColumnType) (from n m q k j : ℕ) (w : Reading s types from n m q k j) where
   -- the line has as many cells as are due, or not
   abbrev ts : List ColumnType
-  ts = types_of (take n types)
+  ts = take n types
 
   module _ (a : n ≤ length types) (p x : ℕ) (ex : x ≡ get_or (drop q s) 0 0) where
-    wrong : (length (cells_at s from) ≡ n → ⊥) → RowTold (row_read ts m p (cells_at s from)) (line_end s from) from n m (RowRefused 20 p)
+    wrong : (length (cells_at s from) ≡ n → ⊥) → (f : Refused) → f ≡ refused_at bad_line p → RowTold (row_read ts m p (cells_at s from)) (line_end s from) from n m (Err f)
     unfolding row_read pick
-    wrong ne = record { so = rw (ne_eqb (length (cells_at s from)) (length ts) (λ z. ne (z ∙ types_long types n a))) }
+    wrong ne f ef = rw ef record { so = rw (ne_eqb (length (cells_at s from)) (length ts) (λ z. ne (z ∙ types_long types n a))) }
 
-    pub row_short : k < n → (x ≡ TAB → ⊥) → RowTold (row_read ts m p (cells_at s from)) (line_end s from) from n m (RowRefused 20 p)
-    row_short h f =
-        let z : length (cells_at s q) ≡ 0 = ap length (cells_none s q w.starts (λ y. f (ex ∙ y))).0 in
-        wrong (λ y. omega (arith, w.passed, z, y))
+    pub row_short : k < n → (x ≡ TAB → ⊥) → (f : Refused) → f ≡ refused_at bad_line p → RowTold (row_read ts m p (cells_at s from)) (line_end s from) from n m (Err f)
+    row_short h t f ef =
+        let z : length (cells_at s q) ≡ 0 = ap length (cells_none s q w.starts (λ y. t (ex ∙ y))).0 in
+        wrong (λ y. omega (arith, w.passed, z, y)) f ef
 
-    pub row_long : n ≤ k → x ≡ TAB → RowTold (row_read ts m p (cells_at s from)) (line_end s from) from n m (RowRefused 20 p)
-    row_long h t =
+    pub row_long : n ≤ k → x ≡ TAB → (f : Refused) → f ≡ refused_at bad_line p → RowTold (row_read ts m p (cells_at s from)) (line_end s from) from n m (Err f)
+    row_long h t f ef =
         let (l, g) = tab_there s q x ex t in
         let z : length (cells_at s q) ≡ suc (length (cells_at s (suc q + cell_run (drop (suc q) s)))) = ap length (cells_tab s q l g) in
-        wrong (λ y. omega (arith, w.passed, w.few, z, y))
+        wrong (λ y. omega (arith, w.passed, w.few, z, y)) f ef
 
-    pub row_ended : n ≤ k → (x ≡ TAB → ⊥) → RowTold (row_read ts m p (cells_at s from)) (line_end s from) from n m (Ended q j)
+    pub row_ended : n ≤ k → (x ≡ TAB → ⊥) → RowTold (row_read ts m p (cells_at s from)) (line_end s from) from n m (Ok (record { end = q; stored = j }))
     unfolding row_read pick
     row_ended h f =
         let i = cells_none s q w.starts (λ y. f (ex ∙ y)) in
@@ -191,9 +184,9 @@ module _ (s types : List ℕ) (from n m q k j : ℕ) (w : Reading s types from n
         ∙ (λ i. part (sym (add-one q) i) (take (sym z i) (drop (sym (add-one q) i) s)) ∷ cells_at s (sym on i))
 
     module _ (h : k < n) (a : n ≤ length types) where
-      step : cells_of (types_from types n k) j (cells_at s q) ≡ chain j (cell_at (type_of (get_or types k 0)) j (part (q + 1) c)) (λ i. cells_of (types_from types n (k + 1)) i (cells_at s e))
+      step : cells_of (types_from types n k) j (cells_at s q) ≡ chain j (cell_at (get_or types k bools) j (part (q + 1) c)) (λ i. cells_of (types_from types n (k + 1)) i (cells_at s e))
       step = ap₂ (λ (l : List ColumnType) (r : List Part). cells_of l j r) (types_next types n k h (omega arith)) cells_are
-          ∙ cells_step (type_of (get_or types k 0)) (types_from types n (k + 1)) j (part (q + 1) c) (cells_at s e)
+          ∙ cells_step (get_or types k bools) (types_from types n (k + 1)) j (part (q + 1) c) (cells_at s e)
 
       line_end_lem : line_end s e ≡ line_end s q
       line_end_lem =
@@ -204,26 +197,26 @@ module _ (s types : List ℕ) (from n m q k j : ℕ) (w : Reading s types from n
           passes : e - q ≤ line_run (drop q s)
           passes = tab_passes s q e there.0 there.1 on
 
-      pub reading_more : (r : CellOut) (kind place size : ℕ) (b i : ℕ) → CellTold (cell_at (type_of (get_or types k 0)) j (part (q + 1) c)) (strip c) e j r → r ≡ Got kind place size
-          → b ≡ stored_by kind size → i ≡ j + b → Reading s types from n m e (k + 1) i
-      reading_more r kind place size b i v g eb ei =
-          let y : CellGot (cell_at (type_of (get_or types k 0)) j (part (q + 1) c)) (strip c) e j kind place size = subst (CellBy _ (strip c) e j) g v.so in
+      pub reading_more : (r : Result CellOut Refused) (o : CellOut) (b i : ℕ) → CellTold (cell_at (get_or types k bools) j (part (q + 1) c)) (strip c) e j r → r ≡ Ok o
+          → b ≡ stored_by o.kind o.size → i ≡ j + b → Reading s types from n m e (k + 1) i
+      reading_more r o b i v g eb ei =
+          let y : CellGot (cell_at (get_or types k bools) j (part (q + 1) c)) (strip c) e j o.kind o.place o.size = subst (CellBy _ (strip c) e j) g v.so in
           let z : j + length y.bytes ≡ i = omega (arith, y.count, eb, ei) in
           let u = cell_ended s (suc q) e there.0 on in
           record {
-            cells = w.cells ++ (cell kind place size ∷ []);
+            cells = w.cells ++ (cell o.kind o.place o.size ∷ []);
             bytes = w.bytes ++ y.bytes;
             same =
-                w.same ∙ ap (more w.cells w.bytes) (step ∙ ap (λ (o : Cells). chain j o (λ d. cells_of (types_from types n (k + 1)) d (cells_at s e))) y.same
-                ∙ ap (λ (d : ℕ). more (cell kind place size ∷ []) y.bytes (cells_of (types_from types n (k + 1)) d (cells_at s e))) z)
-                ∙ more_more w.cells (cell kind place size ∷ []) w.bytes y.bytes (cells_of (types_from types n (k + 1)) i (cells_at s e));
-            count = omega (arith, w.count, length-append w.cells (cell kind place size ∷ []));
+                w.same ∙ ap (more w.cells w.bytes) (step ∙ ap (λ (z : Cells). chain j z (λ d. cells_of (types_from types n (k + 1)) d (cells_at s e))) y.same
+                ∙ ap (λ (d : ℕ). more (cell o.kind o.place o.size ∷ []) y.bytes (cells_of (types_from types n (k + 1)) d (cells_at s e))) z)
+                ∙ more_more w.cells (cell o.kind o.place o.size ∷ []) w.bytes y.bytes (cells_of (types_from types n (k + 1)) i (cells_at s e));
+            count = omega (arith, w.count, length-append w.cells (cell o.kind o.place o.size ∷ []));
             stored = omega (arith, w.stored, z, length-append w.bytes y.bytes);
             passed = (let l : length (cells_at s q) ≡ suc (length (cells_at s e)) = ap length cells_are in omega (arith, w.passed, l));
             inside = u.0;
             starts = u.1;
             ends = line_end_lem ∙ w.ends;
-            small = stored_small kind size j q e i b w.small (on_le) eb ei y.small (strip_le c) (cell_long s (q + 1) e cell_in.0 cell_in.1);
+            small = stored_small o.kind o.size j q e i b w.small (on_le) eb ei y.small (strip_le c) (cell_long s (q + 1) e cell_in.0 cell_in.1);
             room = omega (arith, w.room, on);
             few = omega arith;
           }
@@ -231,25 +224,25 @@ module _ (s types : List ℕ) (from n m q k j : ℕ) (w : Reading s types from n
           on_le : suc q ≤ e
           on_le = omega (arith, on)
 
-      pub row_refused : (r : CellOut) (number place p : ℕ) (v : Row) → CellTold (cell_at (type_of (get_or types k 0)) j (part (q + 1) c)) (strip c) e j r → r ≡ Refused number place
-          → v ≡ refused_row (length (cells_at s from)) n p number place → RowTold (row_read ts m p (cells_at s from)) (line_end s from) from n m v
+      pub row_refused : (r : Result CellOut Refused) (f : Refused) (p : ℕ) (v : Refused) → CellTold (cell_at (get_or types k bools) j (part (q + 1) c)) (strip c) e j r → r ≡ Err f
+          → v ≡ refused_row (length (cells_at s from)) n p f → RowTold (row_read ts m p (cells_at s from)) (line_end s from) from n m (Err v)
       unfolding row_read refused_row pick
-      row_refused r number place p v x g ev =
-          let y : cell_at (type_of (get_or types k 0)) j (part (q + 1) c) ≡ refused number place = subst (CellBy _ (strip c) e j) g x.so in
-          let z : cells_of ts m (cells_at s from) ≡ refused number place =
-          w.same ∙ ap (more w.cells w.bytes) (step ∙ ap (λ (o : Cells). chain j o (λ d. cells_of (types_from types n (k + 1)) d (cells_at s e))) y) in
+      row_refused r f p v x g ev =
+          let y : cell_at (get_or types k bools) j (part (q + 1) c) ≡ refused f.refusal f.place = subst (CellBy _ (strip c) e j) g x.so in
+          let z : cells_of ts m (cells_at s from) ≡ refused f.refusal f.place =
+          w.same ∙ ap (more w.cells w.bytes) (step ∙ ap (λ (z : Cells). chain j z (λ d. cells_of (types_from types n (k + 1)) d (cells_at s e))) y) in
           let l : length ts ≡ n = types_long types n a in
-          subst (RowTold (row_read ts m p (cells_at s from)) (line_end s from) from n m) (sym ev)
+          subst (λ (u : Refused). RowTold (row_read ts m p (cells_at s from)) (line_end s from) from n m (Err u)) (sym ev)
           (split (eqb (length (cells_at s from)) n)
           (λ d. rw d (record { so = rw (l, d) z }))
           (λ d. rw d (record { so = rw (l, d) })))
 
 -- a refusal by the count
-module _ (c d n p number place : ℕ) (e : d ≡ c) where
-  pub refuse_count : (d ≡ n → ⊥) → RowRefused 20 p ≡ refused_row c n p number place
+module _ (c d n p : ℕ) (f : Refused) (e : d ≡ c) where
+  pub refuse_count : (d ≡ n → ⊥) → (g : Refused) → g ≡ refused_at bad_line p → g ≡ refused_row c n p f
   unfolding refused_row pick
-  refuse_count ne = rw (ne_eqb c n (λ z. ne (e ∙ z)))
+  refuse_count ne g eg = rw eg (rw (ne_eqb c n (λ z. ne (e ∙ z))))
 
-  pub refuse_fault : d ≡ n → RowRefused number place ≡ refused_row c n p number place
+  pub refuse_fault : d ≡ n → f ≡ refused_row c n p f
   unfolding refused_row pick
   refuse_fault q = rw (eq-eqb c n (sym e ∙ q))

@@ -1,11 +1,11 @@
 -- A whole TSV8 text read into lent tables and a store: the code's answer, and what they hold.
 -- Assumes nothing.
-use Rattle.std.specs.Prelude.{ℕ, ◌/◌, Bool, ◌&&◌, List, [], ◌∷◌, ◌++◌, map, ltb, leb, length, drop}
+use Rattle.std.specs.Prelude.{ℕ, ◌/◌, Bool, ◌&&◌, List, [], ◌∷◌, ◌++◌, Result, Ok, Err, map, ltb, leb, length, drop}
+use Rattle.prelude.specs.declared.refusals.Refused.{Refused}
 use Rattle.prelude.specs.Limits.{text_max}
 use Rattle.prelude.specs.Pick.{pick}
-use Rattle.prelude.specs.Refusals.{too_long, no_room}
+use Rattle.prelude.specs.Refusals.{too_long, no_room, refused_at}
 use Rattle.tsv8.specs.declared.answers.Sheet.{Sheet}
-use Rattle.tsv8.specs.declared.answers.Sheet.TheVariants.{Done, Refused}
 use Rattle.tsv8_cells.specs.Types.{type_number}
 use Rattle.tsv8_cells.specs.Cells.{Cell}
 use Rattle.tsv8.specs.Read.{SheetRead, read, unread, read_all}
@@ -28,16 +28,16 @@ has_room r n c m = leb n r.names && (leb n r.types && (leb c r.cells && leb m r.
 -- "last 12"
 abbrev pub fitted : Rooms → SheetRead → SheetRead
 fitted r (read ns ts cs bs) = pick (has_room r (length ns) (length cs) (length bs)) (read ns ts cs bs) (unread no_room 0)
-fitted r (unread number at) = unread number at
+fitted r (unread refusal at) = unread refusal at
 
 -- "2 (whole text only), then the leftmost .."
 unfoldable pub read_text : Rooms → List ℕ → SheetRead
 read_text r s = pick (ltb text_max (length s)) (unread too_long 0) (fitted r (read_all s))
 
 -- the code's answer: columns, cells and the store's bytes, or the refusal
-abbrev pub sheet_of : SheetRead → Sheet
-sheet_of (read ns ts cs bs) = Done (length ns) (length cs) (length bs)
-sheet_of (unread number at) = Refused number at
+abbrev pub sheet_of : SheetRead → Result Sheet Refused
+sheet_of (read ns ts cs bs) = Ok (record { columns = length ns; cells = length cs; stored = length bs })
+sheet_of (unread refusal at) = Err (refused_at refusal at)
 
 -- the numbers of names and cells
 unfoldable pub flat : List Cell → List ℕ
@@ -50,16 +50,16 @@ front w out = w ++ drop (length w) out
 
 abbrev pub names_after : SheetRead → List ℕ → List ℕ
 names_after (read ns ts cs bs) out = front (flat ns) out
-names_after (unread number at) out = out
+names_after (unread refusal at) out = out
 
 abbrev pub types_after : SheetRead → List ℕ → List ℕ
 types_after (read ns ts cs bs) out = front (map type_number ts) out
-types_after (unread number at) out = out
+types_after (unread refusal at) out = out
 
 abbrev pub cells_after : SheetRead → List ℕ → List ℕ
 cells_after (read ns ts cs bs) out = front (flat cs) out
-cells_after (unread number at) out = out
+cells_after (unread refusal at) out = out
 
 abbrev pub store_after : SheetRead → List ℕ → List ℕ
 store_after (read ns ts cs bs) out = front bs out
-store_after (unread number at) out = out
+store_after (unread refusal at) out = out

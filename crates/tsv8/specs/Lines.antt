@@ -7,7 +7,7 @@ use Rattle.prelude.specs.Pick.{pick}
 use Rattle.prelude.specs.Refusals.{bad_header, bad_line}
 use Rattle.tokens.specs.Words.{same_bytes}
 use Rattle.tsv8_cells.specs.Parts.{Line}
-use Rattle.tsv8_cells.specs.Types.{ColumnType}
+use Rattle.tsv8_cells.specs.declared.columns.ColumnType.{ColumnType}
 use Rattle.tsv8_cells.specs.Cells.{Cells, got, refused, chain, cells_of}
 
 -- what a line after the first is, by what stands before its first tab: "A data line begins with a tab"; `!type`; "other `!` lines"

@@ -1,25 +1,27 @@
 -- Reading the lines of a TSV8 text: the first, the `!type` line if there is one, and those behind.
 -- Assumes nothing.
 use Rattle.std.specs.Prelude.{ℕ, Bool, false, ◌&&◌, List, [], ◌∷◌, ◌++◌, leb, eqb, length}
+use Rattle.prelude.specs.declared.refusals.Refusal.{Refusal}
 use Rattle.prelude.specs.Bytes.{ascii}
 use Rattle.prelude.specs.Limits.{column_max}
 use Rattle.prelude.specs.Pick.{pick}
 use Rattle.prelude.specs.Refusals.{bad_header}
 use Rattle.tokens.specs.Words.{same_bytes}
 use Rattle.tsv8_cells.specs.Parts.{Line, lines_of}
-use Rattle.tsv8_cells.specs.Types.{ColumnType, all_strs, Types, types, untyped, types_in}
+use Rattle.tsv8_cells.specs.declared.columns.ColumnType.{ColumnType}
+use Rattle.tsv8_cells.specs.Types.{all_strs, Types, types, untyped, types_in}
 use Rattle.tsv8_cells.specs.Cells.{Cell, Cells, got, refused, cells_of}
 use Rattle.tsv8.specs.Lines.{type_mark, read_lines}
 
--- "Answer: names, types .. and a table of cells in reading order", and the store; or the refusal's number and place
+-- "Answer: names, types .. and a table of cells in reading order", and the store; or the refusal and its place
 pub data SheetRead : Type 0 where
   read : List Cell → List ColumnType → List Cell → List ℕ → SheetRead
-  unread : ℕ → ℕ → SheetRead
+  unread : Refusal → ℕ → SheetRead
 
 -- the names, the types, and the store so far, with the cells
 abbrev pub joined : List Cell → List ColumnType → List ℕ → Cells → SheetRead
 joined ns ts bs (got cs es) = read ns ts cs (bs ++ es)
-joined ns ts bs (refused number at) = unread number at
+joined ns ts bs (refused refusal at) = unread refusal at
 
 abbrev pub behind_types : List Cell → List ℕ → List Line → Types → SheetRead
 behind_types ns bs ls (types ts) = joined ns ts bs (read_lines false ts (length bs) ls)
@@ -37,7 +39,7 @@ behind_names ns bs (l ∷ ls) =
 
 abbrev pub by_names : Cells → List Line → SheetRead
 by_names (got ns bs) ls = behind_names ns bs ls
-by_names (refused number at) ls = unread number at
+by_names (refused refusal at) ls = unread refusal at
 
 abbrev pub first_mark : List ℕ
 first_mark = ascii "!tsv8"

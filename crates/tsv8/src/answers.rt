@@ -1,8 +1,9 @@
 // What reading answers; specs/Answers.antt gives it from the text.
 
-// A text read: its columns, its cells and the bytes in the store; or a refusal's number and place.
+// A text read: its columns, its cells and the bytes in the store.
 #[derive(Clone, Copy)]
-pub enum Sheet {
-    Done(usize, usize, usize),
-    Refused(u32, usize),
+pub struct Sheet {
+    pub columns: usize,
+    pub cells: usize,
+    pub stored: usize,
 }

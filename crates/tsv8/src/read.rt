@@ -4,17 +4,17 @@ ghost use Rattle.tsv8.specs.Answers.{rooms_of, has_room, read_text, sheet_of, na
 ghost use Rattle.tsv8.specs.inner.Heads.{AllStrs};
 
 use crate::answers::Sheet;
-use crate::heads::Judged;
 use crate::{heads, stores};
 use prelude::limits::{COLUMN_MAX, TEXT_MAX};
-use prelude::refusals;
-use utf8::classes;
+use prelude::refusals::{Refusal, Refused};
+use tsv8_cells::columns::ColumnType;
+use utf8::classes::Classes;
 
 // The types of columns that are all Str.
-fn strs() -> [u8; COLUMN_MAX]
+fn strs() -> [ColumnType; COLUMN_MAX]
     ensures { AllStrs result }
 {
-    [4u8; COLUMN_MAX]
+    [ColumnType::Str; COLUMN_MAX]
 }
 
 // Whether so many columns, cells and bytes have room in parts of these lengths.
@@ -49,7 +49,7 @@ pub fn read(
     types: &mut [u32],
     cells: &mut [u32],
     store: &mut [u8],
-) -> Sheet
+) -> Result<Sheet, Refused>
     ensures answer { result ≡ sheet_of (read_text (rooms_of names.old types.old cells.old store.old) text.now) }
     ensures names { names.new ≡ names_after (read_text (rooms_of names.old types.old cells.old store.old) text.now) names.old }
     ensures types { types.new ≡ types_after (read_text (rooms_of names.old types.old cells.old store.old) text.now) types.old }
@@ -57,31 +57,30 @@ pub fn read(
     ensures store { store.new ≡ store_after (read_text (rooms_of names.old types.old cells.old store.old) text.now) store.old }
 {
     if TEXT_MAX < text.len() {
-        return Sheet::Refused(refusals::TOO_LONG, 0);
+        return Err(Refusal::TooLong.at(0));
     }
-    let t = classes::table();
+    let t = Classes::new();
     let mut kinds = strs();
-    let judged = heads::judge(&t, text, &mut kinds);
-    match judged {
-        Judged::Refused(number, place) => Sheet::Refused(number, place),
-        Judged::Fine(outline) => {
-            let n = outline.columns;
-            if !has_room(
-                n,
-                outline.cells,
-                outline.stored,
-                names.len(),
-                types.len(),
-                cells.len(),
-                store.len(),
-            ) {
-                return Sheet::Refused(refusals::NO_ROOM, 0);
-            }
-            stores::put_types(n, &kinds, types);
-            let first = strs();
-            let moved = stores::put_row(&t, text, outline.names, n, &first, 0, 0, names, store);
-            stores::put_lines(&t, text, outline.rest, n, &kinds, moved.count, cells, store);
-            Sheet::Done(n, outline.cells, outline.stored)
-        }
+    let outline = heads::judge(&t, text, &mut kinds)?;
+    let n = outline.columns;
+    if !has_room(
+        n,
+        outline.cells,
+        outline.stored,
+        names.len(),
+        types.len(),
+        cells.len(),
+        store.len(),
+    ) {
+        return Err(Refusal::NoRoom.at(0));
     }
+    stores::put_types(n, &kinds, types);
+    let first = strs();
+    let moved = stores::put_row(&t, text, outline.names, n, &first, 0, 0, names, store);
+    stores::put_lines(&t, text, outline.rest, n, &kinds, moved.count, cells, store);
+    Ok(Sheet {
+        columns: n,
+        cells: outline.cells,
+        stored: outline.stored,
+    })
 }

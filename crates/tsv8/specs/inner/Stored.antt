@@ -3,17 +3,17 @@
 use Rattle.std.specs.Prelude.{ℕ, ◌+◌, ◌*◌, ◌≤◌, List, [], ◌≡◌, length, take, drop}
 use Rattle.prelude.specs.Limits.{text_max}
 use Rattle.tsv8_cells.specs.Parts.{part}
-use Rattle.tsv8_cells.specs.Types.{ColumnType}
+use Rattle.tsv8_cells.specs.declared.columns.ColumnType.{ColumnType}
 use Rattle.tsv8_cells.specs.Cells.{Cell, Cells, got, refused, cell_at}
 use Rattle.tsv8_cells.specs.inner.Runs.{cell_run}
 
 abbrev pub cells_in : Cells → List Cell
 cells_in (got cs bs) = cs
-cells_in (refused number at) = []
+cells_in (refused refusal at) = []
 
 abbrev pub bytes_in : Cells → List ℕ
 bytes_in (got cs bs) = bs
-bytes_in (refused number at) = []
+bytes_in (refused refusal at) = []
 
 -- the cell from a place on, behind m bytes of the store
 abbrev pub cell_here : List ℕ → ColumnType → ℕ → ℕ → Cells

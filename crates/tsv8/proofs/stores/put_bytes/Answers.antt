@@ -18,7 +18,7 @@ pub slice_bounds-fill-end : goal.slice_bounds-fill-end
 slice_bounds-fill-end c = omega (arith, (strip_inside c.args.c.now _ _ c.lead-a.ensures c.trim-n.ensures).1)
 
 pub fill-requires : goal.fill-requires
-fill-requires c = (c.requires.0, fill_asks _ _ _ _ c.lead-a.ensures c.trim-n.ensures c.requires.1)
+fill-requires c = fill_asks _ _ _ _ c.lead-a.ensures c.trim-n.ensures c.requires
 
 pub returns : goal.returns
 returns c = filled_is _ _ _ _ c.lead-a.ensures c.trim-n.ensures c.fill.ensures

@@ -1,4 +1,3 @@
-use Prim.Native.Nat.{◌-◌}
 use native.Mathlib.Omega.{arith}
 use Rattle.tsv8.proofs.Filling.{types_none, types_more, types_still, types_all}
 use Rattle.tsv8.proofs.stores.put_types.Goals as goal
@@ -8,9 +7,6 @@ loop-k-init c = types_none _ _ _
 
 pub bounds-types-k : goal.bounds-types-k
 bounds-types-k c = omega arith
-
-pub type_number-requires : goal.type_number-requires
-type_number-requires c = tt
 
 pub bounds-out-k : goal.bounds-out-k
 bounds-out-k c = omega (arith, types_still _ _ _ _ _ c.loop-k.invariant, c.requires.2)
@@ -22,7 +18,7 @@ pub loop-k-smaller : goal.loop-k-smaller
 loop-k-smaller c = omega arith
 
 pub loop-k-preserved : goal.loop-k-preserved
-loop-k-preserved c = types_more _ _ _ _ _ c.loop-k.invariant _ c.loop-k-test.true c.requires.1 c.type_number.ensures
+loop-k-preserved c = types_more _ _ _ _ _ c.loop-k.invariant _ c.loop-k-test.true c.requires.1 c.number.ensures
 
 pub shape_of-out : goal.shape_of-out
 shape_of-out c = types_still _ _ _ _ _ c.loop-k.invariant

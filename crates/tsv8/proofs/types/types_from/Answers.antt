@@ -1,4 +1,3 @@
-use Prim.Native.Nat.{◌-◌}
 use native.Mathlib.Omega.{arith}
 use Rattle.tsv8.proofs.TypeTexts.{naming_none, tab_due, type_in, type_unnamed, type_named_lem, types_named}
 use Rattle.tsv8.proofs.types.types_from.Goals as goal
@@ -24,14 +23,14 @@ slice_bounds-named_in-start c = omega (arith, (type_in _ _ _ _ _ _ c.loop-k.inva
 pub slice_bounds-named_in-end : goal.slice_bounds-named_in-end
 slice_bounds-named_in-end c = omega (arith, (type_in _ _ _ _ _ _ c.loop-k.invariant c.loop-k-test.true _ c.end_from-e.ensures).1)
 
-pub named_in-ty-requires : goal.named_in-ty-requires
-named_in-ty-requires c = tt
+pub named_in-requires : goal.named_in-requires
+named_in-requires c = tt
 
 pub overflow_add-result : goal.overflow_add-result
 overflow_add-result c = omega (arith, c.loop-k.invariant.inside)
 
-pub returns-then-ty-eq0 : goal.returns-then-ty-eq0
-returns-then-ty-eq0 c = type_unnamed _ _ _ _ _ _ c.loop-k.invariant c.loop-k-test.true _ c.end_from-e.ensures _ c.named_in-ty.ensures c.if-ty-eq0.true
+pub returns-in_default : goal.returns-in_default
+returns-in_default c = type_unnamed _ _ _ _ _ _ c.loop-k.invariant c.loop-k-test.true _ c.end_from-e.ensures c.in_default.ensures _ c.at.ensures
 
 pub bounds-types-k : goal.bounds-types-k
 bounds-types-k c = omega arith
@@ -43,10 +42,7 @@ pub loop-k-smaller : goal.loop-k-smaller
 loop-k-smaller c = omega arith
 
 pub loop-k-preserved : goal.loop-k-preserved
-loop-k-preserved c = type_named_lem _ _ _ _ _ _ c.loop-k.invariant c.loop-k-test.true _ c.end_from-e.ensures _ c.named_in-ty.ensures c.if-ty-eq0.false
-
-pub overflow_add-result-2 : goal.overflow_add-result-2
-overflow_add-result-2 c = omega (arith, c.loop-k.invariant.inside, c.requires.0)
+loop-k-preserved c = type_named_lem _ _ _ _ _ _ c.loop-k.invariant c.loop-k-test.true _ c.end_from-e.ensures _ c.in-Some.ensures
 
 pub returns : goal.returns
 returns c = types_named _ _ _ _ _ _ c.loop-k.invariant c.loop-k-test.false
