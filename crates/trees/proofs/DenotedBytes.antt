@@ -9,10 +9,12 @@ use native.Mathlib.Omega.{arith}
 use lib.Dec.{ltb, leb, eqb, lit<}
 use lib.ListN.{get_or, drop}
 use borrow.Author.Tests.{ltb-true, ltb-false, leb-true}
+use Rattle.std.specs.Prelude.{Option, Some, None}
+use Rattle.prelude.specs.declared.refusals.Refusal.{Refusal}
 use Rattle.prelude.proofs.Cases.{and_left, and_right}
 use Rattle.prelude.proofs.Picks.{pick_case}
 use Rattle.prelude.proofs.Suffix.{by_suffix}
-use Rattle.utf8.specs.Utf8.{between, char_len, char_by, encode}
+use Rattle.utf8.specs.Utf8.{between, char_len, char_by, encode, char_fault, refused_by}
 use Rattle.notation.specs.declared.styles.Style.{Style}
 use Rattle.notation.specs.declared.styles.Style.TheVariants.{Json, Unicode, Bytes}
 use Rattle.notation.specs.Styles.{quote, StringUnit, close, took, fault}
@@ -136,7 +138,11 @@ escape_bytes st (c ∷ r) =
     (λ e. pick_case UnitBytes (eqb c 121) _ _ (λ d. raw_bytes st r) (λ d. short_bytes (lookup c (letters_of st)) (letters_below st c)))
 
 literal_bytes : (n : ℕ) (s : List ℕ) → IsBytes s → UnitBytes (literal (char_by n s) s)
-literal_bytes zero s b = tt
+literal_bytes zero s b = by_fault (char_fault s)
+  where
+    by_fault : (f : Option Refusal) → UnitBytes (literal (refused_by f) s)
+    by_fault (Some why) = tt
+    by_fault None = bytes_take 0 s b
 literal_bytes (suc n) s b = bytes_take (suc n) s b
 
 unit_bytes_lem : (st : Style) (s : List ℕ) → IsBytes s → UnitBytes (unit_at st s)
@@ -150,11 +156,11 @@ unit_bytes_lem st (x ∷ r) b =
 -- strings
 abbrev Denotes : StringRead → Type 0
 Denotes (accepted bs e) = IsBytes bs
-Denotes (refused number at) = Unit
+Denotes (refused refusal at) = Unit
 
 more_bytes : (bs : List ℕ) (r : StringRead) → IsBytes bs → Denotes r → Denotes (more bs r)
 more_bytes bs (accepted cs e) a b = bytes_append bs cs a b
-more_bytes bs (refused number at) a b = tt
+more_bytes bs (refused refusal at) a b = tt
 
 one_bytes : (st : Style) (x : ℕ) (r : List ℕ) → ((k p : ℕ) → IsBytes (drop k r) → Denotes (read_units st p 0 (drop k r))) → (p : ℕ) → IsBytes (x ∷ r)
     → Denotes (read_units st p 0 (x ∷ r))

@@ -60,7 +60,7 @@ spaces_none p n m x r h =
 
 more_none : (r : Read) → preceded 0 [] [] r ≡ r
 more_none (got l tag ns bs) = ap (λ (k : ℕ). got k tag ns bs) (zero-add l)
-more_none (refused code at) = refl
+more_none (refused refusal at) = refl
 
 pub seq_firm : (b : Reader) (p n m : ℕ) (s : List ℕ) → Firm s → seq spaces b p n m s ≡ b p n m s
 unfolding seq

@@ -16,8 +16,9 @@ use Rattle.string_claims.proofs.RoundTrip.{bytes_take, bytes_drop}
 use Rattle.tokens.specs.Numbers.{number_kind}
 use Rattle.json8.specs.declared.nodes.Sort.{Sort}
 use Rattle.json8.specs.declared.nodes.Sort.TheVariants.{Items, Pairs}
+use Rattle.std.specs.Prelude.{Option, Some, None}
 use Rattle.json8_show.specs.declared.show.Shown.{Shown}
-use Rattle.json8_show.specs.declared.show.Shown.TheVariants.{InText, InStore, Nowhere}
+use Rattle.json8_show.specs.declared.show.Shown.TheVariants.{InText, InStore}
 use Rattle.json8.specs.Nodes.{Node}
 use Rattle.prelude.specs.Limits.{node_max, depth_max}
 use Rattle.json8_show.specs.Show.{shown_by}
@@ -35,10 +36,10 @@ just_good : (d : ℕ) (u : Tree) → SoundTo d u → size_of u ≡ 1 → Good d 
 just_good d u s z t e = let j : u ≡ t = cc in rw (← j) (s, z)
 
 module _ (text store : List ℕ) (bt : IsBytes text) (bs : IsBytes store) where
-  shown_bytes_lem : (q : Shown) (w : List ℕ) → bytes_of text store q ≡ just w → IsBytes w
-  shown_bytes_lem (InText place size) w e = let z : take size (drop place text) ≡ w = cc in rw z at (bytes_take size (drop place text) (bytes_drop place text bt))
-  shown_bytes_lem (InStore place size) w e = let z : take size (drop place store) ≡ w = cc in rw z at (bytes_take size (drop place store) (bytes_drop place store bs))
-  shown_bytes_lem Nowhere w e = never (cc)
+  shown_bytes_lem : (q : Option Shown) (w : List ℕ) → bytes_of text store q ≡ just w → IsBytes w
+  shown_bytes_lem (Some (InText place size)) w e = let z : take size (drop place text) ≡ w = cc in rw z at (bytes_take size (drop place text) (bytes_drop place text bt))
+  shown_bytes_lem (Some (InStore place size)) w e = let z : take size (drop place store) ≡ w = cc in rw z at (bytes_take size (drop place store) (bytes_drop place store bs))
+  shown_bytes_lem None w e = never (cc)
 
   string_bytes : (v : Node) (w : List ℕ) → string_of text store v ≡ just w → IsBytes w
   unfolding string_of

@@ -15,10 +15,8 @@ use Rattle.prelude.proofs.Suffix.{by_suffix}
 use Rattle.prelude.specs.Bytes.{IsBytes}
 use Rattle.strings.specs.Read.{StringRead, accepted, refused as unread, read_token}
 use Rattle.string_claims.proofs.RoundTrip.{bytes_drop}
-use Rattle.tokens.specs.declared.blanks.Blank.{Blank}
-use Rattle.tokens.specs.declared.blanks.Blank.TheVariants.{Clear, Ill}
-use Rattle.tokens.specs.declared.words.Word.{Word as WordFound}
-use Rattle.tokens.specs.declared.words.Word.TheVariants.{Value, Other}
+use Rattle.std.specs.Prelude.{Option, Some, None, Result, Ok, Err}
+use Rattle.prelude.specs.declared.refusals.Refused.{Refused}
 use Rattle.tokens.specs.declared.starts.Start.{Start}
 use Rattle.tokens.specs.declared.starts.Start.TheVariants.{Ended, String as StringStart, Word as WordStart, Number as NumberStart, List as ListStart, Dict, Nothing}
 use Rattle.tokens.specs.Starts.{Behind, closes, separates, lacks}
@@ -48,14 +46,14 @@ module _ (text : List ℕ) where
   -- where something is got: a tag above 0 has taken a byte, and a text of bytes gives bytes
   abbrev pub Holds : Of → ℕ → Read → Type 0
   Holds P m (got l tag ns bs) = (0 < tag → 0 < l) × (IsBytes text → IsBytes bs) × P m tag ns bs
-  Holds P m (refused code at) = Unit
+  Holds P m (refused refusal at) = Unit
 
   abbrev HoldsBy : Of → Reader → Type 0
   HoldsBy P a = (p n m : ℕ) → Holds P m (a p n m (drop p text))
 
   weaken : (P Q : Of) → ((m t : ℕ) (ns : List Node) (bs : List ℕ) → P m t ns bs → Q m t ns bs) → (m : ℕ) (r : Read) → Holds P m r → Holds Q m r
   weaken P Q f m (got l t ns bs) h = (h.0, h.1, f m t ns bs h.2)
-  weaken P Q f m (refused code at) h = tt
+  weaken P Q f m (refused refusal at) h = tt
 
   module _ (P Q R : Of) (join : (m t u : ℕ) (ns ms : List Node) (bs cs : List ℕ) → P m t ns bs → Q (m + length bs) u ms cs → R m u (ns ++ ms) (bs ++ cs)) where
     more_holds : (m l t : ℕ) (ns : List Node) (bs : List ℕ) (r : Read) → Holds P m (got l t ns bs) → Holds Q (m + length bs) r → Holds R m (preceded l ns bs r)
@@ -64,7 +62,7 @@ module _ (text : List ℕ) where
       λ b. bytes_append bs cs (h.1 b) (g.1 b),
       join m t u ns ms bs cs h.2 g.2,
     )
-    more_holds m l t ns bs (refused code at) h g = tt
+    more_holds m l t ns bs (refused refusal at) h g = tt
 
     seq_holds : (a b : Reader) → HoldsBy P a → HoldsBy Q b → HoldsBy R (seq a b)
     unfolding seq
@@ -74,7 +72,7 @@ module _ (text : List ℕ) where
         go (got l t ns bs) f =
             rw (drop-drop l p text)
             (more_holds m l t ns bs (b (p + l) (n + length ns) (m + length bs) (drop (p + l) text)) f (g (p + l) (n + length ns) (m + length bs)))
-        go (refused code at) f = tt
+        go (refused refusal at) f = tt
 
   limited_holds : (P : Of) (a : Reader) (p n m : ℕ) → Holds P m (a p n m (drop p text)) → Holds P m (limited a p n m (drop p text))
   unfolding limited
@@ -91,9 +89,9 @@ module _ (text : List ℕ) where
   unfolding spaces
   spaces_holds p n m = go (blanks (drop p text))
     where
-      go : (r : Blank) → Holds Empty m (passed p r)
-      go (Clear i) = (λ z. absurd (omega arith), λ b. bytes_none, (refl, refl))
-      go (Ill code i) = tt
+      go : (r : Result ℕ Refused) → Holds Empty m (passed p r)
+      go (Ok i) = (λ z. absurd (omega arith), λ b. bytes_none, (refl, refl))
+      go (Err f) = tt
 
   mark_holds : (p m : ℕ) (r : Behind) → Holds Marked m (marked p r)
   mark_holds p m closes = (λ z. omega arith, λ b. bytes_none, (omega arith, (refl, refl)))
@@ -147,16 +145,16 @@ module _ (text : List ℕ) where
       go Nothing b = tt
 
   -- a word's value
-  abbrev Valued : ℕ → WordFound → Type 0
-  Valued m (Value kind) = (t : Tree) × Word text m kind t
-  Valued m Other = Unit
+  abbrev Valued : ℕ → Option ℕ → Type 0
+  Valued m (Some kind) = (t : Tree) × Word text m kind t
+  Valued m None = Unit
 
   word_valued : (m : ℕ) (w : List ℕ) → Valued m (word_value w)
   unfolding word_value
   word_valued m w =
-      pick_case (Valued m) (same_bytes w null_word) (Value 0) _ (λ e. (_, null_meant text m))
-      (λ e. pick_case (Valued m) (same_bytes w false_word) (Value 1) _ (λ f. (_, false_meant text m))
-      (λ f. pick_case (Valued m) (same_bytes w true_word) (Value 2) Other (λ g. (_, true_meant text m)) (λ g. tt)))
+      pick_case (Valued m) (same_bytes w null_word) (Some 0) _ (λ e. (_, null_meant text m))
+      (λ e. pick_case (Valued m) (same_bytes w false_word) (Some 1) _ (λ f. (_, false_meant text m))
+      (λ f. pick_case (Valued m) (same_bytes w true_word) (Some 2) None (λ g. (_, true_meant text m)) (λ g. tt)))
 
   module _ (d : ℕ) where
     key_tree : (m t : ℕ) (ns : List Node) (bs : List ℕ) → Keys m t ns bs → Trees d m t ns bs
@@ -166,9 +164,9 @@ module _ (text : List ℕ) where
     unfolding word
     word_holds p n m = go (word_value (word_of (drop p text))) (word_valued m (word_of (drop p text)))
       where
-        go : (v : WordFound) → Valued m v → Holds (Trees d) m (word_read v (length (word_of (drop p text))) p n m (drop p text))
-        go (Value kind) (t, h) = plain_holds (Trees d) kind (length (word_of (drop p text))) p n m (t, h d p (length (word_of (drop p text))))
-        go Other h = tt
+        go : (v : Option ℕ) → Valued m v → Holds (Trees d) m (word_read v (length (word_of (drop p text))) p n m (drop p text))
+        go (Some kind) (t, h) = plain_holds (Trees d) kind (length (word_of (drop p text))) p n m (t, h d p (length (word_of (drop p text))))
+        go None h = tt
 
     number_holds : HoldsBy (Trees d) number
     unfolding number number_at number_from
@@ -236,7 +234,7 @@ module _ (text : List ℕ) where
         λ q. bytes_append bs cs (y q) (g q),
         (one i u ms, row_next text b d m c ns bs i u os cs ms x w),
       )
-      again_holds m l t ns bs (refused code at) f g = tt
+      again_holds m l t ns bs (refused refusal at) f g = tt
 
       abbrev Loop : List ℕ → Type 0
       Loop s = (p n m : ℕ) → drop p text ≡ s → Holds Rows m (members close member p n m 0 s)
@@ -246,7 +244,7 @@ module _ (text : List ℕ) where
       loop_one x r ih p n m e = go (round close member p n m (x ∷ r)) (rw e at (round_holds p n m))
         where
           go : (q : Read) → Holds Round m q → Holds Rows m (follow p n m q (λ q i j k. members close member q i j k r))
-          go (refused code at) f = tt
+          go (refused refusal at) f = tt
           go (got l zero ns bs) (z, y, (a, c)) = (z, y, rw (a, c) (none, row_none text b d m))
           go (got l (suc zero) ns bs) (z, y, (i, u, x)) = (
             z,
@@ -271,7 +269,7 @@ module _ (text : List ℕ) where
       where
         go : (r : Read) → Holds (λ m c ns bs. (ms : Members b) × RowMeant text b d m c ns bs ms) m r → Holds (Trees (suc d)) m (branched (group_kind b) p r)
         go (got l c ns bs) (z, y, (ms, x)) = (λ q. omega arith, y, (branch b ms, branch_meant text b d m p c ns bs ms x))
-        go (refused code at) f = tt
+        go (refused refusal at) f = tt
 
   opened_holds : (d : ℕ) (b : Sort) → HoldsBy (Trees d) (group d b)
   unfolding group

@@ -16,6 +16,7 @@ use Rattle.strings_write.specs.Write.{write_string}
 use Rattle.strings_write.proofs.WriteLengths.{write_length}
 use Rattle.json8.specs.declared.nodes.Sort.{Sort}
 use Rattle.json8.specs.declared.nodes.Sort.TheVariants.{Items, Pairs}
+use Rattle.std.specs.Prelude.{Option}
 use Rattle.json8_show.specs.declared.show.Shown.{Shown}
 use Rattle.json8.specs.Nodes.{Node}
 use Rattle.prelude.specs.Limits.{depth_max}
@@ -57,13 +58,13 @@ module _ (text store : List ℕ) where
       → (length w ≤ size) × ((5 ≤ kind) × (kind ≤ 6))
   unfolding shown_by
   shown_size kind place size w =
-      pick_case (λ (q : Shown). bytes_of text store q ≡ just w → (length w ≤ size) × ((5 ≤ kind) × (kind ≤ 6))) (eqb kind 5) _ _
-      (λ a. pick_case (λ (q : Shown). bytes_of text store q ≡ just w → (length w ≤ size) × ((5 ≤ kind) × (kind ≤ 6))) (leb (place + size) (length text)) _ _
+      pick_case (λ (q : Option Shown). bytes_of text store q ≡ just w → (length w ≤ size) × ((5 ≤ kind) × (kind ≤ 6))) (eqb kind 5) _ _
+      (λ a. pick_case (λ (q : Option Shown). bytes_of text store q ≡ just w → (length w ≤ size) × ((5 ≤ kind) × (kind ≤ 6))) (leb (place + size) (length text)) _ _
       (λ b e. let z : take size (drop place text) ≡ w = cc in
       (omega (arith, ap length z, length-take size (drop place text)), (omega (arith, eqb-true kind 5 a), omega (arith, eqb-true kind 5 a))))
       (λ b e. never (cc)))
-      (λ a. pick_case (λ (q : Shown). bytes_of text store q ≡ just w → (length w ≤ size) × ((5 ≤ kind) × (kind ≤ 6))) (eqb kind 6) _ _
-      (λ c. pick_case (λ (q : Shown). bytes_of text store q ≡ just w → (length w ≤ size) × ((5 ≤ kind) × (kind ≤ 6))) (leb (place + size) (length store)) _ _
+      (λ a. pick_case (λ (q : Option Shown). bytes_of text store q ≡ just w → (length w ≤ size) × ((5 ≤ kind) × (kind ≤ 6))) (eqb kind 6) _ _
+      (λ c. pick_case (λ (q : Option Shown). bytes_of text store q ≡ just w → (length w ≤ size) × ((5 ≤ kind) × (kind ≤ 6))) (leb (place + size) (length store)) _ _
       (λ b e. let z : take size (drop place store) ≡ w = cc in
       (omega (arith, ap length z, length-take size (drop place store)), (omega (arith, eqb-true kind 6 c), omega (arith, eqb-true kind 6 c))))
       (λ b e. never (cc)))

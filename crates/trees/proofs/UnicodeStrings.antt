@@ -40,7 +40,7 @@ module _ (text before behind bs w : List ℕ) (p n l tag : ℕ) (v : Node) where
       let s : string_of text (before ++ (bs ++ behind)) x.top ≡ just ws = x.spelt.means (before ++ (bs ++ behind)) (rw b stands) in
       let c : ws ≡ w = cc in
       rw c at valid
-  by_token (unread number at) t valid h m = never (let z = rw t at h in cc)
+  by_token (unread refusal at) t valid h m = never (let z = rw t at h in cc)
 
 pub unicode_string :
     (text before behind bs w : List ℕ) (p n k l tag : ℕ) (v : Node) → opening (drop p text) ≡ opens Unicode k

@@ -14,11 +14,10 @@ use Rattle.prelude.proofs.Cases.{split, never}
 use Rattle.prelude.specs.Bytes.{IsBytes}
 use Rattle.prelude.specs.Limits.{text_max, node_max, depth_max}
 use Rattle.tokens.specs.Blanks.{blanks_from}
-use Rattle.json8.specs.declared.answers.Parsed.TheVariants.{Done}
 use Rattle.json8.specs.Nodes.{Node, Read, got, refused, seq, flat}
 use Rattle.json8.specs.Leaves.{spaces}
 use Rattle.json8.specs.Values.{value}
-use Rattle.json8.specs.Read.{text_end, read_all, fitted, read_of, parsed_of}
+use Rattle.json8.specs.Read.{text_end, read_all, fitted, read_of, done, parsed_of}
 use Rattle.json8.proofs.Claims.{tables_fit}
 use Rattle.trees.specs.Trees.{Tree, render}
 use Rattle.trees.specs.Tables.{just, nodes_in, tree_of}
@@ -156,16 +155,16 @@ module _ (s : List ℕ) where
       (f.2.0, tree_is s ns bs f.2.0 f.2.1 (tables_fit s l tag ns bs e).0, f.2.1.size, f.2.1.stored)
 
   fit_read : (table store : List ℕ) (n m : ℕ) (r : Read) → length s ≤ text_max → read_all s ≡ r → Holds s (Trees s depth_max) 0 r
-      → parsed_of (fitted (length table / 4) (length store) r) ≡ Done n m → (t : Tree) × (text_tree s ≡ just t) × ReadAs t s table store
+      → parsed_of (fitted (length table / 4) (length store) r) ≡ done n m → (t : Tree) × (text_tree s ≡ just t) × ReadAs t s table store
   unfolding pick
-  fit_read table store n m (refused code at) h e f g = never (cc)
+  fit_read table store n m (refused refusal at) h e f g = never (cc)
   fit_read table store n m (got l tag ns bs) h e (z, y, (t, v)) g =
       let k : Known s t = record { len = l; tag = tag; nodes = ns; bytes = bs; read = e; meant = v } in
       split (ltb (length table / 4) (length ns)) (λ a. never (let o = rw a at g in cc))
       (λ a. split (ltb (length store) (length bs)) (λ b. never (let o = rw (a, b) at g in cc))
       (λ b. (t, known_tree s t k, known_read s t k table store h (ltb-false _ _ a) (ltb-false _ _ b))))
 
-  pub read_fit : (table store : List ℕ) (n m : ℕ) → parsed_of (read_of (length table / 4) (length store) s) ≡ Done n m
+  pub read_fit : (table store : List ℕ) (n m : ℕ) → parsed_of (read_of (length table / 4) (length store) s) ≡ done n m
       → (t : Tree) × (text_tree s ≡ just t) × ReadAs t s table store
   unfolding read_of pick
   read_fit table store n m g =
@@ -177,4 +176,4 @@ module _ (s : List ℕ) where
     where
       go : (r : Read) → Holds s (Trees s depth_max) 0 r → tree_in s r ≡ just t → Sound t
       go (got l tag ns bs) f e = tree_sound s bs b (f.1 b) ns t e
-      go (refused code at) f e = never (cc)
+      go (refused refusal at) f e = never (cc)

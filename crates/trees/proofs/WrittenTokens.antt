@@ -7,6 +7,7 @@ use mathlib.Core.List.{List, [], ◌∷◌, ◌++◌}
 use mathlib.Core.Path.{◌≡◌, refl, sym, ap, ◌∙◌}
 use lib.ListN.{length, take, drop}
 use lib.Seq.{drop-drop, drop-append_seam, take-append_seam}
+use Rattle.std.specs.Prelude.{Some}
 use Rattle.prelude.specs.Pick.{pick}
 use Rattle.prelude.proofs.Picks.{pick_case}
 use Rattle.utf8.specs.Utf8.{valid_utf8}
@@ -15,7 +16,6 @@ use Rattle.prelude.specs.Bytes.{IsBytes}
 use Rattle.notation.specs.Marks.{opening}
 use Rattle.strings_write.specs.Write.{quoted, write_string}
 use Rattle.string_claims.proofs.RoundTrip.{token_back}
-use Rattle.tokens.specs.declared.words.Word.TheVariants.{Value}
 use Rattle.tokens.specs.declared.starts.Start.{Start}
 use Rattle.tokens.specs.declared.starts.Start.TheVariants.{String as StringStart, Word as WordStart, Number as NumberStart}
 use Rattle.tokens.specs.Blanks.{is_space}
@@ -86,7 +86,7 @@ module _ (text : List ℕ) where
 
   -- tokens
   word_back : (d p n m : ℕ) (w r : List ℕ) (kind : ℕ) (t : Tree) → drop p text ≡ w ++ r → n < node_max → Stops r → render t ≡ w
-      → start_of (w ++ r) ≡ WordStart → All is_word w → word_value w ≡ Value kind → Word text m kind t → 0 ≡ store_of t → Back d t p n m
+      → start_of (w ++ r) ≡ WordStart → All is_word w → word_value w ≡ Some kind → Word text m kind t → 0 ≡ store_of t → Back d t p n m
   unfolding word plain
   word_back d p n m w r kind t e h s z b a v f g =
       record {

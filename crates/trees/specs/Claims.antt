@@ -8,11 +8,10 @@ use Rattle.notation.specs.declared.styles.Style.TheVariants.{Unicode}
 use Rattle.notation.specs.Marks.{opens, opening}
 use Rattle.tokens.specs.Words.{is_word}
 use Rattle.tokens.specs.Numbers.{is_number}
-use Rattle.json8.specs.declared.answers.Parsed.TheVariants.{Done}
 use Rattle.json8.specs.Nodes.{Node, Read, got, refused}
 use Rattle.json8.specs.Leaves.{string}
 use Rattle.json8.specs.Values.{value}
-use Rattle.json8.specs.Read.{read_all, read_of, parsed_of, table_after, store_after}
+use Rattle.json8.specs.Read.{read_all, read_of, done, parsed_of, table_after, store_after}
 use Rattle.trees.specs.Trees.{Tree, render}
 use Rattle.trees.specs.Tables.{Maybe, just, nothing, nodes_in, count_at, tree_of, string_of}
 use Rattle.trees.specs.Sound.{Sound}
@@ -26,7 +25,7 @@ table_tree table text store = tree_of (nodes_in table) text store
 -- what a text means: the tree of the nodes that it is read to
 abbrev pub tree_in : List ℕ → Read → Maybe Tree
 tree_in s (got l tag ns bs) = tree_of ns s bs
-tree_in s (refused number at) = nothing
+tree_in s (refused refusal at) = nothing
 
 abbrev pub text_tree : List ℕ → Maybe Tree
 text_tree s = tree_in s (read_all s)
@@ -42,7 +41,7 @@ TablesNest =
 -- means this tree
 pub record ReadAs (t : Tree) (s table store : List ℕ) : Type 0 where
   pub bytes : ℕ
-  pub accepted : parsed_of (read_of (length table / 4) (length store) s) ≡ Done (size_of t) bytes
+  pub accepted : parsed_of (read_of (length table / 4) (length store) s) ≡ done (size_of t) bytes
   pub stored : bytes ≡ stored_bytes (take (size_of t) (nodes_in (table_after (read_of (length table / 4) (length store) s) table)))
   pub means :
       table_tree (table_after (read_of (length table / 4) (length store) s) table) s (store_after (read_of (length table / 4) (length store) s) store)
@@ -85,7 +84,7 @@ FitTablesAreSound =
 -- what is read is fit to be written, and means what the text means, whatever the table and the store held before
 abbrev pub ReadTableIsFit : Type 0
 ReadTableIsFit =
-    (s table store : List ℕ) (n m : ℕ) → parsed_of (read_of (length table / 4) (length store) s) ≡ Done n m
+    (s table store : List ℕ) (n m : ℕ) → parsed_of (read_of (length table / 4) (length store) s) ≡ done n m
     → (t : Tree) × (text_tree s ≡ just t) × ReadAs t s table store
 
 -- so a backup that is read, written and read again is the same tree, where the written text is at most 32,768 bytes and there is room; and

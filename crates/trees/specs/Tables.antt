@@ -3,13 +3,13 @@
 -- of kind 5 or 6, string and number ranges inside their buffer, number texts legal for their kind; other places and lengths aren't looked
 -- at."
 -- Assumes nothing.
-use Rattle.std.specs.Prelude.{ℕ, zero, suc, ◌+◌, ◌-◌, Bool, true, false, List, [], ◌∷◌, ltb, leb, eqb, length, take, drop}
+use Rattle.std.specs.Prelude.{ℕ, zero, suc, ◌+◌, ◌-◌, Bool, true, false, Option, Some, None, List, [], ◌∷◌, ltb, leb, eqb, length, take, drop}
 use Rattle.prelude.specs.Pick.{pick}
 use Rattle.tokens.specs.Numbers.{number_kind}
 use Rattle.json8.specs.declared.nodes.Sort.{Sort}
 use Rattle.json8.specs.declared.nodes.Sort.TheVariants.{Items, Pairs}
 use Rattle.json8_show.specs.declared.show.Shown.{Shown}
-use Rattle.json8_show.specs.declared.show.Shown.TheVariants.{InText, InStore, Nowhere}
+use Rattle.json8_show.specs.declared.show.Shown.TheVariants.{InText, InStore}
 use Rattle.json8.specs.Nodes.{Node, node}
 use Rattle.prelude.specs.Limits.{node_max, depth_max}
 use Rattle.json8_show.specs.Show.{shown_by}
@@ -41,10 +41,10 @@ count_at [] = 0
 count_at (v ∷ r) = v.count
 
 -- "string .. ranges inside their buffer", as they are shown; none but kinds 5 and 6 have bytes
-abbrev pub bytes_of : List ℕ → List ℕ → Shown → Maybe (List ℕ)
-bytes_of text store (InText place size) = just (take size (drop place text))
-bytes_of text store (InStore place size) = just (take size (drop place store))
-bytes_of text store Nowhere = nothing
+abbrev pub bytes_of : List ℕ → List ℕ → Option Shown → Maybe (List ℕ)
+bytes_of text store (Some (InText place size)) = just (take size (drop place text))
+bytes_of text store (Some (InStore place size)) = just (take size (drop place store))
+bytes_of text store None = nothing
 
 unfoldable pub string_of : List ℕ → List ℕ → Node → Maybe (List ℕ)
 string_of text store v = bytes_of text store (shown_by v.kind v.place v.size (length text) (length store))
