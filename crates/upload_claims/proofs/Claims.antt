@@ -1,12 +1,15 @@
 -- The claims of specs/Claims.antt, each from the law that has it.
 -- Assumes nothing.
+use Rattle.std.specs.Prelude.{Some, None, Ok, Err}
 use Prim.Native.Nat.{◌≤◌}
 use mathlib.Core.List.{[], ◌∷◌}
 use mathlib.Core.Path.{◌≡◌, refl, sym, ap}
 use native.Mathlib.Omega.{arith}
 use lib.ListN.{length}
 use Rattle.prelude.specs.Limits.{line_max}
-use Rattle.lines.specs.declared.read.Line.TheVariants.{Ignored, Holds, Refused}
+use Rattle.prelude.specs.declared.refusals.Refusal.{Refusal}
+use Rattle.prelude.specs.Refusals.{number_of}
+use Rattle.prelude.proofs.Numbers.{number_positive, number_injective}
 use Rattle.lines.specs.Answers.{LineNumbers}
 use Rattle.upload.specs.Calls.{Called}
 use Rattle.j8_lines.specs.Lists.{feeds, finishes, run, began, joined, finished, earlier, defined}
@@ -63,17 +66,21 @@ handing_on_changes_nothing = handing_on
 pub unicode_lines_are_utf8 : UnicodeLinesAreUtf8
 unicode_lines_are_utf8 = unicode_line
 
+-- no refusal has the number 0
+none_zero : (r : Refusal) → number_of r ≡ 0 → ⊥
+none_zero r e = omega (arith, number_positive r)
+
 pub lines_tell_all : LinesTellAll
-lines_tell_all Ignored Ignored x y p = refl
-lines_tell_all Ignored (Holds kind n) x y p = absurd (y (sym (ap (λ (r : LineNumbers). r.kind) p)))
-lines_tell_all Ignored (Refused number at) x y p = absurd (y (sym (ap (λ (r : LineNumbers). r.number) p)))
-lines_tell_all (Holds kind n) Ignored x y p = absurd (x (ap (λ (r : LineNumbers). r.kind) p))
-lines_tell_all (Holds kind n) (Holds other m) x y p =
-    let a : kind ≡ other = ap (λ (r : LineNumbers). r.kind) p in
-    let b : n ≡ m = ap (λ (r : LineNumbers). r.size) p in λ i. Holds (a i) (b i)
-lines_tell_all (Holds kind n) (Refused number at) x y p = absurd (y (sym (ap (λ (r : LineNumbers). r.number) p)))
-lines_tell_all (Refused number at) Ignored x y p = absurd (x (ap (λ (r : LineNumbers). r.number) p))
-lines_tell_all (Refused number at) (Holds kind n) x y p = absurd (x (ap (λ (r : LineNumbers). r.number) p))
-lines_tell_all (Refused number at) (Refused other q) x y p =
-    let a : number ≡ other = ap (λ (r : LineNumbers). r.number) p in
-    let b : at ≡ q = ap (λ (r : LineNumbers). r.place) p in λ i. Refused (a i) (b i)
+lines_tell_all (Ok None) (Ok None) x y p = refl
+lines_tell_all (Ok None) (Ok (Some w)) x y p = absurd (y (sym (ap (λ (r : LineNumbers). r.kind) p)))
+lines_tell_all (Ok None) (Err f) x y p = absurd (none_zero f.refusal (sym (ap (λ (r : LineNumbers). r.number) p)))
+lines_tell_all (Ok (Some v)) (Ok None) x y p = absurd (x (ap (λ (r : LineNumbers). r.kind) p))
+lines_tell_all (Ok (Some v)) (Ok (Some w)) x y p =
+    let a : v.kind ≡ w.kind = ap (λ (r : LineNumbers). r.kind) p in
+    let b : v.len ≡ w.len = ap (λ (r : LineNumbers). r.size) p in λ i. Ok (Some (record { kind = a i; len = b i }))
+lines_tell_all (Ok (Some v)) (Err f) x y p = absurd (none_zero f.refusal (sym (ap (λ (r : LineNumbers). r.number) p)))
+lines_tell_all (Err f) (Ok None) x y p = absurd (none_zero f.refusal (ap (λ (r : LineNumbers). r.number) p))
+lines_tell_all (Err f) (Ok (Some w)) x y p = absurd (none_zero f.refusal (ap (λ (r : LineNumbers). r.number) p))
+lines_tell_all (Err f) (Err g) x y p =
+    let a : f.refusal ≡ g.refusal = number_injective f.refusal g.refusal (ap (λ (r : LineNumbers). r.number) p) in
+    let b : f.place ≡ g.place = ap (λ (r : LineNumbers). r.place) p in λ i. Err (record { refusal = a i; place = b i })

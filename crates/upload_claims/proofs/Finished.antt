@@ -7,6 +7,7 @@ use mathlib.Core.Path.{◌≡◌, refl, ap}
 use native.Mathlib.Omega.{arith}
 use lib.ListN.{length, take}
 use lib.Seq.{take_all, length-take-le}
+use Rattle.prelude.specs.declared.refusals.Refusal.{Refusal}
 use Rattle.records.specs.Records.{Fault, none, refuse}
 use Rattle.j8_lines.specs.Lines.{cut, records, FirstFault, first_fault, open_fault, left, end_by, j8_lines}
 use Rattle.upload_claims.specs.Claims.{or_open_line, first_refusal, Finished}
@@ -19,7 +20,7 @@ unfolding left
 by_open none t line out e = (refl, refl, refl, refl)
 by_open (refuse n p) t line out e = rw (e, take_all (length t) t (omega arith)) (refl, refl, refl, refl, refl, refl, refl)
 
-by_byte_lem : (t line out : List ℕ) (n p : ℕ) (text : List ℕ) → length t ≡ (first_fault (length out) text).before → t ≡ take (first_fault (length out) text).before text
+by_byte_lem : (t line out : List ℕ) (n : Refusal) (p : ℕ) (text : List ℕ) → length t ≡ (first_fault (length out) text).before → t ≡ take (first_fault (length out) text).before text
     → Finished (refuse n p) text out (standing t (refuse n p) line out)
 unfolding left
 by_byte_lem t line out n p text h e = (refl, refl, refl, h, refl, rw e, rw e)

@@ -4,6 +4,7 @@ use Prim.Native.Nat.{ℕ, ◌+◌, ◌≤◌}
 use mathlib.Core.Bool.{Bool, true, false, ◌&&◌}
 use mathlib.Core.List.{List, [], ◌∷◌, ◌++◌, append_assoc, append-nil}
 use mathlib.Core.Path.{◌≡◌, refl, sym, ap, ap₂, subst, ◌∙◌}
+use Rattle.std.specs.Prelude.{Option, Some, None}
 use native.Mathlib.Omega.{arith}
 use borrow.Author.Tests.{le-leb}
 use lib.Dec.{leb, eqb}
@@ -12,14 +13,15 @@ use lib.Seq.{take-append_seam, length-take-le}
 use Rattle.prelude.specs.Bytes.{LF}
 use Rattle.prelude.specs.Limits.{upload_max, line_max}
 use Rattle.prelude.specs.Pick.{pick}
-use Rattle.prelude.specs.Refusals.{unfit, no_room, too_long, over_limit, ended}
+use Rattle.prelude.specs.declared.refusals.Refusal.{Refusal}
+use Rattle.prelude.specs.Refusals.{unfit, no_room, too_long, over_limit, ended, number_of}
 use Rattle.prelude.proofs.Cases.{split}
 use Rattle.prelude.proofs.Picks.{pick_true, pick_false, pick_case}
 use Rattle.lines.specs.Line.{LineRead, ignored, holds, faulty, read_line}
 use Rattle.records.specs.Records.{record_of, line_record, Fault, none, refuse, fault_by, line_fault, put_at}
 use Rattle.upload.specs.declared.uploads.Upload.{Upload}
 use Rattle.upload.specs.declared.uploads.Answer.{Answer}
-use Rattle.upload.specs.Calls.{Lent, lent, with_refusal, keeps_refusal, stored, behind_lf, at_end, held_line, appended, closing, byte_fault, byte_by, feed_byte, feed_bytes, end_fault, finish_by, finish_all, fit_state, Called, without_line, zeros, kept_answer, answer_of, stop_lent, stop_state, guarded, feed, finish}
+use Rattle.upload.specs.Calls.{Lent, lent, with_refusal, keeps_refusal, stored, behind_lf, at_end, held_line, appended, closing, byte_fault, byte_by, feed_byte, feed_bytes, end_fault, finish_by, finish_all, fit_state, Called, without_line, kept_answer, answer_of, stop_lent, stop_state, guarded_by, guarded, feed, finish}
 use Rattle.j8_lines.specs.Lists.{Call, feeds, finishes, call, run, began}
 use Rattle.upload_claims.specs.Claims.{emptied, records_in, Turn, calls, hands, turn, turns, handing, calls_of, Alike, HandingOnChangesNothing}
 
@@ -33,7 +35,7 @@ record Same (h : List ℕ) (d m : Lent) : Type 0 where
 
 -- refused with 12, and so it stays
 abbrev Short : Lent → Type 0
-Short m = m.state.refusal ≡ no_room
+Short m = m.state.refusal ≡ number_of no_room
 
 data Kept (h : List ℕ) (d m : Lent) : Type 0 where
   one_short : Short d → Kept h d m
@@ -157,7 +159,7 @@ module _ (h : List ℕ) (d m : Lent) (r : Same h d m) where
         other = r.other;
       }
 
-  refused_same : (n p : ℕ) → Same h (keeps_refusal d n p) (keeps_refusal m n p)
+  refused_same : (n : Refusal) (p : ℕ) → Same h (keeps_refusal d n p) (keeps_refusal m n p)
   refused_same n p =
       record {
         state = ap (λ (s : Upload). emptied (with_refusal s n p)) r.state;
@@ -212,11 +214,11 @@ bytes_kept h d m (b ∷ bs) (other_short e) = bytes_kept h (feed_byte d b) (feed
 bytes_kept h d m (b ∷ bs) (same r) = bytes_kept h (feed_byte d b) (feed_byte m b) bs (kept_byte h d m r b)
 
 -- what stops a call, where the records lie inside the output
-abbrev stopped : Upload → ℕ → Answer
+abbrev stopped : Upload → ℕ → Option Answer
 stopped s line =
     pick (leb line_max line && (leb s.held line_max && (leb s.taken upload_max && (leb s.lfs s.taken && true))))
-    (pick (eqb s.refusal 0) (pick s.ended (without_line ended) zeros) (kept_answer s))
-    (without_line unfit)
+    (pick (eqb s.refusal 0) (pick s.ended (Some (without_line (number_of ended))) None) (Some (kept_answer s)))
+    (Some (without_line (number_of unfit)))
 
 -- a call is stopped alike
 fit_same : (h : List ℕ) (d m : Lent) → Same h d m → stop_lent d ≡ stop_lent m
@@ -232,9 +234,6 @@ data Going (h : List ℕ) (d m : Called) : Type 0 where
   other_stays : Short m.lent → Going h d m
   both : Same h d.lent m.lent → d.answer ≡ m.answer → Going h d m
 
-going_as : {h : List ℕ} {d e m n : Called} → d ≡ e → m ≡ n → Going h e n → Going h d m
-going_as {h} {d} {e} {m} {n} p q k = subst (λ (z : Called). Going h z m) (sym p) (subst (λ (z : Called). Going h e z) (sym q) k)
-
 -- a call that goes on
 done : Lent → Called
 done m = record { lent = m; answer = answer_of m.state }
@@ -245,25 +244,22 @@ going_on h d m (one_short e) = one_stays e
 going_on h d m (other_short e) = other_stays e
 going_on h d m (same r) = both r (ap answer_of r.state)
 
-going_guarded : (h : List ℕ) (d m x y : Lent) → Same h d m → Kept h x y → Going h (guarded d x) (guarded m y)
+going_by : (a : Option Answer) (h : List ℕ) (d m x y : Lent) → Same h d m → Kept h x y → Going h (guarded_by a d x) (guarded_by a m y)
 unfolding done
+going_by (Some a) h d m x y r k = both r refl
+going_by None h d m x y r k = going_on h x y k
+
+going_guarded : (h : List ℕ) (d m x y : Lent) → Same h d m → Kept h x y → Going h (guarded d x) (guarded m y)
 going_guarded h d m x y r k =
-    let p : stop_lent d ≡ stop_lent m = fit_same h d m r in
-    let q : eqb (stop_lent d).number 0 ≡ eqb (stop_lent m).number 0 = ap (λ (a : Answer). eqb a.number 0) p in
-    split (eqb (stop_lent m).number 0)
-    (λ e. going_as (pick_true _ _ _ (q ∙ e)) (pick_true _ _ _ e) (going_on h x y k))
-    (λ e. going_as (pick_false _ _ _ (q ∙ e)) (pick_false _ _ _ e) (both r p))
+    subst (λ (a : Option Answer). Going h (guarded_by a d x) (guarded m y)) (sym (fit_same h d m r)) (going_by (stop_lent m) h d m x y r k)
 
 -- 12 stays under a call
-not_zero : (m : Lent) → Short m → eqb (stop_lent m).number 0 ≡ false
-unfolding stop_state
-not_zero m e =
-    pick_case (λ (a : Answer). eqb a.number 0 ≡ false) (fit_state m.state (length m.line) (length m.out)) _ _
-    (λ t. subst (λ (a : Answer). eqb a.number 0 ≡ false) (sym (pick_false _ _ _ (ap (λ (n : ℕ). eqb n 0) e))) (ap (λ (n : ℕ). eqb n 0) e))
-    (λ t. refl)
-
 guarded_stays : (m x : Lent) → Short m → Short (guarded m x).lent
-guarded_stays m x e = ap (λ (c : Called). c.lent.state.refusal) (pick_false _ _ _ (not_zero m e)) ∙ e
+unfolding stop_state
+guarded_stays m x e =
+    pick_case (λ (a : Option Answer). Short (guarded_by a m x).lent) (fit_state m.state (length m.line) (length m.out)) _ _
+    (λ t. subst (λ (a : Option Answer). Short (guarded_by a m x).lent) (sym (pick_false _ _ _ (ap (λ (n : ℕ). eqb n 0) e))) e)
+    (λ t. e)
 
 call_stays : (m : Lent) (c : Call) → Short m → Short (call m c).lent
 unfolding call feed finish
@@ -300,7 +296,7 @@ going_turns (hands ∷ ts) h d m (one_stays e) = going_turns ts (h ++ records_in
 going_turns (hands ∷ ts) h d m (other_stays e) = going_turns ts (h ++ records_in d.lent) _ m (other_stays e)
 going_turns (hands ∷ ts) h d m (both r a) = going_turns ts (h ++ records_in d.lent) _ m (both (emptied_same h d.lent m.lent r) a)
 
-ending : (h : List ℕ) (d m : Called) → (d.lent.state.refusal ≡ no_room → ⊥) → (m.lent.state.refusal ≡ no_room → ⊥) → Going h d m → Alike h d m
+ending : (h : List ℕ) (d m : Called) → (d.lent.state.refusal ≡ number_of no_room → ⊥) → (m.lent.state.refusal ≡ number_of no_room → ⊥) → Going h d m → Alike h d m
 ending h d m f g (one_stays e) = absurd (f e)
 ending h d m f g (other_stays e) = absurd (g e)
 ending h d m f g (both r a) = record { state = r.state; line = r.line; records = r.records; answer = a }

@@ -1,20 +1,23 @@
 -- What a list of calls is answered: the definition's first refusal, byte by byte and then of the open line, or that the upload has ended; and that
 -- a bare line hands on its character's fault.
 -- Assumes nothing.
-use Prim.Native.Nat.{ℕ, zero, suc, ◌+◌, ◌≤◌, ◌<◌}
+use Prim.Native.Nat.{ℕ, zero, suc, ◌+◌, ◌<◌}
 use mathlib.Core.Bool.{Bool, true, false}
 use mathlib.Core.List.{List, [], ◌∷◌}
 use mathlib.Core.Logic.{◌⊎◌, inl, inr}
 use mathlib.Core.Path.{◌≡◌, refl}
+use Rattle.std.specs.Prelude.{Some, Err}
 use native.Mathlib.Omega.{arith}
 use lib.Dec.{leb, eqb}
 use lib.ListN.{length, take}
 use Rattle.prelude.specs.Bytes.{LF}
 use Rattle.prelude.specs.Limits.{line_max, upload_max}
+use Rattle.prelude.specs.declared.refusals.Refusal.{Refusal}
+use Rattle.prelude.specs.Refusals.{refused_at}
 use Rattle.prelude.proofs.Picks.{pick_case}
 use Rattle.utf8.specs.Utf8.{char_len, char_fault}
 use Rattle.utf8.proofs.Characters.{high_start}
-use Rattle.lines.specs.declared.bare.Checked.TheVariants.{Faulty}
+use Rattle.utf8.proofs.Faults.{fault_told}
 use Rattle.lines.specs.Line.{LineRead, ignored, holds, faulty, bare_from, leads, strip, read_line}
 use Rattle.lines.proofs.BareTexts.{bare_stuck}
 use Rattle.lines.proofs.Refusing.{LineFault, line_fault_lem}
@@ -22,16 +25,16 @@ use Rattle.records.specs.Records.{Fault, none, refuse, record_of, fault_by, line
 use Rattle.upload.specs.declared.uploads.Upload.{Upload}
 use Rattle.upload.specs.declared.uploads.Answer.{Answer}
 use Rattle.j8_lines.specs.Lines.{cut, records, fault_behind, fault_of_byte, FirstFault, or_else, first_from, first_fault, open_fault, fault_number, left, end_by, by_finish, j8_lines, j8_answer}
-use Rattle.upload_claims.specs.Claims.{UploadFault, Answered}
+use Rattle.upload_claims.specs.Claims.{UploadFault, NumberOf, Answered}
 
 abbrev Why : Fault → Type 0
 Why none = Unit
-Why (refuse number at) = UploadFault number
+Why (refuse refusal at) = UploadFault refusal
 
 by_line : (room used m : ℕ) (r : LineRead) → LineFault m r → Why (fault_by room used r)
 by_line room used m ignored h = tt
 by_line room used m (holds kind payload) h = pick_case Why (leb (used + length (record_of kind payload)) room) _ _ (λ e. tt) (λ e. inr (inr (inl refl)))
-by_line room used m (faulty number at) h = inr (inl h.0)
+by_line room used m (faulty refusal at) h = inr (inl h.0)
 
 line_why : (room used : ℕ) (l : List ℕ) → Why (line_fault room used l)
 unfolding line_fault
@@ -46,7 +49,7 @@ byte_why room before b =
 
 either : (p : ℕ) (f : Fault) (later : FirstFault) → Why f → Why later.why → Why (or_else p f later).why
 either p none later h g = g
-either p (refuse number at) later h g = h
+either p (refuse refusal at) later h g = h
 
 first_why : (room : ℕ) (text : List ℕ) (p n : ℕ) → Why (first_from room text p n).why
 unfolding first_from
@@ -60,21 +63,21 @@ open_why room used (b ∷ l) = line_why room used (b ∷ l)
 
 -- the state's refusal
 abbrev Kept : ℕ → Type 0
-Kept n = (n ≡ 0) ⊎ UploadFault n
+Kept n = (n ≡ 0) ⊎ NumberOf UploadFault n
 
 kept : (f : Fault) → Why f → Kept (fault_number f)
 kept none h = inl refl
-kept (refuse number at) h = inr h
+kept (refuse refusal at) h = inr (refusal, (h, refl))
 
 end_kept : (f : Fault) (taken line out : List ℕ) → Why f → Kept (end_by f taken line out).state.refusal
 unfolding left
 end_kept none taken line out h = inl refl
-end_kept (refuse number at) taken line out h = inr h
+end_kept (refuse refusal at) taken line out h = inr (refusal, (h, refl))
 
 finish_kept : (finish : Bool) (why : Fault) (taken line out : List ℕ) → Why why → Kept (by_finish finish why taken line out).state.refusal
 unfolding left
 finish_kept false why taken line out h = kept why h
-finish_kept true (refuse number at) taken line out h = inr h
+finish_kept true (refuse refusal at) taken line out h = inr (refusal, (h, refl))
 finish_kept true none taken line out h =
     end_kept (open_fault (length out) (length (records (cut taken).closed)) (cut taken).open_line) taken line out
     (open_why (length out) (length (records (cut taken).closed)) (cut taken).open_line)
@@ -99,6 +102,8 @@ answered s earlier h =
 pub lines_answered : (text : List ℕ) (finish earlier : Bool) (line out : List ℕ) → Answered (j8_answer (j8_lines text finish line out).state earlier).number
 lines_answered text finish earlier line out = answered (j8_lines text finish line out).state earlier (lines_kept text finish line out)
 
-pub passed_up : (p : ℕ) (s : List ℕ) → 0 < length s → char_len s ≡ 0 → bare_from p 0 s ≡ Faulty (char_fault s) p
+pub passed_up : (p : ℕ) (s : List ℕ) → 0 < length s → char_len s ≡ 0
+    → (fault : Refusal) × ((char_fault s ≡ Some fault) × (bare_from p 0 s ≡ Err (refused_at fault p)))
 passed_up p [] h e = absurd (omega arith)
-passed_up p (x ∷ r) h e = bare_stuck p (x ∷ r) (char_fault (x ∷ r)) h e refl (omega (arith, high_start x r e))
+passed_up p (x ∷ r) h e =
+    let (fault, (q, b)) = fault_told (x ∷ r) e in (fault, (q, bare_stuck p (x ∷ r) fault h e q (omega (arith, high_start x r e))))

@@ -23,7 +23,7 @@ string_line k kind bs (accepted cs e) v h =
     let b : cs ≡ bs = cc in
     let c : kind_of cs ≡ 1 = rw v in
     (sym a ∙ c, rw b at v)
-string_line k kind bs (refused number at) v h = never cc
+string_line k kind bs (refused refusal at) v h = never cc
 
 stripped_line : (k kind n : ℕ) (bs s : List ℕ) → opening s ≡ opens Unicode n → shifted k (read_stripped s) ≡ holds kind bs → Utf8 kind bs
 unfolding read_stripped

@@ -1,16 +1,16 @@
 -- What is claimed of the upload's calls and the J8 Lines definition, beside the contracts: each claim is a type, and proofs/Claims.antt has
 -- a term of it.
 -- Assumes nothing.
-use Rattle.std.specs.Prelude.{ℕ, ◌+◌, ◌≤◌, ◌<◌, true, false, List, [], ◌∷◌, ◌++◌, ◌⊎◌, ◌≡◌, length, take}
+use Rattle.std.specs.Prelude.{ℕ, ◌+◌, ◌≤◌, ◌<◌, true, false, List, [], ◌∷◌, ◌++◌, Option, Some, None, Result, Ok, Err, ◌⊎◌, ◌≡◌, length, take}
 use Rattle.prelude.specs.Bytes.{IsBytes, ascii, LF}
 use Rattle.prelude.specs.Limits.{upload_max, line_max}
-use Rattle.prelude.specs.Refusals.{too_long, no_room, over_limit, ended, TextFault}
+use Rattle.prelude.specs.declared.refusals.Refusal.{Refusal}
+use Rattle.prelude.specs.declared.refusals.Refused.{Refused}
+use Rattle.prelude.specs.Refusals.{too_long, no_room, over_limit, ended, TextFault, number_of, refused_at}
 use Rattle.utf8.specs.Utf8.{char_len, char_fault, valid_utf8}
 use Rattle.notation.specs.declared.styles.Style.TheVariants.{Unicode}
 use Rattle.notation.specs.Marks.{opens, opening}
-use Rattle.lines.specs.declared.bare.Checked.TheVariants.{Faulty}
-use Rattle.lines.specs.declared.read.Line.{Line}
-use Rattle.lines.specs.declared.read.Line.TheVariants.{Ignored, Holds, Refused}
+use Rattle.lines.specs.declared.read.Payload.{Payload}
 use Rattle.lines.specs.Answers.{line_numbers}
 use Rattle.lines.specs.Line.{holds, bare_from, strip, read_line}
 use Rattle.records.specs.Records.{Fault, none, refuse}
@@ -50,12 +50,16 @@ PiecesDoNotMatter =
     → joined cs ≡ joined ds → run (began line out) cs ≡ run (began line out) ds
 
 -- what an upload is refused for: 2, a fault in a line, 12 or 17
-abbrev pub UploadFault : ℕ → Type 0
-UploadFault n = (n ≡ too_long) ⊎ (TextFault n ⊎ ((n ≡ no_room) ⊎ (n ≡ over_limit)))
+abbrev pub UploadFault : Refusal → Type 0
+UploadFault r = (r ≡ too_long) ⊎ (TextFault r ⊎ ((r ≡ no_room) ⊎ (r ≡ over_limit)))
 
--- 0, one of these, or 18; never 5
+-- the number of a refusal of which P holds
+abbrev pub NumberOf : (Refusal → Type 0) → ℕ → Type 0
+NumberOf P n = (r : Refusal) × (P r × (n ≡ number_of r))
+
+-- 0, the number of one of these, or 18; never 5
 abbrev pub Answered : ℕ → Type 0
-Answered n = (n ≡ 0) ⊎ (UploadFault n ⊎ (n ≡ ended))
+Answered n = (n ≡ 0) ⊎ (NumberOf UploadFault n ⊎ (n ≡ number_of ended))
 
 -- the last call of every list, so each call
 abbrev pub AnswersNumbered : Type 0
@@ -63,12 +67,14 @@ AnswersNumbered = (cs : List Call) (line out : List ℕ) → line_max ≤ length
 
 -- request [2], "lines .. pass it up; places stay", of bare ones: where no character stands, the refusal is its fault, there
 abbrev pub FaultsPassedUp : Type 0
-FaultsPassedUp = (p : ℕ) (s : List ℕ) → 0 < length s → char_len s ≡ 0 → bare_from p 0 s ≡ Faulty (char_fault s) p
+FaultsPassedUp =
+    (p : ℕ) (s : List ℕ) → 0 < length s → char_len s ≡ 0
+    → (fault : Refusal) × ((char_fault s ≡ Some fault) × (bare_from p 0 s ≡ Err (refused_at fault p)))
 
 -- the first refusal of a finished text: a byte's, or else the open line's
 abbrev pub or_open_line : Fault → ℕ → List ℕ → Fault
 or_open_line none room text = open_fault room (length (records (cut text).closed)) (cut text).open_line
-or_open_line (refuse number at) room text = refuse number at
+or_open_line (refuse refusal at) room text = refuse refusal at
 
 abbrev pub first_refusal : ℕ → List ℕ → Fault
 first_refusal room text = or_open_line (first_fault room text).why room text
@@ -81,8 +87,8 @@ EndedWith rs out m =
 -- what a finished text leaves, by its first refusal: all its records; or those of the lines before the refused byte, and the refusal
 abbrev pub Finished : Fault → List ℕ → List ℕ → Lent → Type 0
 Finished none text out m = EndedWith (records_of true text) out m
-Finished (refuse number at) text out m =
-    (m.state.refusal ≡ number) × (m.state.place ≡ at) × (m.state.line ≡ m.state.lfs + 1)
+Finished (refuse refusal at) text out m =
+    (m.state.refusal ≡ number_of refusal) × (m.state.place ≡ at) × (m.state.line ≡ m.state.lfs + 1)
     × (m.state.taken ≡ (first_fault (length out) text).before)
     × (m.state.ended ≡ false)
     × (m.state.used ≡ length (records (cut (take (first_fault (length out) text).before text)).closed))
@@ -198,8 +204,8 @@ pub record Alike (handed : List ℕ) (d m : Called) : Type 0 where
 abbrev pub HandingOnChangesNothing : Type 0
 HandingOnChangesNothing =
     (ts : List Turn) (line small large : List ℕ)
-    → ((handing line small ts).last.lent.state.refusal ≡ no_room → ⊥)
-    → ((run (began line large) (calls_of ts)).lent.state.refusal ≡ no_room → ⊥)
+    → ((handing line small ts).last.lent.state.refusal ≡ number_of no_room → ⊥)
+    → ((run (began line large) (calls_of ts)).lent.state.refusal ≡ number_of no_room → ⊥)
     → Alike (handing line small ts).handed (handing line small ts).last (run (began line large) (calls_of ts))
 
 -- "an accepted u'' string always gives valid UTF-8": through a line, whose record has kind 1 then
@@ -207,12 +213,13 @@ abbrev pub UnicodeLinesAreUtf8 : Type 0
 UnicodeLinesAreUtf8 =
     (l bs : List ℕ) (n kind : ℕ) → opening (strip l) ≡ opens Unicode n → read_line l ≡ holds kind bs → (kind ≡ 1) × (valid_utf8 bs ≡ true)
 
--- a refusal has a number other than 0, and so has a kind
-abbrev pub LineNumbered : Line → Type 0
-LineNumbered Ignored = Unit
-LineNumbered (Holds kind n) = kind ≡ 0 → ⊥
-LineNumbered (Refused number at) = number ≡ 0 → ⊥
+-- a kind is a number other than 0
+abbrev pub LineNumbered : Result (Option Payload) Refused → Type 0
+LineNumbered (Ok None) = Unit
+LineNumbered (Ok (Some v)) = v.kind ≡ 0 → ⊥
+LineNumbered (Err f) = Unit
 
--- an enum's numbers lose nothing of it: one set of numbers, one answer
+-- an answer's numbers lose nothing of it: one set of numbers, one answer
 abbrev pub LinesTellAll : Type 0
-LinesTellAll = (v w : Line) → LineNumbered v → LineNumbered w → line_numbers v ≡ line_numbers w → v ≡ w
+LinesTellAll =
+    (v w : Result (Option Payload) Refused) → LineNumbered v → LineNumbered w → line_numbers v ≡ line_numbers w → v ≡ w
