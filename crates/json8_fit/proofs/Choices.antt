@@ -19,10 +19,9 @@ use Rattle.json8.specs.Nodes.{Node}
 use Rattle.json8_show.specs.Show.{shown_at}
 use Rattle.trees.specs.Trees.{Tree, number, string, branch}
 use Rattle.trees.specs.Tables.{Maybe, just, nothing, bind, need, nodes_in, count_at, bytes_of, string_of, number_of, scalar_of, leaf_of, label_at, tree_from, grouped, tree_at}
-use Rattle.json8_fit.specs.declared.nodes.Shape.{Shape}
-use Rattle.json8_fit.specs.declared.nodes.Shape.TheVariants.{Group, Leaf}
+use Rattle.std.specs.Prelude.{Option, Some, None}
 use Rattle.json8_fit.specs.Fitness.{is_fit}
-use Rattle.json8_fit.specs.inner.Steps.{node_at, Inside, within, shape_of, word_of}
+use Rattle.json8_fit.specs.inner.Steps.{node_at, Inside, within, sort_of, word_of}
 use Rattle.json8_fit.proofs.TableNodes.{none_there, node_there, no_count}
 
 -- what is needed of something that is fit
@@ -43,7 +42,7 @@ pub unfit_never : {P : Type 0} {A : Type 0} (x : Maybe A) → x ≡ nothing → 
 unfit_never x e f = never (let z : false ≡ true = sym (ap is_fit e) ∙ f in cc)
 
 -- a string, by where it is shown
-pub string_is : (table text store : List ℕ) (i : ℕ) (v : Shown) → Inside table i → v ≡ shown_at table (length text) (length store) i
+pub string_is : (table text store : List ℕ) (i : ℕ) (v : Option Shown) → Inside table i → v ≡ shown_at table (length text) (length store) i
     → string_of text store (node_at i table) ≡ bytes_of text store v
 unfolding string_of shown_at
 string_is table text store i v h e =
@@ -139,24 +138,24 @@ module _ (table text store : List ℕ) (left i : ℕ) where
     abbrev kind : ℕ
     kind = get_or table (4 * i) 0
 
-    module _ (v : Shape) (e : v ≡ shape_of kind) where
-      pub value_group : (b : Sort) → v ≡ Group b → value ≡ grouped left text store b (node_at i table) (drop (i + 1) (nodes_in table))
-      unfolding tree_from shape_of
+    module _ (v : Option Sort) (e : v ≡ sort_of kind) where
+      pub value_group : (b : Sort) → v ≡ Some b → value ≡ grouped left text store b (node_at i table) (drop (i + 1) (nodes_in table))
+      unfolding tree_from sort_of
       value_group b f =
           split (eqb kind 7)
-          (λ a. let z : Group Items ≡ Group b = sym (e ∙ pick_true _ _ _ a) ∙ f in let y : Items ≡ b = cc in rw (← y) (value_is ∙ pick_true _ _ _ a))
+          (λ a. let z : ◌≡◌ {A = Option Sort} (Some Items) (Some b) = sym (e ∙ pick_true _ _ _ a) ∙ f in let y : Items ≡ b = cc in rw (← y) (value_is ∙ pick_true _ _ _ a))
           (λ a. split (eqb kind 8)
-          (λ c. let z : Group Pairs ≡ Group b = sym (e ∙ pick_false _ _ _ a ∙ pick_true _ _ _ c) ∙ f in let y : Pairs ≡ b = cc in
+          (λ c. let z : ◌≡◌ {A = Option Sort} (Some Pairs) (Some b) = sym (e ∙ pick_false _ _ _ a ∙ pick_true _ _ _ c) ∙ f in let y : Pairs ≡ b = cc in
           rw (← y) (value_is ∙ pick_false _ _ _ a ∙ pick_true _ _ _ c))
-          (λ c. never (let z : Leaf ≡ Group b = sym (e ∙ pick_false _ _ _ a ∙ pick_false _ _ _ c) ∙ f in cc)))
+          (λ c. never (let z : ◌≡◌ {A = Option Sort} None (Some b) = sym (e ∙ pick_false _ _ _ a ∙ pick_false _ _ _ c) ∙ f in cc)))
 
-      pub value_leaf : v ≡ Leaf → value ≡ leaf_of text store (node_at i table)
-      unfolding tree_from shape_of
+      pub value_leaf : v ≡ None → value ≡ leaf_of text store (node_at i table)
+      unfolding tree_from sort_of
       value_leaf f =
           split (eqb kind 7)
-          (λ a. never (let z : Group Items ≡ Leaf = sym (e ∙ pick_true _ _ _ a) ∙ f in cc))
+          (λ a. never (let z : ◌≡◌ {A = Option Sort} (Some Items) None = sym (e ∙ pick_true _ _ _ a) ∙ f in cc))
           (λ a. split (eqb kind 8)
-          (λ c. never (let z : Group Pairs ≡ Leaf = sym (e ∙ pick_false _ _ _ a ∙ pick_true _ _ _ c) ∙ f in cc))
+          (λ c. never (let z : ◌≡◌ {A = Option Sort} (Some Pairs) None = sym (e ∙ pick_false _ _ _ a ∙ pick_true _ _ _ c) ∙ f in cc))
           (λ c. value_is ∙ pick_false _ _ _ a ∙ pick_false _ _ _ c))
 
 -- a group, by its node's numbers

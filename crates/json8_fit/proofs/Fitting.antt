@@ -1,51 +1,58 @@
 -- Whether parts of a table are fit: each part's answer is the and of its parts' answers, and a turn of the loop judges one member.
 -- Assumes nothing.
-use Prim.Native.Nat.{ℕ, suc, ◌+◌, ◌-◌, ◌*◌, ◌≤◌, ◌<◌}
+use Prim.Native.Nat.{ℕ, zero, suc, ◌+◌, ◌-◌, ◌*◌, ◌≤◌, ◌<◌}
 use mathlib.Core.Bool.{Bool, true, false, ◌&&◌}
 use mathlib.Core.List.{List}
 use mathlib.Core.Path.{◌≡◌, refl, sym, ap, ◌∙◌}
 use native.Mathlib.Omega.{arith}
-use borrow.Author.Tests.{le-leb, lt-leb, leb-true, eq-eqb}
+use borrow.Author.Tests.{le-leb, lt-leb, leb-true, eq-eqb, ne_eqb}
 use lib.Dec.{leb, eqb}
 use lib.ListN.{length, get_or, take, drop}
 use lib.Seq.{drop-drop}
 use Rattle.prelude.proofs.Cases.{split, and_left}
 use Rattle.prelude.proofs.Picks.{pick_true, pick_false}
-use Rattle.tokens.specs.Numbers.{number_kind}
+use Rattle.std.specs.Prelude.{Option, Some, None}
+use Rattle.tokens.specs.Numbers.{number_kind, kind_told}
 use Rattle.json8.specs.declared.nodes.Sort.{Sort}
 use Rattle.json8.specs.declared.nodes.Sort.TheVariants.{Items, Pairs}
 use Rattle.json8_show.specs.declared.show.Shown.{Shown}
-use Rattle.json8_show.specs.declared.show.Shown.TheVariants.{InText, InStore, Nowhere}
+use Rattle.json8_show.specs.declared.show.Shown.TheVariants.{InText, InStore}
 use Rattle.json8_show.specs.Show.{shown_at}
 use Rattle.json8.specs.Nodes.{Node}
 use Rattle.prelude.specs.Limits.{node_max}
 use Rattle.trees.specs.Trees.{Label, Tree, branch, Members, one}
 use Rattle.trees.specs.Tables.{Maybe, just, nothing, bind, nodes_in, count_at, bytes_of, string_of, number_of, leaf_of, label_size, label_at, member_size, TreeReader, members_at, tree_at, grouped}
 use Rattle.json8_fit.specs.Fitness.{is_fit}
-use Rattle.json8_fit.specs.inner.Steps.{node_at, Inside, within, member_fit}
+use Rattle.json8_fit.specs.inner.Steps.{node_at, Inside, within, member_fit, is_kind}
 use Rattle.json8_fit.proofs.TableNodes.{behind_label, value_room}
 use Rattle.json8_fit.proofs.Choices.{need_fit, string_kept, string_is, number_is, leaf_counts, leaf_scalar, scalar_word, scalar_number, scalar_string, group_deep, group_empty, group_is}
 
 -- strings
-module _ (table text store : List ℕ) (i : ℕ) (v : Shown) (h : Inside table i) (e : v ≡ shown_at table (length text) (length store) i) where
-  pub fit_text : {place size : ℕ} → v ≡ InText place size → true ≡ is_fit (string_of text store (node_at i table))
-  fit_text f = sym (ap is_fit (string_is table text store i v h e ∙ ap (bytes_of text store) f))
+has_bytes : (text store : List ℕ) (w : Shown) → is_fit (bytes_of text store (Some w)) ≡ true
+has_bytes text store (InText place size) = refl
+has_bytes text store (InStore place size) = refl
 
-  pub fit_store : {place size : ℕ} → v ≡ InStore place size → true ≡ is_fit (string_of text store (node_at i table))
-  fit_store f = sym (ap is_fit (string_is table text store i v h e ∙ ap (bytes_of text store) f))
+module _ (table text store : List ℕ) (i : ℕ) (v : Option Shown) (h : Inside table i) (e : v ≡ shown_at table (length text) (length store) i) where
+  pub fit_shown : {w : Shown} → v ≡ Some w → true ≡ is_fit (string_of text store (node_at i table))
+  fit_shown {w} f = sym (ap is_fit (string_is table text store i v h e ∙ ap (bytes_of text store) f) ∙ has_bytes text store w)
 
-  pub fit_nowhere : v ≡ Nowhere → false ≡ is_fit (string_of text store (node_at i table))
+  pub fit_nowhere : v ≡ None → false ≡ is_fit (string_of text store (node_at i table))
   fit_nowhere f = sym (ap is_fit (string_is table text store i v h e ∙ ap (bytes_of text store) f))
 
 -- numbers
+told_kind : (kind : ℕ) → 0 < kind → (k : ℕ) → is_kind kind (kind_told k) ≡ eqb k kind
+told_kind kind h zero = sym (ne_eqb 0 kind (λ z. omega arith))
+told_kind kind h (suc k) = refl
+
 module _ (table text : List ℕ) (i place size : ℕ) (ep : place ≡ get_or table (4 * i + 2) 0) (es : size ≡ get_or table (4 * i + 3) 0) (b : Bool) (eb : b ≡ leb (place + size) (length text)) where
   pub fit_outside : b ≡ false → false ≡ is_fit (number_of text (node_at i table))
   fit_outside f = sym (ap is_fit (number_is table text i place size ep es ∙ pick_false _ _ _ (sym eb ∙ f)))
 
-  pub fit_legal : {l : Bool} → b ≡ true → l ≡ eqb (number_kind (take (place + size - place) (drop place text))) (get_or table (4 * i) 0) → l ≡ is_fit (number_of text (node_at i table))
-  fit_legal {l} f el =
+  pub fit_legal : {l : Bool} → 0 < get_or table (4 * i) 0 → b ≡ true
+      → l ≡ is_kind (get_or table (4 * i) 0) (kind_told (number_kind (take (place + size - place) (drop place text)))) → l ≡ is_fit (number_of text (node_at i table))
+  fit_legal {l} p f el =
       let z : place + size - place ≡ size = omega arith in
-      (rw z at el) ∙ sym (ap is_fit (number_is table text i place size ep es ∙ pick_true _ _ _ (sym eb ∙ f)) ∙ need_fit _ _)
+      (rw z at el) ∙ told_kind _ p _ ∙ sym (ap is_fit (number_is table text i place size ep es ∙ pick_true _ _ _ (sym eb ∙ f)) ∙ need_fit _ _)
 
 -- leaves
 module _ (text store : List ℕ) (v : Node) where

@@ -7,7 +7,7 @@ use native.Mathlib.Omega.{arith}
 use lib.ListN.{length, get_or, drop, drop_of_length-le, length-drop}
 use lib.Seq.{drop-cons, drop-drop}
 use Rattle.json8.specs.declared.nodes.Sort.{Sort}
-use Rattle.json8.specs.Nodes.{Node, node}
+use Rattle.json8.specs.Nodes.{Node}
 use Rattle.prelude.specs.Limits.{node_max}
 use Rattle.trees.specs.Tables.{nodes_in, count_at, label_size, member_size}
 use Rattle.json8_fit.specs.inner.Steps.{node_at}

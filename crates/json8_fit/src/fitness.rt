@@ -7,10 +7,8 @@ ghost use Rattle.json8_fit.specs.inner.Steps.{Inside, node_at, member_fit, withi
 ghost use Rattle.json8_fit.specs.Fitness.{is_fit};
 
 use crate::nodes;
-use crate::nodes::Shape;
 use json8::nodes::Sort;
 use json8_show::show;
-use json8_show::show::Shown;
 use prelude::limits::{DEPTH_MAX, NODE_MAX};
 
 // A string of kind 5 or 6 in its buffer.
@@ -19,9 +17,8 @@ fn is_string(table: &[u32], text: &[u8], store: &[u8], i: usize) -> bool
     ensures { result ≡ is_fit (string_of text.now store.now (node_at i table.now)) }
 {
     match show::shown_at(table, text.len(), store.len(), i) {
-        Shown::InText(_, _) => true,
-        Shown::InStore(_, _) => true,
-        Shown::Nowhere => false,
+        Some(_) => true,
+        None => false,
     }
 }
 
@@ -84,9 +81,9 @@ fn is_value(table: &[u32], text: &[u8], store: &[u8], i: usize, left: usize) -> 
     if table.len() / 4 <= i {
         return false;
     }
-    match nodes::shape_of(table[4 * i]) {
-        Shape::Group(sort) => is_group(table, text, store, i, left, sort),
-        Shape::Leaf => is_leaf(table, text, store, i),
+    match nodes::sort_of(table[4 * i]) {
+        Some(sort) => is_group(table, text, store, i, left, sort),
+        None => is_leaf(table, text, store, i),
     }
 }
 

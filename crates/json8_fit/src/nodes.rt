@@ -1,30 +1,24 @@
 // A table's numbers, and whether a node's number text is legal.
-ghost use Rattle.std.specs.Prelude.{◌≡◌, ◌+◌, ◌*◌, ◌≤◌, ◌<◌, eqb, length, get_or, drop};
-ghost use Rattle.tokens.specs.Numbers.{number_kind};
+ghost use Rattle.std.specs.Prelude.{◌≡◌, ◌+◌, ◌*◌, ◌≤◌, ◌<◌, length, get_or, drop};
+ghost use Rattle.tokens.specs.Numbers.{number_kind, kind_told};
 ghost use Rattle.prelude.specs.Limits.{node_max};
 ghost use Rattle.trees.specs.Tables.{nodes_in, count_at, label_size, member_size};
-ghost use Rattle.json8_fit.specs.inner.Steps.{shape_of};
+ghost use Rattle.json8_fit.specs.inner.Steps.{sort_of, is_kind};
 
 use json8::nodes::Sort;
 use tokens::numbers;
 
-// A group, which is a list or a dict; or a value that holds no other.
-#[derive(Clone, Copy)]
-pub enum Shape {
-    Group(Sort),
-    Leaf,
-}
-
-pub fn shape_of(kind: u32) -> Shape
-    ensures { result ≡ shape_of kind }
+// The sort of a group, which is a list or a dict, by its kind; none of a value that holds no other.
+pub fn sort_of(kind: u32) -> Option<Sort>
+    ensures { result ≡ sort_of kind }
 {
     if kind == 7 {
-        return Shape::Group(Sort::Items);
+        return Some(Sort::Items);
     }
     if kind == 8 {
-        return Shape::Group(Sort::Pairs);
+        return Some(Sort::Pairs);
     }
-    Shape::Leaf
+    None
 }
 
 pub fn label_size(sort: Sort) -> usize
@@ -65,7 +59,10 @@ pub fn member_size(table: &[u32], at: usize, sort: Sort) -> usize
 
 // Whether a text is a number of this kind, all of it.
 pub(crate) fn is_legal(kind: u32, s: &[u8]) -> bool
-    ensures { result ≡ eqb (number_kind s.now) kind }
+    ensures { result ≡ is_kind kind (kind_told (number_kind s.now)) }
 {
-    numbers::kind_of(s) == kind
+    match numbers::kind_of(s) {
+        Some(k) => k == kind,
+        None => false,
+    }
 }

@@ -1,10 +1,8 @@
 -- What the functions of the code promise each other: these speak of the code alone, and no rule cites them.
 -- Assumes nothing.
-use Rattle.std.specs.Prelude.{ℕ, ◌+◌, ◌*◌, ◌/◌, ◌<◌, Bool, true, false, ◌&&◌, List, leb, eqb, length, get_or, drop}
+use Rattle.std.specs.Prelude.{ℕ, ◌+◌, ◌*◌, ◌/◌, ◌<◌, Bool, true, false, ◌&&◌, Option, Some, None, List, leb, eqb, length, get_or, drop}
 use Rattle.json8.specs.declared.nodes.Sort.{Sort}
 use Rattle.json8.specs.declared.nodes.Sort.TheVariants.{Items, Pairs}
-use Rattle.json8_fit.specs.declared.nodes.Shape.{Shape}
-use Rattle.json8_fit.specs.declared.nodes.Shape.TheVariants.{Group, Leaf}
 use Rattle.prelude.specs.Pick.{pick}
 use Rattle.json8.specs.Nodes.{Node, node}
 use Rattle.trees.specs.Trees.{Label, Tree, null, bool, Members}
@@ -19,8 +17,13 @@ abbrev pub Inside : List ℕ → ℕ → Type 0
 Inside table i = i < length table / 4
 
 -- a list or a dict by its kind, or neither
-unfoldable pub shape_of : ℕ → Shape
-shape_of kind = pick (eqb kind 7) (Group Items) (pick (eqb kind 8) (Group Pairs) Leaf)
+unfoldable pub sort_of : ℕ → Option Sort
+sort_of kind = pick (eqb kind 7) (Some Items) (pick (eqb kind 8) (Some Pairs) None)
+
+-- what a text is as a number is of this kind
+abbrev pub is_kind : ℕ → Option ℕ → Bool
+is_kind kind (Some k) = eqb k kind
+is_kind kind None = false
 
 -- the value of a kind from 0 to 2
 unfoldable pub word_of : ℕ → Tree

@@ -117,8 +117,8 @@ is_value-returns-then-table-i t c = sym (ap (λ (x : Maybe Tree). is_fit x) (val
 pub is_value-bounds-table-i : goal.is_value-bounds-table-i
 is_value-bounds-table-i t c = omega arith
 
-pub is_value-shape_of-requires : goal.is_value-shape_of-requires
-is_value-shape_of-requires t c = tt
+pub is_value-sort_of-requires : goal.is_value-sort_of-requires
+is_value-sort_of-requires t c = tt
 
 pub is_value-is_group-requires : goal.is_value-is_group-requires
 is_value-is_group-requires t c = (omega (arith, c.decreases), (c.if-table-i.false, omega (arith, c.requires, count_there c.args.i c.args.table.now c.if-table-i.false)))
@@ -126,10 +126,10 @@ is_value-is_group-requires t c = (omega (arith, c.decreases), (c.if-table-i.fals
 pub is_value-is_leaf-requires : goal.is_value-is_leaf-requires
 is_value-is_leaf-requires t c = c.if-table-i.false
 
-pub is_value-returns-in-Group : goal.is_value-returns-in-Group
-is_value-returns-in-Group t c =
-    c.is_group.ensures ∙ sym (ap (λ (x : Maybe Tree). is_fit x) (value_group c.args.table.now c.args.text.now c.args.store.now c.args.left c.args.i c.if-table-i.false _ c.shape_of.ensures _ c.in-Group.is))
+pub is_value-returns-in-Some : goal.is_value-returns-in-Some
+is_value-returns-in-Some t c =
+    c.is_group.ensures ∙ sym (ap (λ (x : Maybe Tree). is_fit x) (value_group c.args.table.now c.args.text.now c.args.store.now c.args.left c.args.i c.if-table-i.false _ c.sort_of.ensures _ c.in-Some.is))
 
-pub is_value-returns-in-Leaf : goal.is_value-returns-in-Leaf
-is_value-returns-in-Leaf t c =
-    c.is_leaf.ensures ∙ sym (ap (λ (x : Maybe Tree). is_fit x) (value_leaf c.args.table.now c.args.text.now c.args.store.now c.args.left c.args.i c.if-table-i.false _ c.shape_of.ensures c.in-Leaf.is))
+pub is_value-returns-in-None : goal.is_value-returns-in-None
+is_value-returns-in-None t c =
+    c.is_leaf.ensures ∙ sym (ap (λ (x : Maybe Tree). is_fit x) (value_leaf c.args.table.now c.args.text.now c.args.store.now c.args.left c.args.i c.if-table-i.false _ c.sort_of.ensures c.in-None.is))

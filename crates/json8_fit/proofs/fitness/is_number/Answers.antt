@@ -17,4 +17,4 @@ slice_bounds-is_legal-end c = leb-true _ _ (sym c.is_within.ensures ∙ c.if-not
 
 pub returns : goal.returns
 returns c =
-    fit_legal c.args.table.now c.args.text.now c.args.i _ _ c.number_in-place.ensures.0 c.number_in-size.ensures.0 _ c.is_within.ensures (c.if-not-is_within.false) c.is_legal.ensures
+    fit_legal c.args.table.now c.args.text.now c.args.i _ _ c.number_in-place.ensures.0 c.number_in-size.ensures.0 _ c.is_within.ensures c.requires.1 (c.if-not-is_within.false) c.is_legal.ensures
