@@ -1,17 +1,13 @@
 -- What is claimed of the structs of include/j8.h, beside the contracts: turned into each other, they lose nothing. Each claim is a type, and
 -- proofs/Claims.antt has a term of it.
 -- Assumes nothing.
-use Rattle.std.specs.Prelude.{◌≡◌, eqb}
+use Rattle.std.specs.Prelude.{ℕ, ◌≡◌, eqb, Option, Result}
 use Rattle.prelude.specs.Pick.{pick}
-use Rattle.strings.specs.declared.answers.Decoded.{Decoded}
-use Rattle.strings.specs.declared.answers.Decoded.TheVariants as strings
-use Rattle.prelude.specs.declared.answers.Written.{Written}
-use Rattle.prelude.specs.declared.answers.Written.TheVariants as texts
+use Rattle.prelude.specs.declared.refusals.Refusal.{Refusal}
+use Rattle.prelude.specs.declared.refusals.Refused.{Refused}
 use Rattle.json8.specs.declared.answers.Parsed.{Parsed}
-use Rattle.json8.specs.declared.answers.Parsed.TheVariants as parsed
 use Rattle.json8_show.specs.declared.show.Shown.{Shown}
 use Rattle.tsv8.specs.declared.answers.Sheet.{Sheet}
-use Rattle.tsv8.specs.declared.answers.Sheet.TheVariants as sheets
 use Rattle.upload.specs.declared.uploads.Upload.{Upload}
 use Rattle.upload.specs.declared.uploads.Fed.{Fed}
 use Rattle.structs.specs.declared.uploads.J8Upload.{J8Upload}
@@ -32,28 +28,11 @@ StructsReturn = (u : J8Upload) → upload_of (state_of u) ≡ upload_with (state
 abbrev pub FedTellsAll : Type 0
 FedTellsAll = (f g : Fed) → fed_from f ≡ fed_from g → f ≡ g
 
--- a refusal has a number other than 0
-abbrev pub DecodedNumbered : Decoded → Type 0
-DecodedNumbered (strings.Done n) = Unit
-DecodedNumbered (strings.Refused number place) = number ≡ 0 → ⊥
-
-abbrev pub WrittenNumbered : Written → Type 0
-WrittenNumbered (texts.Wrote n) = Unit
-WrittenNumbered (texts.Refused number) = number ≡ 0 → ⊥
-
-abbrev pub NodesNumbered : Parsed → Type 0
-NodesNumbered (parsed.Done nodes stored) = Unit
-NodesNumbered (parsed.Refused number place) = number ≡ 0 → ⊥
-
-abbrev pub SheetNumbered : Sheet → Type 0
-SheetNumbered (sheets.Done columns cells stored) = Unit
-SheetNumbered (sheets.Refused number place) = number ≡ 0 → ⊥
-
 -- "number 0: done", and each other number a refusal: one struct, one answer
 abbrev pub ResultsTellAll : Type 0
 ResultsTellAll =
-    ((v w : Decoded) → DecodedNumbered v → DecodedNumbered w → decoded_result v ≡ decoded_result w → v ≡ w)
-    × ((v w : Written) → WrittenNumbered v → WrittenNumbered w → written_result v ≡ written_result w → v ≡ w)
-    × ((v w : Parsed) → NodesNumbered v → NodesNumbered w → nodes_result v ≡ nodes_result w → v ≡ w)
-    × ((v w : Shown) → shown_result v ≡ shown_result w → v ≡ w)
-    × ((v w : Sheet) → SheetNumbered v → SheetNumbered w → sheet_result v ≡ sheet_result w → v ≡ w)
+    ((v w : Result ℕ Refused) → decoded_result v ≡ decoded_result w → v ≡ w)
+    × ((v w : Result ℕ Refusal) → written_result v ≡ written_result w → v ≡ w)
+    × ((v w : Result Parsed Refused) → nodes_result v ≡ nodes_result w → v ≡ w)
+    × ((v w : Option Shown) → shown_result v ≡ shown_result w → v ≡ w)
+    × ((v w : Result Sheet Refused) → sheet_result v ≡ sheet_result w → v ≡ w)

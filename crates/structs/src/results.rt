@@ -2,8 +2,7 @@
 ghost use Rattle.std.specs.Prelude.{◌≡◌};
 ghost use Rattle.structs.specs.Results.{done, refusal, decoded_result, written_result};
 
-use prelude::answers::Written;
-use strings::answers::Decoded;
+use prelude::refusals::{Refusal, Refused};
 
 // `j8_result` of the header.
 #[repr(C)]
@@ -24,30 +23,30 @@ fn done(n: usize) -> J8Result
     }
 }
 
-fn refusal(number: u32, place: usize) -> J8Result
-    ensures { result ≡ refusal number place }
+fn refusal(why: Refused) -> J8Result
+    ensures { result ≡ refusal why.refusal why.place }
 {
     J8Result {
-        number,
-        place,
+        number: why.refusal.number(),
+        place: why.place,
         length: 0,
     }
 }
 
-pub fn of_decoded(answer: Decoded) -> J8Result
+pub fn of_decoded(answer: Result<usize, Refused>) -> J8Result
     ensures { result ≡ decoded_result answer }
 {
     match answer {
-        Decoded::Done(n) => done(n),
-        Decoded::Refused(number, place) => refusal(number, place),
+        Ok(n) => done(n),
+        Err(why) => refusal(why),
     }
 }
 
-pub fn of_written(answer: Written) -> J8Result
+pub fn of_written(answer: Result<usize, Refusal>) -> J8Result
     ensures { result ≡ written_result answer }
 {
     match answer {
-        Written::Wrote(n) => done(n),
-        Written::Refused(number) => refusal(number, 0),
+        Ok(n) => done(n),
+        Err(why) => refusal(why.at(0)),
     }
 }

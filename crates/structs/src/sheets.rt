@@ -2,6 +2,7 @@
 ghost use Rattle.std.specs.Prelude.{◌≡◌};
 ghost use Rattle.structs.specs.Sheets.{sheet_result};
 
+use prelude::refusals::Refused;
 use tsv8::answers::Sheet;
 
 // `j8_sheet` of the header.
@@ -15,20 +16,20 @@ pub struct J8Sheet {
     pub stored: usize,
 }
 
-pub fn of_sheet(answer: Sheet) -> J8Sheet
+pub fn of_sheet(answer: Result<Sheet, Refused>) -> J8Sheet
     ensures { result ≡ sheet_result answer }
 {
     match answer {
-        Sheet::Done(columns, cells, stored) => J8Sheet {
+        Ok(sheet) => J8Sheet {
             number: 0,
             place: 0,
-            columns,
-            cells,
-            stored,
+            columns: sheet.columns,
+            cells: sheet.cells,
+            stored: sheet.stored,
         },
-        Sheet::Refused(number, place) => J8Sheet {
-            number,
-            place,
+        Err(why) => J8Sheet {
+            number: why.refusal.number(),
+            place: why.place,
             columns: 0,
             cells: 0,
             stored: 0,

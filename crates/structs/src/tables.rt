@@ -4,6 +4,7 @@ ghost use Rattle.structs.specs.Tables.{nodes_result, shown_result};
 
 use json8::answers::Parsed;
 use json8_show::show::Shown;
+use prelude::refusals::{Refusal, Refused};
 
 // `j8_nodes` of the header.
 #[repr(C)]
@@ -25,43 +26,43 @@ pub struct J8Shown {
     pub length: usize,
 }
 
-pub fn of_parsed(answer: Parsed) -> J8Nodes
+pub fn of_parsed(answer: Result<Parsed, Refused>) -> J8Nodes
     ensures { result ≡ nodes_result answer }
 {
     match answer {
-        Parsed::Done(nodes, stored) => J8Nodes {
+        Ok(parsed) => J8Nodes {
             number: 0,
             place: 0,
-            nodes,
-            stored,
+            nodes: parsed.nodes,
+            stored: parsed.stored,
         },
-        Parsed::Refused(number, place) => J8Nodes {
-            number,
-            place,
+        Err(why) => J8Nodes {
+            number: why.refusal.number(),
+            place: why.place,
             nodes: 0,
             stored: 0,
         },
     }
 }
 
-pub fn of_shown(shown: Shown) -> J8Shown
-    ensures { result ≡ shown_result shown }
+pub fn of_shown(answer: Option<Shown>) -> J8Shown
+    ensures { result ≡ shown_result answer }
 {
-    match shown {
-        Shown::InText(place, size) => J8Shown {
+    match answer {
+        Some(Shown::InText(place, size)) => J8Shown {
             number: 0,
             stored: 0,
             place,
             length: size,
         },
-        Shown::InStore(place, size) => J8Shown {
+        Some(Shown::InStore(place, size)) => J8Shown {
             number: 0,
             stored: 1,
             place,
             length: size,
         },
-        Shown::Nowhere => J8Shown {
-            number: 1,
+        None => J8Shown {
+            number: Refusal::Unfit.number(),
             stored: 0,
             place: 0,
             length: 0,
