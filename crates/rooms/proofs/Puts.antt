@@ -10,15 +10,13 @@ use lib.Dec.{leb}
 use borrow.Rule.Slice.PartMut.{put_mid}
 use lib.ListN.{length, take, drop, length-append, length-drop}
 use lib.Seq.{sets, length-take-le, take_all, take-take, take-append-le, take-append-add}
-use Rattle.prelude.proofs.Cases.{split}
-use Rattle.prelude.proofs.Picks.{pick_case, pick_true, pick_false}
+use Rattle.std.specs.Prelude.{Option, Some, None}
+use Rattle.prelude.proofs.Cases.{split, never}
+use Rattle.prelude.proofs.Picks.{pick_true, pick_false}
 use Rattle.prelude.proofs.Stores.{sets_append, sets_part}
 use Rattle.prelude.specs.Pick.{pick}
-use Rattle.utf8.specs.Utf8.{valid_utf8}
-use Rattle.notation.specs.declared.styles.Form.TheVariants.{AsJson, AsBytes}
-use Rattle.strings_write.specs.Write.{quoted, write_string}
+use Rattle.strings_write.specs.Write.{write_string}
 use Rattle.strings_write.specs.inner.Passes.{Passed}
-use Rattle.strings_write.proofs.Writing.{quoted_positive}
 use Rattle.rooms.specs.inner.Puts.{behind, Put}
 
 -- the place behind a text that fits, behind one that doesn't, and where the place is past the room already
@@ -126,34 +124,32 @@ module _ (s : List ℕ) (at n : ℕ) (h : at + n ≤ length s) {room o : ℕ} {o
   run_put g f w = put_done (omega (arith, run_length s at n h)) (omega (arith, run_length s at n h)) w
 
 -- a string, as one pass of its writer puts it into the part from o on, or nowhere where o is past the end
-string_some : (s : List ℕ) → 0 < length (write_string s)
-unfolding write_string
-string_some s = pick_case (λ (x : List ℕ). 0 < length x) (valid_utf8 s) (quoted AsJson s) (quoted AsBytes s) (λ e. quoted_positive AsJson s) (λ e. quoted_positive AsBytes s)
-
-module _ (s out : List ℕ) (room o b m : ℕ) (part : List ℕ) (h : o ≤ room) (f : o ≤ length out → b ≡ o) (g : length out ≤ o → b ≡ length out)
+module _ (s out : List ℕ) (room o b : ℕ) (m : Option ℕ) (part : List ℕ) (h : o ≤ room) (f : o ≤ length out → b ≡ o) (g : length out ≤ o → b ≡ length out)
     (p : Passed (write_string s) (room - o) m (take (length out - b) (drop b out)) part) where
   string_stored : put_mid b (length out - b) out part ≡ sets out o (take (room - o) (write_string s))
   string_stored = ap (put_mid b (length out - b) out) p.stored ∙ sets_part out (take (room - o) (write_string s)) o b f g
 
-  pub string_over : m ≡ 0 → Put (write_string s) room o (room + 1) out (put_mid b (length out - b) out part)
+  pub string_over : m ≡ None → Put (write_string s) room o (room + 1) out (put_mid b (length out - b) out part)
   unfolding pick
   string_over z =
       let k : room - o < length (write_string s) =
       split (leb (length (write_string s)) (room - o))
-      (λ e. let q : m ≡ length (write_string s) = p.answer ∙ rw e in absurd (omega (arith, string_some s)))
+      (λ e. let q : ◌≡◌ {A = Option ℕ} None (Some (length (write_string s))) = sym z ∙ p.answer ∙ rw e in never (cc))
       (λ e. leb-false _ _ e) in
       put_over h (omega arith) string_stored
 
-  module _ (nz : m ≡ 0 → ⊥) where
-    string_fits : (length (write_string s) ≤ room - o) × (m ≡ length (write_string s))
+  module _ (n : ℕ) (i : m ≡ Some n) where
+    string_fits : (length (write_string s) ≤ room - o) × (n ≡ length (write_string s))
     unfolding pick
     string_fits =
-        split (leb (length (write_string s)) (room - o)) (λ e. (leb-true _ _ e, p.answer ∙ rw e)) (λ e. absurd (nz (p.answer ∙ rw e)))
+        split (leb (length (write_string s)) (room - o))
+        (λ e. let q : ◌≡◌ {A = Option ℕ} (Some n) (Some (length (write_string s))) = sym i ∙ p.answer ∙ rw e in let k : n ≡ length (write_string s) = cc in (leb-true _ _ e, k))
+        (λ e. let q : ◌≡◌ {A = Option ℕ} (Some n) None = sym i ∙ p.answer ∙ rw e in never (cc))
 
-    pub string_inside : o + m ≤ room
+    pub string_inside : o + n ≤ room
     string_inside = omega (arith, string_fits.0, string_fits.1)
 
-    pub string_put : Put (write_string s) room o (o + m) out (put_mid b (length out - b) out part)
+    pub string_put : Put (write_string s) room o (o + n) out (put_mid b (length out - b) out part)
     string_put = record {
       answer = ap (λ (k : ℕ). o + k) string_fits.1 ∙ sym (behind_fits room o (write_string s) (omega (arith, string_fits.0)));
       stored = string_stored;

@@ -56,11 +56,10 @@ pub fn put_string(t: &Classes, s: &[u8], room: usize, o: usize, out: &mut [u8]) 
         return o;
     }
     let b = slices::least(o, out.len());
-    let m = write::write_run(t, s, room - o, &mut out[b..]);
-    if m == 0 {
-        return room + 1;
+    match write::write_run(t, s, room - o, &mut out[b..]) {
+        Some(m) => o + m,
+        None => room + 1,
     }
-    o + m
 }
 
 // The same where it is known whether the bytes are valid UTF-8.
@@ -72,9 +71,8 @@ pub fn put_part(t: &Classes, valid: bool, s: &[u8], room: usize, o: usize, out: 
         return o;
     }
     let b = slices::least(o, out.len());
-    let m = write::write_part(t, valid, s, room - o, &mut out[b..]);
-    if m == 0 {
-        return room + 1;
+    match write::write_part(t, valid, s, room - o, &mut out[b..]) {
+        Some(m) => o + m,
+        None => room + 1,
     }
-    o + m
 }

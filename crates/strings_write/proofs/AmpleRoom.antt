@@ -5,6 +5,7 @@ use mathlib.Core.Bool.{Bool, true, false}
 use mathlib.Core.List.{List, [], ◌∷◌, ◌++◌, append_assoc}
 use Prim.Native.Nat.{ℕ, ◌+◌, ◌-◌, ◌*◌, ◌≤◌}
 use native.Mathlib.Omega.{arith}
+use Rattle.std.specs.Prelude.{Option, Some}
 use lib.ListN.{length, take, drop, set, length-append, length-drop, drop_of_length-le}
 use lib.Seq.{sets, take-add, take_all, take-length, drop-drop, length-take-le}
 use Rattle.prelude.specs.Bytes.{double_quote}
@@ -60,12 +61,12 @@ module _ (s : List ℕ) (at : ℕ) where
 
 module _ (s o : List ℕ) (at room : ℕ) (out : List ℕ) (f : Fronted s o at out) where
   -- all of the data
-  pub all_front : at ≡ length s → 6 * length s + 2 ≤ room → Passed (write_string s) room (at + 2) o (set out (at + 1) double_quote)
+  pub all_front : at ≡ length s → 6 * length s + 2 ≤ room → Passed (write_string s) room (Some (at + 2)) o (set out (at + 1) double_quote)
   all_front e h =
       let z : literal_run Json 0 (drop at s) ≤ length s - at = rw (length-drop at s) at (run_fits Json (drop at s)) in
       let l : literal_run Json 0 s ≡ length s = omega (arith, f.run.same) in
       let w : out ≡ sets (set o 0 double_quote) 1 (take (length s) s) = f.stored ∙ ap (λ (i : ℕ). sets (set o 0 double_quote) 1 (take i s)) e in
-      subst (λ (i : ℕ). Passed (write_string s) room (i + 2) o (set out (i + 1) double_quote)) (sym e) (literal_part s o l (omega arith) refl w refl)
+      subst (λ (i : ℕ). Passed (write_string s) room (Some (i + 2)) o (set out (i + 1) double_quote)) (sym e) (literal_part s o l (omega arith) refl w refl)
 
   -- valid data
   module _ (v : true ≡ valid_utf8 (drop at s)) where
@@ -75,7 +76,7 @@ module _ (s o : List ℕ) (at room : ℕ) (out : List ℕ) (f : Fronted s o at o
         ap (λ (x : List ℕ). double_quote ∷ (x ++ (double_quote ∷ []))) (written_from s at f.run ∙ ap (λ (x : List ℕ). take at s ++ x) (bytewise (drop at s) (sym v) ∙ ap bytes_text (sym (rest s at))))
         ∙ ap (λ (x : List ℕ). double_quote ∷ x) (append_assoc (take at s) (text_of s at (length s)) (double_quote ∷ []))
 
-    pub valid_text_behind : (r : ℕ) (out2 : List ℕ) → 6 * length s + 2 ≤ room → Texted s at (length s) (at + 1) out r out2 → Passed (write_string s) room (r + 1) o (set out2 r double_quote)
+    pub valid_text_behind : (r : ℕ) (out2 : List ℕ) → 6 * length s + 2 ≤ room → Texted s at (length s) (at + 1) out r out2 → Passed (write_string s) room (Some (r + 1)) o (set out2 r double_quote)
     valid_text_behind r out2 h w =
         let t : List ℕ = text_of s at (length s) in
         let n : length (double_quote ∷ take at s) ≡ at + 1 = omega (arith, length-take-le at s f.run.inside) in
@@ -89,7 +90,7 @@ module _ (s o : List ℕ) (at room : ℕ) (out : List ℕ) (f : Fronted s o at o
         rw (valid_text s (valid_from_lem s at f.run ∙ sym v)) (finished (omega (arith, quoted_length AsJson s)) l p)
 
   -- any other data: its text covers the front
-  pub other_text_over : (r : ℕ) (new : List ℕ) → 6 * length s + 2 ≤ room → false ≡ valid_utf8 (drop at s) → Passed (quoted AsBytes s) room r out new → Passed (write_string s) room r o new
+  pub other_text_over : (r : Option ℕ) (new : List ℕ) → 6 * length s + 2 ≤ room → false ≡ valid_utf8 (drop at s) → Passed (quoted AsBytes s) room r out new → Passed (write_string s) room r o new
   other_text_over r new h v p =
       let n : length (double_quote ∷ take at s) ≤ length (quoted AsBytes s) = omega (arith, length-take-le at s f.run.inside, quoted_least AsBytes s, f.run.inside) in
       let e : write_string s ≡ quoted AsBytes s = other_text s (valid_from_lem s at f.run ∙ sym v) in

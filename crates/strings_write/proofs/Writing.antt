@@ -12,7 +12,7 @@ use lib.ListN.{length, get_or, take, drop, set, length-drop, length-append, leng
 use lib.Seq.{sets, length-sets, length-take-le, take_all, take-length, take-append-le, drop-drop, drop-cons, set-append_left}
 use Rattle.prelude.specs.Bytes.{double_quote}
 use Rattle.prelude.specs.Pick.{pick}
-use Rattle.prelude.proofs.Cases.{split}
+use Rattle.prelude.proofs.Cases.{split, never}
 use Rattle.prelude.proofs.Stores.{sets_append, sets_over, sets_out, clipped, empty_front}
 use Rattle.utf8.specs.Utf8.{valid_utf8}
 use Rattle.notation.specs.declared.styles.Style.{Style}
@@ -27,7 +27,8 @@ use Rattle.notation.proofs.LiteralLaws.{run_fits, run_ends, run_valid, all_liter
 use Rattle.runs.proofs.LiteralRuns.{at_end_lem}
 use Rattle.units.proofs.EscapeStores.{escape_written}
 use Rattle.units.proofs.WrittenUnits.{limit}
-use Rattle.std.specs.Prelude.{Result, Ok, Err}
+use Rattle.std.specs.Prelude.{Option, Some, None, Result, Ok, Err}
+use Rattle.std.specs.Option.{ok_or}
 use Rattle.prelude.specs.declared.refusals.Refusal.{Refusal}
 use Rattle.prelude.specs.Refusals.{no_room}
 use Rattle.strings_write.specs.Write.{write_units, mark, quoted, write_string, written_in, wrote_into}
@@ -41,7 +42,7 @@ closed form s = write_units form 0 s ++ (quote (style_of form) ∷ [])
 
 -- a pass that stops: what is stored reaches the end of a buffer that isn't longer than the room
 stopped : {text : List ℕ} {room : ℕ} {out new : List ℕ} (done rest : List ℕ) → text ≡ done ++ rest → room < length text → length out ≤ room → length out ≤ length done
-    → new ≡ sets out 0 done → Passed text room 0 out new
+    → new ≡ sets out 0 done → Passed text room None out new
 unfolding pick
 stopped {text} {room} {out} done rest e h l g w = record {
   answer = rw (lt-leb (length text) room h);
@@ -51,12 +52,12 @@ stopped {text} {room} {out} done rest e h l g w = record {
 }
 
 -- one that ends
-pub finished : {text : List ℕ} {room r : ℕ} {out new : List ℕ} → length text ≤ room → length text ≡ r → new ≡ sets out 0 text → Passed text room r out new
+pub finished : {text : List ℕ} {room r : ℕ} {out new : List ℕ} → length text ≤ room → length text ≡ r → new ≡ sets out 0 text → Passed text room (Some r) out new
 unfolding pick
 finished {text} {room} {r} {out} h e w =
-    record { answer = rw (le-leb (length text) room h) (sym e); stored = w ∙ ap (sets out 0) (sym (take_all room text h)) }
+    record { answer = rw (le-leb (length text) room h) (ap Some (sym e)); stored = w ∙ ap (sets out 0) (sym (take_all room text h)) }
 
-pub stored_whole : {text : List ℕ} {room r : ℕ} {out new : List ℕ} → Passed text room r out new → length text ≤ room → new ≡ sets out 0 text
+pub stored_whole : {text : List ℕ} {room : ℕ} {r : Option ℕ} {out new : List ℕ} → Passed text room r out new → length text ≤ room → new ≡ sets out 0 text
 stored_whole {text} {room} {r} {out} p h = p.stored ∙ ap (sets out 0) (take_all room text h)
 
 -- a pass over the part of a buffer that lies in the room
@@ -65,7 +66,7 @@ sets_front [] pre post i h = refl
 sets_front (v ∷ xs) pre post i h =
     sets_front xs (set pre i v) post (suc i) (omega (arith, length-set pre i v)) ∙ ap (λ (l : List ℕ). sets l (suc i) xs) (sym (set-append_left pre post i v (omega arith)))
 
-pub part_passed : {text : List ℕ} {room r n : ℕ} {out new : List ℕ} → (room ≤ length out → n ≡ room) → (length out ≤ room → n ≡ length out)
+pub part_passed : {text : List ℕ} {room : ℕ} {r : Option ℕ} {n : ℕ} {out new : List ℕ} → (room ≤ length out → n ≡ room) → (length out ≤ room → n ≡ length out)
     → Passed text room r (take n out) new → Passed text room r out (new ++ drop n out)
 part_passed {text} {room} {r} {n} {out} {new} f g p = record {
   answer = p.answer;
@@ -88,7 +89,7 @@ pub record Writing (form : Form) (s : List ℕ) (room : ℕ) (out₀ : List ℕ)
 
 -- the mark alone, which passes the room or begins the loop
 module _ (form : Form) (s : List ℕ) {room f : ℕ} (e : f ≡ length (mark form)) where
-  pub mark_stuck : {out new : List ℕ} → room ≤ f → length out ≤ room → new ≡ sets out 0 (mark form) → Passed (quoted form s) room 0 out new
+  pub mark_stuck : {out new : List ℕ} → room ≤ f → length out ≤ room → new ≡ sets out 0 (mark form) → Passed (quoted form s) room None out new
   unfolding quoted
   mark_stuck h l w = stopped (mark form) (closed form s) refl
       (omega (arith, length-append (mark form) (closed form s), length-append (write_units form 0 s) (quote (style_of form) ∷ []))) l (omega arith) w
@@ -127,7 +128,7 @@ module _ {form : Form} {s : List ℕ} {room : ℕ} {out₀ : List ℕ} {at o : �
     moved h f w = record { inside = h; below = omega (arith, i.below); done = i.done ++ p; size = size_on; same = parts; stored = stored_on w }
 
     stuck : {out' : List ℕ} (t : List ℕ) → out₀ ≡ sets t 0 (mark form) → length t ≤ room → room - 1 - o < length p → out' ≡ sets out o p
-        → Passed (quoted form s) room 0 t out'
+        → Passed (quoted form s) room None t out'
     stuck t g l f w =
         let a : length (quoted form s) ≡ length (i.done ++ p) + length (closed form (drop (at + u) s)) = ap length parts ∙ length-append (i.done ++ p) _ in
         let d : length (closed form (drop (at + u) s)) ≡ length (write_units form 0 (drop (at + u) s)) + 1 = length-append (write_units form 0 (drop (at + u) s)) (quote (style_of form) ∷ []) in
@@ -142,7 +143,7 @@ module _ {form : Form} {s : List ℕ} {room : ℕ} {out₀ : List ℕ} {at o : �
     pub escape_moved : m ≤ room - 1 - o → Writing form s room out₀ (at + 1) (o + m) out'
     escape_moved f = rw em (moved (escape_byte form (get_or s at 0)) 1 escape_here (omega arith) (rw em at f) w)
 
-    pub escape_stuck : (t : List ℕ) → out₀ ≡ sets t 0 (mark form) → length t ≤ room → room - 1 - o < m → Passed (quoted form s) room 0 t out'
+    pub escape_stuck : (t : List ℕ) → out₀ ≡ sets t 0 (mark form) → length t ≤ room → room - 1 - o < m → Passed (quoted form s) room None t out'
     escape_stuck t g l f = stuck (escape_byte form (get_or s at 0)) 1 escape_here t g l (rw em at f) w
 
   -- a run
@@ -169,7 +170,7 @@ module _ {form : Form} {s : List ℕ} {room : ℕ} {out₀ : List ℕ} {at o : �
           let a : at + (e - at) ≡ e = omega (arith, rw es at ee) in
           rw (a, run_length) at (moved run (e - at) run_here run_inside (omega (arith, run_length)) w)
 
-      pub run_stuck : (t : List ℕ) → out₀ ≡ sets t 0 (mark form) → length t ≤ room → room - 1 - o < e - at → Passed (quoted form s) room 0 t out'
+      pub run_stuck : (t : List ℕ) → out₀ ≡ sets t 0 (mark form) → length t ≤ room → room - 1 - o < e - at → Passed (quoted form s) room None t out'
       run_stuck t g l f = stuck run (e - at) run_here t g l (omega (arith, run_length)) w
 
   ended : length s ≤ at → quoted form s ≡ i.done ++ (quote (style_of form) ∷ [])
@@ -177,7 +178,7 @@ module _ {form : Form} {s : List ℕ} {room : ℕ} {out₀ : List ℕ} {at o : �
   ended h = i.same ∙ rw (drop_of_length-le s h) refl
 
   pub last : {out' : List ℕ} (t : List ℕ) → out₀ ≡ sets t 0 (mark form) → length s ≤ at → out' ≡ set out o (quote (style_of form))
-      → Passed (quoted form s) room (o + 1) t out'
+      → Passed (quoted form s) room (Some (o + 1)) t out'
   last t g h w =
       let l : length (quoted form s) ≡ o + 1 = ap length (ended h) ∙ length-append i.done (quote (style_of form) ∷ []) ∙ omega (arith, i.size) in
       finished (omega (arith, i.below)) l
@@ -196,9 +197,12 @@ unfolding written_in wrote_into pick
 wrote text out n new h e w = simp (le-leb (length text) (length out) h) (ap Ok e, w ∙ sets_over text out h)
 
 -- one pass, where the text is known to fit
-pub one_pass : (text out : List ℕ) {n : ℕ} {new : List ℕ} → length text ≤ length out → Passed text (length out) n out new → WroteIt text out (Ok n) new
+pub one_pass : (text out : List ℕ) {n : Option ℕ} {new : List ℕ} {r : Result ℕ Refusal} → length text ≤ length out → Passed text (length out) n out new
+    → r ≡ ok_or n no_room → WroteIt text out r new
 unfolding pick
-one_pass text out {n} {new} h p = wrote text out n new h (p.answer ∙ rw (le-leb (length text) (length out) h)) (stored_whole p h)
+one_pass text out {n} {new} h p e =
+    let q : n ≡ Some (length text) = p.answer ∙ rw (le-leb (length text) (length out) h) in
+    rw (e, q) (wrote text out (length text) new h refl (stored_whole p h))
 
 -- room for the longest text of n bytes
 pub room_enough : (form to : Form) (n room : ℕ) → form ≡ to → length (mark to) + limit to n + 1 ≤ room → (s : List ℕ) → length s ≡ n → length (quoted form s) ≤ room
@@ -206,34 +210,34 @@ room_enough form to n room e h s l =
     rw e (omega (arith, quoted_length to s, ap (limit to) l))
 
 -- the first pass over the empty part `l`, and the second over the buffer
-module _ (text l out : List ℕ) {n : ℕ} {l₀ : List ℕ} (pos : 0 < length text) (z : length l ≡ 0) (p : Passed text (length out) n l₀ l) where
-  fits : (n ≡ 0 → ⊥) → length text ≤ length out
-  unfolding pick
-  fits h = split (leb (length text) (length out)) (λ e. leb-true _ _ e) (λ e. absurd (h (p.answer ∙ rw e)))
+module _ (text l out : List ℕ) {n : Option ℕ} {l₀ : List ℕ} (z : length l ≡ 0) (p : Passed text (length out) n l₀ l) where
+  -- what the first answers
+  told : {r : Result ℕ Refusal} → r ≡ ok_or n no_room → r ≡ written_in (length out) text
+  unfolding pick written_in
+  told e = split (leb (length text) (length out))
+      (λ f. let q : n ≡ Some (length text) = p.answer ∙ rw f in rw (e, q, f))
+      (λ f. let q : n ≡ None = p.answer ∙ rw f in rw (e, q, f))
 
-  longer : n ≡ 0 → length out < length text
-  unfolding pick
-  longer h =
-      split (leb (length text) (length out))
-      (λ e. let q : n ≡ length text = p.answer ∙ rw e in absurd (omega arith))
-      (λ e. leb-false _ _ e)
+  pub too_long_lem : (refusal : Refusal) → Err refusal ≡ ok_or n no_room → WroteIt text out (Err refusal) (l ++ out)
+  unfolding pick wrote_into
+  too_long_lem refusal e = (
+    told e,
+    empty_front l out z ∙ split (leb (length text) (length out))
+        (λ f. let a : n ≡ Some (length text) = p.answer ∙ rw f in
+        let q : Err refusal ≡ Ok (length text) = e ∙ ap (λ (m : Option ℕ). ok_or m no_room) a in never (cc))
+        (λ f. rw f),
+  )
 
-  count_is : length text ≤ length out → n ≡ length text
-  unfolding pick
-  count_is h = p.answer ∙ rw (le-leb (length text) (length out) h)
-
-  pub too_long_lem : n ≡ 0 → WroteIt text out (Err no_room) (l ++ out)
-  too_long_lem h = let f = full text out (longer h) in (f.0, empty_front l out z ∙ f.1)
-
-  pub both_passes : {n2 : ℕ} {new : List ℕ} → (n ≡ 0 → ⊥) → Passed text (length out) n2 (l ++ out) new → WroteIt text out (Ok n) new
-  both_passes {n2} {new} h q =
-      let e : l ++ out ≡ out = empty_front l out z in
-      let f : length text ≤ length out = fits h in
-      wrote text out n new f (count_is f) (stored_whole q f ∙ ap (λ (x : List ℕ). sets x 0 text) e)
-
-pub quoted_positive : (form : Form) (s : List ℕ) → 0 < length (quoted form s)
-unfolding quoted
-quoted_positive form s = omega (arith, length-append (mark form) (closed form s), length-append (write_units form 0 s) (quote (style_of form) ∷ []))
+  pub both_passes : (k : ℕ) {n2 : Option ℕ} {new : List ℕ} → Ok k ≡ ok_or n no_room → Passed text (length out) n2 (l ++ out) new → WroteIt text out (Ok k) new
+  unfolding pick wrote_into
+  both_passes k {n2} {new} e q = (
+    told e,
+    split (leb (length text) (length out))
+        (λ f. let g : length text ≤ length out = leb-true _ _ f in
+        stored_whole q g ∙ ap (λ (x : List ℕ). sets x 0 text) (empty_front l out z) ∙ sets_over text out g ∙ rw f)
+        (λ f. let a : n ≡ None = p.answer ∙ rw f in
+        let r : Ok k ≡ Err no_room = e ∙ ap (λ (m : Option ℕ). ok_or m no_room) a in never (cc)),
+  )
 
 pub stored_mark : (form to : Form) (out new : List ℕ) → form ≡ to → new ≡ sets out 0 (mark to) → (length (mark to) ≡ length (mark form)) × (new ≡ sets out 0 (mark form))
 stored_mark form to out new e w = rw e (refl, w)
@@ -283,14 +287,14 @@ module _ (s out : List ℕ) (e : literal_run Json 0 s ≡ length s) where
       (λ i. take (n i) (string_text_lem i)) ∙ ap (λ (l : List ℕ). double_quote ∷ l) (take-append-le (room - 1) s (double_quote ∷ []) (omega arith)) in
       q ∙ ap (λ (l : List ℕ). sets l 1 (take (room - 1) s)) p ∙ ap (sets out 0) (sym t)
 
-  pub literal_over : {room : ℕ} {new : List ℕ} → room < length s + 2 → new ≡ sets out 0 (take room (write_string s)) → Passed (write_string s) room 0 out new
+  pub literal_over : {room : ℕ} {new : List ℕ} → room < length s + 2 → new ≡ sets out 0 (take room (write_string s)) → Passed (write_string s) room None out new
   unfolding pick
   literal_over {room} h w =
       let l : length (write_string s) ≡ length s + 2 = ap length (valid_text s (all_literal Json s e)) ∙ text_length in
       record { answer = rw (lt-leb (length (write_string s)) room (omega arith)); stored = w }
 
   pub literal_part : {room : ℕ} {o1 o2 o3 : List ℕ} → length s + 2 ≤ room → o1 ≡ set out 0 double_quote → o2 ≡ sets o1 1 (take (length s) s) → o3 ≡ set o2 (length s + 1) double_quote
-      → Passed (write_string s) room (length s + 2) out o3
+      → Passed (write_string s) room (Some (length s + 2)) out o3
   literal_part h p q r = rw (valid_text s (all_literal Json s e)) (finished (omega (arith, text_length)) text_length (literal_stored p q r))
 
 -- the form that the data takes
@@ -305,11 +309,11 @@ module _ (s : List ℕ) (r : Result ℕ Refusal) (out new : List ℕ) where
   pub other_form : valid_utf8 s ≡ false → WroteIt (quoted AsBytes s) out r new → WroteIt (write_string s) out r new
   other_form e w = subst (λ (x : List ℕ). WroteIt x out r new) (sym (other_text s e)) w
 
-pub valid_pass : (s : List ℕ) (room : ℕ) {v : Bool} {r : ℕ} {out new : List ℕ} → v ≡ valid_utf8 s → v ≡ true → Passed (quoted AsJson s) room r out new
+pub valid_pass : (s : List ℕ) (room : ℕ) {v : Bool} {r : Option ℕ} {out new : List ℕ} → v ≡ valid_utf8 s → v ≡ true → Passed (quoted AsJson s) room r out new
     → Passed (write_string s) room r out new
 valid_pass s room {v} {r} {out} {new} e h w = subst (λ (x : List ℕ). Passed x room r out new) (sym (valid_text s (sym e ∙ h))) w
 
-pub other_pass : (s : List ℕ) (room : ℕ) {v : Bool} {r : ℕ} {out new : List ℕ} → v ≡ valid_utf8 s → v ≡ false → Passed (quoted AsBytes s) room r out new
+pub other_pass : (s : List ℕ) (room : ℕ) {v : Bool} {r : Option ℕ} {out new : List ℕ} → v ≡ valid_utf8 s → v ≡ false → Passed (quoted AsBytes s) room r out new
     → Passed (write_string s) room r out new
 other_pass s room {v} {r} {out} {new} e h w = subst (λ (x : List ℕ). Passed x room r out new) (sym (other_text s (sym e ∙ h))) w
 

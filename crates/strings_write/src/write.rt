@@ -1,6 +1,8 @@
 // The string writer: `""` for valid UTF-8, else `b''`; and the `b''` form by itself.
 ghost use Rattle.std.specs.Prelude.{true, List, ◌≡◌, ℕ, ◌+◌, ◌*◌, ◌≤◌, ◌<◌, length, take, drop};
+ghost use Rattle.std.specs.Option.{ok_or};
 ghost use Rattle.std.proofs.lemmas.List.Edits.{sets};
+ghost use Rattle.prelude.specs.Refusals.{no_room};
 ghost use Rattle.utf8.specs.Utf8.{valid_utf8};
 ghost use Rattle.notation.specs.declared.styles.Style.TheVariants.{Json};
 ghost use Rattle.notation.specs.declared.styles.Form.TheVariants.{AsJson};
@@ -37,17 +39,16 @@ fn put_mark(form: Form, out: &mut [u8]) -> usize
     }
 }
 
-// Writes the data in a form into a buffer that isn't longer than the room: the text's length, or 0 as soon as it passes the room.
-// Every text has two bytes, so 0 is no length; and the count stops at the room, so it can't run over. What passes the room is stored as far
-// as the buffer reaches before the count stops.
-fn pass(t: &Classes, form: Form, s: &[u8], room: usize, out: &mut [u8]) -> usize
+// Writes the data in a form into a buffer that isn't longer than the room: the text's length, or none as soon as it passes the room. The
+// count stops there, so it can't run over. What passes the room is stored as far as the buffer reaches before the count stops.
+fn pass(t: &Classes, form: Form, s: &[u8], room: usize, out: &mut [u8]) -> Option<usize>
     requires { length out.old ≤ room }
     ensures { Passed (quoted form s.now) room result out.old out.new }
 {
     let style = styles::style_of(form);
     let first = put_mark(form, out);
     if room <= first {
-        return 0;
+        return None;
     }
     let cap = room - 1;
     let mut o = first;
@@ -59,7 +60,7 @@ fn pass(t: &Classes, form: Form, s: &[u8], room: usize, out: &mut [u8]) -> usize
             let m = written::escape_len(form, x);
             written::put_escape(form, x, o, out);
             if cap - o < m {
-                return 0;
+                return None;
             }
             o += m;
             at += 1;
@@ -67,18 +68,18 @@ fn pass(t: &Classes, form: Form, s: &[u8], room: usize, out: &mut [u8]) -> usize
             let n = e - at;
             slices::copy_run(s, at, n, o, out);
             if cap - o < n {
-                return 0;
+                return None;
             }
             o += n;
             at = e;
         }
     }
     slices::put(styles::quote_in(form), o, out);
-    o + 1
+    Some(o + 1)
 }
 
 // The same in any buffer: the part that lies in the room is lent.
-fn write_form(t: &Classes, form: Form, s: &[u8], room: usize, out: &mut [u8]) -> usize
+fn write_form(t: &Classes, form: Form, s: &[u8], room: usize, out: &mut [u8]) -> Option<usize>
     ensures { Passed (quoted form s.now) room result out.old out.new }
 {
     let n = slices::least(room, out.len());
@@ -86,7 +87,7 @@ fn write_form(t: &Classes, form: Form, s: &[u8], room: usize, out: &mut [u8]) ->
 }
 
 // The same in the form that the data takes, by whether it is valid UTF-8.
-pub fn write_part(t: &Classes, valid: bool, s: &[u8], room: usize, out: &mut [u8]) -> usize
+pub fn write_part(t: &Classes, valid: bool, s: &[u8], room: usize, out: &mut [u8]) -> Option<usize>
     requires { valid ≡ valid_utf8 s.now }
     ensures { Passed (write_string s.now) room result out.old out.new }
 {
@@ -108,24 +109,24 @@ fn literal_front(s: &[u8], room: usize, out: &mut [u8])
     copies::copy_long(s, 0, room - 1, 1, out);
 }
 
-// The text of such data: its length, or 0 where it passes the room.
-fn literal_part(s: &[u8], room: usize, out: &mut [u8]) -> usize
+// The text of such data: its length, or none where it passes the room.
+fn literal_part(s: &[u8], room: usize, out: &mut [u8]) -> Option<usize>
     requires { literal_run Json 0 s.now ≡ length s.now }
     ensures { Passed (write_string s.now) room result out.old out.new }
 {
     let size = s.len();
     if room < size + 2 {
         literal_front(s, room, out);
-        return 0;
+        return None;
     }
     slices::put(b'"', 0, out);
     copies::copy_long(s, 0, size, 1, out);
     slices::put(b'"', size + 1, out);
-    size + 2
+    Some(size + 2)
 }
 
 // The same for any data: one run to the end needs no other look, and is valid so far where it ends before.
-fn write_tight(t: &Classes, s: &[u8], room: usize, out: &mut [u8]) -> usize
+fn write_tight(t: &Classes, s: &[u8], room: usize, out: &mut [u8]) -> Option<usize>
     ensures { Passed (write_string s.now) room result out.old out.new }
 {
     let e = literals::inner_run(t, s, 0, Style::Json);
@@ -179,25 +180,25 @@ fn judge(t: &Classes, s: &[u8], at: usize, out: &mut [u8]) -> Judged
 
 // The same in an ample room, where the front of the data is stored already. The rest is handed on from one place only: from two, the
 // compiler copies the slice in a way that waits for its stores.
-fn write_behind(t: &Classes, s: &[u8], at: usize, room: usize, out: &mut [u8]) -> usize
+fn write_behind(t: &Classes, s: &[u8], at: usize, room: usize, out: &mut [u8]) -> Option<usize>
     requires { (at ≤ length s.now) × (6 * length s.now + 2 ≤ room) × (room ≤ length out.old) }
     ensures { (o : List ℕ) → Fronted s.now o at out.old → Passed (write_string s.now) room result o out.new }
 {
     let j = judge(t, s, at, out);
     if j.at == s.len() {
         out[j.at + 1] = b'"';
-        return j.at + 2;
+        return Some(j.at + 2);
     }
     if j.valid {
         let o = rest::put_rest(t, s, j.at, j.at + 1, out);
         out[o] = b'"';
-        return o + 1;
+        return Some(o + 1);
     }
     write_form(t, Form::AsBytes, s, room, out)
 }
 
 // The same for any data. In an ample room what stands as it is is stored as it is tested, and nothing is measured.
-pub fn write_run(t: &Classes, s: &[u8], room: usize, out: &mut [u8]) -> usize
+pub fn write_run(t: &Classes, s: &[u8], room: usize, out: &mut [u8]) -> Option<usize>
     ensures { Passed (write_string s.now) room result out.old out.new }
 {
     if !ample(s.len(), room, out.len()) {
@@ -206,7 +207,7 @@ pub fn write_run(t: &Classes, s: &[u8], room: usize, out: &mut [u8]) -> usize
     let e = front::put_front(s, out);
     if e == s.len() {
         out[e + 1] = b'"';
-        return e + 2;
+        return Some(e + 2);
     }
     write_behind(t, s, e, room, out)
 }
@@ -224,6 +225,16 @@ fn roomy(form: Form, n: usize, room: usize) -> bool
     }
 }
 
+// A text's length, or 12 where it passes the room.
+fn fitted(n: Option<usize>) -> Result<usize, Refusal>
+    ensures { result ≡ ok_or n no_room }
+{
+    match n {
+        Some(n) => Ok(n),
+        None => Err(Refusal::NoRoom),
+    }
+}
+
 // The text of the data in a form, or 12: one pass over no buffer to measure it, one to store it. Where the room is known to suffice,
 // nothing is measured.
 fn write_quoted(t: &Classes, form: Form, s: &[u8], out: &mut [u8]) -> Result<usize, Refusal>
@@ -232,13 +243,10 @@ fn write_quoted(t: &Classes, form: Form, s: &[u8], out: &mut [u8]) -> Result<usi
 {
     let room = out.len();
     if roomy(form, s.len(), room) {
-        return Ok(pass(t, form, s, room, out));
+        return fitted(pass(t, form, s, room, out));
     }
-    let n = pass(t, form, s, room, &mut out[..0]);
-    if n == 0 {
-        return Err(Refusal::NoRoom);
-    }
-    pass(t, form, s, room, out);
+    let n = fitted(pass(t, form, s, room, &mut out[..0]))?;
+    let _ = pass(t, form, s, room, out);
     Ok(n)
 }
 
@@ -271,7 +279,7 @@ fn write_from(s: &[u8], at: usize, out: &mut [u8]) -> Result<usize, Refusal>
     }
     let room = out.len();
     if ample(s.len(), room, room) {
-        return Ok(write_run(&t, s, room, out));
+        return fitted(write_run(&t, s, room, out));
     }
     if chars::valid_in(&t, &s[e..]) {
         return write_quoted(&t, Form::AsJson, s, out);

@@ -25,7 +25,7 @@ returns-then-e-s c =
 
 pub returns-then-ample : goal.returns-then-ample
 returns-then-ample c =
-    let r = one_pass (write_string c.args.s.now) c.args.out.now (omega (arith, write_length c.args.s.now, (c.ample.ensures c.if-ample.true).0)) c.write_run.ensures in record { answer = r.0; stored = r.1 }
+    let r = one_pass (write_string c.args.s.now) c.args.out.now (omega (arith, write_length c.args.s.now, (c.ample.ensures c.if-ample.true).0)) c.write_run.ensures c.fitted.ensures in record { answer = r.0; stored = r.1 }
 
 pub slice_bounds-valid_in-count : goal.slice_bounds-valid_in-count
 slice_bounds-valid_in-count c = (through _ _ _ _ _ c.requires c.literal_run-e.ensures).inside
