@@ -18,8 +18,9 @@ use Rattle.json8_fit.specs.Fitness.{is_fit}
 use Rattle.json8_fit.specs.inner.Steps.{within}
 use Rattle.json8_fit.proofs.Choices.{false_true}
 use Rattle.json8_fit.proofs.Roots.{root_count, root_is}
-use Rattle.prelude.specs.declared.answers.Written.{Written}
-use Rattle.prelude.specs.declared.answers.Written.TheVariants.{Wrote, Refused}
+use Rattle.std.specs.Prelude.{Result, Ok, Err}
+use Rattle.prelude.specs.declared.refusals.Refusal.{Refusal}
+use Rattle.prelude.specs.Refusals.{unfit, no_room}
 use Rattle.json8_write.specs.Write.{wrote_tree, tree_into}
 use Rattle.json8_write.specs.inner.Texts.{tree_text, body_text}
 use Rattle.json8_write.proofs.GroupTexts.{root_within, root_text}
@@ -36,13 +37,13 @@ module _ (table text store : List ℕ) (f : is_fit (tree_of (nodes_in table) tex
       put_as (ap tree_text e ∙ sym (root_text table text store depth_max c ec (sym (ap is_fit e) ∙ f))) w
 
 -- what writing answers and leaves
-abbrev WroteIt : Maybe Tree → List ℕ → Written → List ℕ → Type 0
+abbrev WroteIt : Maybe Tree → List ℕ → Result ℕ Refusal → List ℕ → Type 0
 WroteIt x out r new = (r ≡ wrote_tree (length out) x) × (new ≡ tree_into x out)
 
-pub wrote_unfit : (x : Maybe Tree) (out : List ℕ) → is_fit x ≡ false → WroteIt x out (Refused 1) out
+pub wrote_unfit : (x : Maybe Tree) (out : List ℕ) → is_fit x ≡ false → WroteIt x out (Err unfit) out
 wrote_unfit (just t) out e = never (let z : true ≡ false = e in cc)
 wrote_unfit nothing out e = (refl, refl)
 
-pub wrote_fit : (x : Maybe Tree) (out : List ℕ) {r : Written} {new : List ℕ} → is_fit x ≡ true → Whole Wrote (Refused 12) (tree_text x) out r new → WroteIt x out r new
+pub wrote_fit : (x : Maybe Tree) (out : List ℕ) {r : Result ℕ Refusal} {new : List ℕ} → is_fit x ≡ true → Whole Ok (Err no_room) (tree_text x) out r new → WroteIt x out r new
 wrote_fit (just t) out e w = w
 wrote_fit nothing out e w = false_true e

@@ -1,19 +1,17 @@
 -- Writing a table: "Refusal 1 unless" it is fit, "then 12"; the text is that of the table's tree.
 -- Assumes nothing.
-use Rattle.std.specs.Prelude.{ℕ, List, leb, length}
+use Rattle.std.specs.Prelude.{ℕ, Result, Ok, Err, List, leb, length}
 use Rattle.prelude.specs.Pick.{pick}
-use Rattle.prelude.specs.Refusals.{no_room}
-use Rattle.prelude.specs.Refusals
+use Rattle.prelude.specs.declared.refusals.Refusal.{Refusal}
+use Rattle.prelude.specs.Refusals.{unfit, no_room}
 use Rattle.strings_write.specs.Write.{wrote_into}
 use Rattle.trees.specs.Trees.{Tree, render}
 use Rattle.trees.specs.Tables.{Maybe, just, nothing}
-use Rattle.prelude.specs.declared.answers.Written.{Written}
-use Rattle.prelude.specs.declared.answers.Written.TheVariants.{Wrote, Refused}
 
 -- the answer for what a table means, in a room
-abbrev pub wrote_tree : ℕ → Maybe Tree → Written
-wrote_tree room (just t) = pick (leb (length (render t)) room) (Wrote (length (render t))) (Refused no_room)
-wrote_tree room nothing = Refused Refusals.unfit
+abbrev pub wrote_tree : ℕ → Maybe Tree → Result ℕ Refusal
+wrote_tree room (just t) = pick (leb (length (render t)) room) (Ok (length (render t))) (Err no_room)
+wrote_tree room nothing = Err unfit
 
 -- what the buffer holds afterwards: the text in front of what was there, or all as it was
 abbrev pub tree_into : Maybe Tree → List ℕ → List ℕ

@@ -1,7 +1,6 @@
 // The texts of the nodes of a fit table. Values and groups, which are lists and dicts, call each other, and the brackets that may still be
 // opened fall at each call.
 ghost use Rattle.std.specs.Prelude.{true, ◌≡◌, ◌+◌, ◌≤◌, drop};
-ghost use Rattle.utf8.specs.Class.{IsTable};
 ghost use Rattle.rooms.specs.inner.Puts.{room_max, Put};
 ghost use Rattle.json8.specs.declared.nodes.Sort.TheVariants.{Pairs};
 ghost use Rattle.prelude.specs.Limits.{node_max};
@@ -13,12 +12,12 @@ ghost use Rattle.json8_write.specs.inner.Texts.{tree_text, string_text, label_te
 use crate::texts;
 use json8::nodes::Sort;
 use json8_fit::nodes;
-use json8_fit::nodes::Shape;
 use rooms::parts;
+use utf8::classes::Classes;
 
 // A string of kind 5 or 6. It is fit, so its range lies inside its buffer.
 fn string_text(
-    t: &[u8; 256],
+    t: &Classes,
     table: &[u32],
     text: &[u8],
     store: &[u8],
@@ -27,7 +26,7 @@ fn string_text(
     o: usize,
     out: &mut [u8],
 ) -> usize
-    requires { IsTable t.now × Inside table.now i × (is_fit (string_of text.now store.now (node_at i table.now)) ≡ true) × (room ≤ room_max) }
+    requires { Inside table.now i × (is_fit (string_of text.now store.now (node_at i table.now)) ≡ true) × (room ≤ room_max) }
     ensures { Put (string_text (string_of text.now store.now (node_at i table.now))) room o result out.old out.new }
 {
     let place = nodes::number_in(table, 4 * i + 2);
@@ -50,7 +49,7 @@ fn number_text(table: &[u32], text: &[u8], i: usize, room: usize, o: usize, out:
 
 // A node that holds no other.
 fn leaf_text(
-    t: &[u8; 256],
+    t: &Classes,
     table: &[u32],
     text: &[u8],
     store: &[u8],
@@ -59,7 +58,7 @@ fn leaf_text(
     o: usize,
     out: &mut [u8],
 ) -> usize
-    requires { IsTable t.now × Inside table.now i × (is_fit (leaf_of text.now store.now (node_at i table.now)) ≡ true) × (room ≤ room_max) }
+    requires { Inside table.now i × (is_fit (leaf_of text.now store.now (node_at i table.now)) ≡ true) × (room ≤ room_max) }
     ensures { Put (tree_text (leaf_of text.now store.now (node_at i table.now))) room o result out.old out.new }
 {
     let kind = table[4 * i];
@@ -73,7 +72,7 @@ fn leaf_text(
 }
 
 fn key_text(
-    t: &[u8; 256],
+    t: &Classes,
     table: &[u32],
     text: &[u8],
     store: &[u8],
@@ -82,7 +81,7 @@ fn key_text(
     o: usize,
     out: &mut [u8],
 ) -> usize
-    requires { IsTable t.now × (is_fit (label_at Pairs text.now store.now (drop i (nodes_in table.now))) ≡ true) × (room ≤ room_max) }
+    requires { (is_fit (label_at Pairs text.now store.now (drop i (nodes_in table.now))) ≡ true) × (room ≤ room_max) }
     ensures { Put (label_text Pairs (label_at Pairs text.now store.now (drop i (nodes_in table.now)))) room o result out.old out.new }
 {
     let p = string_text(t, table, text, store, i, room, o, out);
@@ -91,7 +90,7 @@ fn key_text(
 
 // What stands before a member's value: nothing, or its key and a colon.
 fn label_text(
-    t: &[u8; 256],
+    t: &Classes,
     table: &[u32],
     text: &[u8],
     store: &[u8],
@@ -101,7 +100,7 @@ fn label_text(
     o: usize,
     out: &mut [u8],
 ) -> usize
-    requires { IsTable t.now × (is_fit (label_at sort text.now store.now (drop i (nodes_in table.now))) ≡ true) × (room ≤ room_max) }
+    requires { (is_fit (label_at sort text.now store.now (drop i (nodes_in table.now))) ≡ true) × (room ≤ room_max) }
     ensures { Put (label_text sort (label_at sort text.now store.now (drop i (nodes_in table.now)))) room o result out.old out.new }
 {
     match sort {
@@ -113,7 +112,7 @@ fn label_text(
 // A value, with so many brackets left.
 #[cycle(group_text_member_text_members_text_value_text)]
 fn value_text(
-    t: &[u8; 256],
+    t: &Classes,
     table: &[u32],
     text: &[u8],
     store: &[u8],
@@ -123,19 +122,19 @@ fn value_text(
     o: usize,
     out: &mut [u8],
 ) -> usize
-    requires { IsTable t.now × (i + count_at (drop i (nodes_in table.now)) ≤ node_max) × (is_fit (tree_at left text.now store.now (drop i (nodes_in table.now))) ≡ true) × (room ≤ room_max) }
+    requires { (i + count_at (drop i (nodes_in table.now)) ≤ node_max) × (is_fit (tree_at left text.now store.now (drop i (nodes_in table.now))) ≡ true) × (room ≤ room_max) }
     ensures { Put (tree_text (tree_at left text.now store.now (drop i (nodes_in table.now)))) room o result out.old out.new }
 {
-    match nodes::shape_of(table[4 * i]) {
-        Shape::Group(sort) => { group_text(t, table, text, store, i, left, sort, room, o, out) }
-        Shape::Leaf => leaf_text(t, table, text, store, i, room, o, out),
+    match nodes::sort_of(table[4 * i]) {
+        Some(sort) => group_text(t, table, text, store, i, left, sort, room, o, out),
+        None => leaf_text(t, table, text, store, i, room, o, out),
     }
 }
 
 // A member: its comma, its key and its value.
 #[cycle(group_text_member_text_members_text_value_text)]
 fn member_text(
-    t: &[u8; 256],
+    t: &Classes,
     table: &[u32],
     text: &[u8],
     store: &[u8],
@@ -147,7 +146,7 @@ fn member_text(
     o: usize,
     out: &mut [u8],
 ) -> usize
-    requires { IsTable t.now × (i + member_size sort (drop i (nodes_in table.now)) ≤ node_max) × (is_fit (label_at sort text.now store.now (drop i (nodes_in table.now))) ≡ true) × (is_fit (tree_at left text.now store.now (drop (label_size sort) (drop i (nodes_in table.now)))) ≡ true) × (room ≤ room_max) }
+    requires { (i + member_size sort (drop i (nodes_in table.now)) ≤ node_max) × (is_fit (label_at sort text.now store.now (drop i (nodes_in table.now))) ≡ true) × (is_fit (tree_at left text.now store.now (drop (label_size sort) (drop i (nodes_in table.now)))) ≡ true) × (room ≤ room_max) }
     ensures { Put (member_text sort (label_at sort text.now store.now) (tree_at left text.now store.now) first (drop i (nodes_in table.now))) room o result out.old out.new }
 {
     let p = texts::put_comma(first, room, o, out);
@@ -168,7 +167,7 @@ fn member_text(
 // A group: its members in brackets.
 #[cycle(group_text_member_text_members_text_value_text)]
 fn group_text(
-    t: &[u8; 256],
+    t: &Classes,
     table: &[u32],
     text: &[u8],
     store: &[u8],
@@ -179,7 +178,7 @@ fn group_text(
     o: usize,
     out: &mut [u8],
 ) -> usize
-    requires { IsTable t.now × Inside table.now i × (i + (node_at i table.now).count ≤ node_max) × (is_fit (grouped left text.now store.now sort (node_at i table.now) (drop (i + 1) (nodes_in table.now))) ≡ true) × (room ≤ room_max) }
+    requires { Inside table.now i × (i + (node_at i table.now).count ≤ node_max) × (is_fit (grouped left text.now store.now sort (node_at i table.now) (drop (i + 1) (nodes_in table.now))) ≡ true) × (room ≤ room_max) }
     ensures { Put (tree_text (grouped left text.now store.now sort (node_at i table.now) (drop (i + 1) (nodes_in table.now)))) room o result out.old out.new }
 {
     let count = nodes::number_in(table, 4 * i + 1);
@@ -205,7 +204,7 @@ fn group_text(
 // So many members from node i on, which fill w nodes. A table is written as its one root, so that only groups call this again.
 #[cycle(group_text_member_text_members_text_value_text)]
 pub(crate) fn members_text(
-    t: &[u8; 256],
+    t: &Classes,
     table: &[u32],
     text: &[u8],
     store: &[u8],
@@ -218,7 +217,7 @@ pub(crate) fn members_text(
     o: usize,
     out: &mut [u8],
 ) -> usize
-    requires { IsTable t.now × (i + w ≤ node_max) × (is_fit (within sort table.now text.now store.now left members w i) ≡ true) × (room ≤ room_max) }
+    requires { (i + w ≤ node_max) × (is_fit (within sort table.now text.now store.now left members w i) ≡ true) × (room ≤ room_max) }
     ensures { Put (body_text true (within sort table.now text.now store.now left members w i)) room o result out.old out.new }
 {
     let mut more = members;

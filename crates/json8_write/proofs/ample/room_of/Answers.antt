@@ -1,5 +1,4 @@
 use native.Mathlib.Omega.{arith}
-use Prim.Native.Nat.{◌-◌}
 use Rattle.json8_write.proofs.Roominess.{begun, summed, summed_all}
 use Rattle.json8_write.proofs.ample.room_of.Goals as goal
 

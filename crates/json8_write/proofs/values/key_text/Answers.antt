@@ -4,10 +4,10 @@ use Rattle.json8_write.proofs.values.key_text.Goals as goal
 
 pub string_text-p-requires : goal.string_text-p-requires
 string_text-p-requires c =
-    (c.requires.0, key_there c.args.table.now c.args.text.now c.args.store.now c.args.i c.requires.1, key_holds c.args.table.now c.args.text.now c.args.store.now c.args.i c.requires.1, c.requires.2)
+    (key_there c.args.table.now c.args.text.now c.args.store.now c.args.i c.requires.0, key_holds c.args.table.now c.args.text.now c.args.store.now c.args.i c.requires.0, c.requires.1)
 
 pub put_byte-requires : goal.put_byte-requires
-put_byte-requires c = c.requires.2
+put_byte-requires c = c.requires.1
 
 pub returns : goal.returns
-returns c = key_put c.args.table.now c.args.text.now c.args.store.now c.args.i c.requires.1 c.string_text-p.ensures c.put_byte.ensures
+returns c = key_put c.args.table.now c.args.text.now c.args.store.now c.args.i c.requires.0 c.string_text-p.ensures c.put_byte.ensures

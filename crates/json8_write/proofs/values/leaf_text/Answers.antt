@@ -5,21 +5,21 @@ use Rattle.json8_write.proofs.values.leaf_text.Goals as goal
 
 pub string_text-requires : goal.string_text-requires
 string_text-requires c =
-    (c.requires.0, c.requires.1, string_fit c.args.text.now c.args.store.now (node_at c.args.i c.args.table.now) c.requires.2 c.if-kind-gt4.true, c.requires.3)
+    (c.requires.0, string_fit c.args.text.now c.args.store.now (node_at c.args.i c.args.table.now) c.requires.1 c.if-kind-gt4.true, c.requires.2)
 
 pub returns-then-kind-gt4 : goal.returns-then-kind-gt4
-returns-then-kind-gt4 c = leaf_string c.args.text.now c.args.store.now (node_at c.args.i c.args.table.now) c.requires.2 c.if-kind-gt4.true c.string_text.ensures
+returns-then-kind-gt4 c = leaf_string c.args.text.now c.args.store.now (node_at c.args.i c.args.table.now) c.requires.1 c.if-kind-gt4.true c.string_text.ensures
 
 pub number_text-requires : goal.number_text-requires
 number_text-requires c =
-    (c.requires.1, number_fit c.args.text.now c.args.store.now (node_at c.args.i c.args.table.now) c.requires.2 c.if-kind-gt2.true c.if-kind-gt4.false, c.requires.3)
+    (c.requires.0, number_fit c.args.text.now c.args.store.now (node_at c.args.i c.args.table.now) c.requires.1 c.if-kind-gt2.true c.if-kind-gt4.false, c.requires.2)
 
 pub returns-then-kind-gt2 : goal.returns-then-kind-gt2
 returns-then-kind-gt2 c =
-    leaf_number c.args.text.now c.args.store.now (node_at c.args.i c.args.table.now) c.requires.2 c.if-kind-gt2.true c.if-kind-gt4.false c.number_text.ensures
+    leaf_number c.args.text.now c.args.store.now (node_at c.args.i c.args.table.now) c.requires.1 c.if-kind-gt2.true c.if-kind-gt4.false c.number_text.ensures
 
 pub put_word-requires : goal.put_word-requires
-put_word-requires c = c.requires.3
+put_word-requires c = c.requires.2
 
 pub returns : goal.returns
-returns c = leaf_word c.args.text.now c.args.store.now (node_at c.args.i c.args.table.now) c.requires.2 c.if-kind-gt2.false c.put_word.ensures
+returns c = leaf_word c.args.text.now c.args.store.now (node_at c.args.i c.args.table.now) c.requires.1 c.if-kind-gt2.false c.put_word.ensures
