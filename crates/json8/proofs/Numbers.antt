@@ -1,4 +1,4 @@
--- The numbers of a JSON8 text's refusals: each reader's own, and those of readers joined; the members' loop by strong induction on the text, lists
+-- What a JSON8 text is refused for: each reader's own refusals, and those of readers joined; the members' loop by strong induction on the text, lists
 -- and dicts by the brackets left.
 -- Assumes nothing.
 use Prim.Native.Nat.{ℕ, zero, suc, pred, ◌+◌, ◌<◌}
