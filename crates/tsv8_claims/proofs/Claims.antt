@@ -6,17 +6,18 @@ use mathlib.Core.List.{List}
 use mathlib.Core.Logic.{◌⊎◌, inl, inr}
 use mathlib.Core.Path.{◌≡◌, refl, ap, subst, ◌∙◌}
 use native.Mathlib.Omega.{arith}
-use lib.Dec.{ltb, leb, lit<, lit≤}
+use lib.Dec.{ltb, leb, lit<}
 use lib.ListN.{length}
 use borrow.Author.Tests.{ltb-false, le-leb, le-ltb, lt-leb}
+use Rattle.prelude.specs.declared.refusals.Refusal.{Refusal}
 use Rattle.prelude.specs.Limits.{text_max, column_max}
 use Rattle.prelude.specs.Pick.{pick}
-use Rattle.prelude.specs.Refusals.{too_long, cut_off, trailing, no_room, bad_header, utf8_bad_encoding}
+use Rattle.prelude.specs.Refusals.{number_of, too_long, cut_off, trailing, no_room, bad_header, utf8_bad_encoding}
 use Rattle.prelude.proofs.Numbers.{text_ranges, text_apart}
 use Rattle.prelude.proofs.Cases.{split, never}
 use Rattle.prelude.proofs.Picks.{and_no_second}
 use Rattle.tsv8_cells.specs.Parts.{Part, lines_of}
-use Rattle.tsv8_cells.specs.Types.{ColumnType}
+use Rattle.tsv8_cells.specs.declared.columns.ColumnType.{ColumnType}
 use Rattle.tsv8_cells.specs.Cells.{Cell}
 use Rattle.tsv8.specs.Read.{SheetRead, read, unread, read_all}
 use Rattle.tsv8.specs.Answers.{Rooms, has_room, fitted, read_text}
@@ -75,7 +76,7 @@ fitted_read : (r : Rooms) (q : SheetRead) (ns : List Cell) (ts : List ColumnType
 unfolding pick
 fitted_read r (read ms us ds es) ns ts cs bs h =
     split (has_room r (length ms) (length ds) (length es)) (λ g. rw g at h) (λ g. never (let z = rw g at h in cc))
-fitted_read r (unread number at) ns ts cs bs h = never cc
+fitted_read r (unread refusal at) ns ts cs bs h = never cc
 
 pub accepted_in_any_room : AcceptedInAnyRoom
 unfolding read_text pick
@@ -83,76 +84,76 @@ accepted_in_any_room r s ns ts cs bs h =
     split (ltb text_max (length s)) (λ g. never (let z = rw g at h in cc))
     (λ g. (ltb-false text_max (length s) g, fitted_read r (read_all s) ns ts cs bs (rw g at h)))
 
--- a refusal's number and place
-abbrev Refusal : List ℕ → ℕ → ℕ → Type 0
-Refusal s number at = Numbered number × (at ≤ length s) × Placed s number at
+-- a refusal and its place
+abbrev Requested : List ℕ → Refusal → ℕ → Type 0
+Requested s refusal at = Numbered refusal × (at ≤ length s) × Placed s refusal at
 
-whole_placed : (s : List ℕ) (number : ℕ) → number < bad_header → Placed s number 0
-whole_placed s number h =
-    (λ z. absurd (omega arith), λ z. inl refl, λ z. absurd (omega arith), λ z. absurd (omega arith), λ z. refl, λ z. refl)
+whole_placed : (s : List ℕ) (refusal : Refusal) → number_of refusal < number_of bad_header → Placed s refusal 0
+whole_placed s refusal h =
+    (λ z. absurd (omega (arith, ap number_of z)), λ z. inl refl, λ z. absurd (omega (arith, ap number_of z)), λ z. absurd (omega (arith, ap number_of z)), λ z. refl, λ z. refl)
 
 -- a text's own refusal stands where it stands
-text_placed : (s : List ℕ) (number at : ℕ) → ((cut_off ≤ number) × (number ≤ trailing)) ⊎ (utf8_bad_encoding ≤ number) → Placed s number at
-text_placed s number at (inl (a, b)) =
-    (λ z. absurd (omega arith), λ z. absurd (omega arith), λ z. absurd (omega arith), λ z. absurd (omega arith), λ z. absurd (omega arith), λ z. absurd (omega arith))
-text_placed s number at (inr a) =
-    (λ z. absurd (omega arith), λ z. absurd (omega arith), λ z. absurd (omega arith), λ z. absurd (omega arith), λ z. absurd (omega arith), λ z. absurd (omega arith))
+text_placed : (s : List ℕ) (refusal : Refusal) (at : ℕ) → ((number_of cut_off ≤ number_of refusal) × (number_of refusal ≤ number_of trailing)) ⊎ (number_of utf8_bad_encoding ≤ number_of refusal) → Placed s refusal at
+text_placed s refusal at (inl (a, b)) =
+    (λ z. absurd (omega (arith, ap number_of z)), λ z. absurd (omega (arith, ap number_of z)), λ z. absurd (omega (arith, ap number_of z)), λ z. absurd (omega (arith, ap number_of z)), λ z. absurd (omega (arith, ap number_of z)), λ z. absurd (omega (arith, ap number_of z)))
+text_placed s refusal at (inr a) =
+    (λ z. absurd (omega (arith, ap number_of z)), λ z. absurd (omega (arith, ap number_of z)), λ z. absurd (omega (arith, ap number_of z)), λ z. absurd (omega (arith, ap number_of z)), λ z. absurd (omega (arith, ap number_of z)), λ z. absurd (omega (arith, ap number_of z)))
 
-told_refusal : (s : List ℕ) (number at : ℕ) → Told s number at → Refusal s number at
-told_refusal s number at (inl a, h) = (inr (inl a), h, text_placed s number at (text_ranges number a))
-told_refusal s number at (inr (inl (e, b)), h) = (
-  inr (inr (inl (omega arith, omega arith))),
+told_refusal : (s : List ℕ) (refusal : Refusal) (at : ℕ) → Told s refusal at → Requested s refusal at
+told_refusal s refusal at (inl a, h) = (inr (inl a), h, text_placed s refusal at (text_ranges refusal a))
+told_refusal s refusal at (inr (inl (e, b)), h) = (
+  inr (inr (inl (omega (arith, ap number_of e), omega (arith, ap number_of e)))),
   h,
-  (λ z. absurd (omega arith), λ z. b, λ z. absurd (omega arith), λ z. absurd (omega arith), λ z. absurd (omega arith), λ z. absurd (omega arith)),
+  (λ z. absurd (omega (arith, ap number_of e, ap number_of z)), λ z. b, λ z. absurd (omega (arith, ap number_of e, ap number_of z)), λ z. absurd (omega (arith, ap number_of e, ap number_of z)), λ z. absurd (omega (arith, ap number_of e, ap number_of z)), λ z. absurd (omega (arith, ap number_of e, ap number_of z))),
 )
-told_refusal s number at (inr (inr (inl (e, b))), h) = (
-  inr (inr (inl (omega arith, omega arith))),
+told_refusal s refusal at (inr (inr (inl (e, b))), h) = (
+  inr (inr (inl (omega (arith, ap number_of e), omega (arith, ap number_of e)))),
   h,
-  (λ z. b, λ z. absurd (omega arith), λ z. absurd (omega arith), λ z. absurd (omega arith), λ z. absurd (omega arith), λ z. absurd (omega arith)),
+  (λ z. b, λ z. absurd (omega (arith, ap number_of e, ap number_of z)), λ z. absurd (omega (arith, ap number_of e, ap number_of z)), λ z. absurd (omega (arith, ap number_of e, ap number_of z)), λ z. absurd (omega (arith, ap number_of e, ap number_of z)), λ z. absurd (omega (arith, ap number_of e, ap number_of z))),
 )
-told_refusal s number at (inr (inr (inr (inl e, b))), h) = (
-  inr (inr (inl (omega arith, omega arith))),
+told_refusal s refusal at (inr (inr (inr (inl e, b))), h) = (
+  inr (inr (inl (omega (arith, ap number_of e), omega (arith, ap number_of e)))),
   h,
-  (λ z. absurd (omega arith), λ z. absurd (omega arith), λ z. b, λ z. b, λ z. absurd (omega arith), λ z. absurd (omega arith)),
+  (λ z. absurd (omega (arith, ap number_of e, ap number_of z)), λ z. absurd (omega (arith, ap number_of e, ap number_of z)), λ z. b, λ z. b, λ z. absurd (omega (arith, ap number_of e, ap number_of z)), λ z. absurd (omega (arith, ap number_of e, ap number_of z))),
 )
-told_refusal s number at (inr (inr (inr (inr e, b))), h) = (
-  inr (inr (inl (omega arith, omega arith))),
+told_refusal s refusal at (inr (inr (inr (inr e, b))), h) = (
+  inr (inr (inl (omega (arith, ap number_of e), omega (arith, ap number_of e)))),
   h,
-  (λ z. absurd (omega arith), λ z. absurd (omega arith), λ z. b, λ z. b, λ z. absurd (omega arith), λ z. absurd (omega arith)),
+  (λ z. absurd (omega (arith, ap number_of e, ap number_of z)), λ z. absurd (omega (arith, ap number_of e, ap number_of z)), λ z. b, λ z. b, λ z. absurd (omega (arith, ap number_of e, ap number_of z)), λ z. absurd (omega (arith, ap number_of e, ap number_of z))),
 )
 
-fitted_refusal : (r : Rooms) (s : List ℕ) (os ps : List Part) (k : ℕ) (q : SheetRead) → SheetIs s os ps k q → (number at : ℕ) → fitted r q ≡ unread number at
-    → Refusal s number at
+fitted_refusal : (r : Rooms) (s : List ℕ) (os ps : List Part) (k : ℕ) (q : SheetRead) → SheetIs s os ps k q → (refusal : Refusal) (at : ℕ) → fitted r q ≡ unread refusal at
+    → Requested s refusal at
 unfolding pick
-fitted_refusal r s os ps k (read ns ts cs bs) x number at h =
+fitted_refusal r s os ps k (read ns ts cs bs) x refusal at h =
     split (has_room r (length ns) (length cs) (length bs)) (λ g. never (let z = rw g at h in cc))
     (λ g. let z = rw g at h in
-    let a : no_room ≡ number = cc in
+    let a : no_room ≡ refusal = cc in
     let b : 0 ≡ at = cc in
     rw (← a, ← b) (inr (inr (inr refl)), omega arith, whole_placed s no_room (lit< tt)))
-fitted_refusal r s os ps k (unread n p) x number at h =
-    let a : n ≡ number = cc in
+fitted_refusal r s os ps k (unread n p) x refusal at h =
+    let a : n ≡ refusal = cc in
     let b : p ≡ at = cc in
-    told_refusal s number at (rw (← a, ← b) x)
+    told_refusal s refusal at (rw (← a, ← b) x)
 
-refusal : (r : Rooms) (s : List ℕ) (number at : ℕ) → read_text r s ≡ unread number at → Refusal s number at
+requested : (r : Rooms) (s : List ℕ) (refusal : Refusal) (at : ℕ) → read_text r s ≡ unread refusal at → Requested s refusal at
 unfolding read_text pick
-refusal r s number at h =
+requested r s refusal at h =
     split (ltb text_max (length s))
     (λ g. let z = rw g at h in
-    let a : too_long ≡ number = cc in
+    let a : too_long ≡ refusal = cc in
     let b : 0 ≡ at = cc in
     rw (← a, ← b) (inl refl, omega arith, whole_placed s too_long (lit< tt)))
-    (λ g. fitted_refusal r s (name_parts (lines_of s)) (data_parts (lines_of s)) (extent (lines_of s)) (read_all s) (text_is s) number at (rw g at h))
+    (λ g. fitted_refusal r s (name_parts (lines_of s)) (data_parts (lines_of s)) (extent (lines_of s)) (read_all s) (text_is s) refusal at (rw g at h))
 
 pub places_inside : PlacesInside
-places_inside r s number at h = omega (arith, (refusal r s number at h).1)
+places_inside r s refusal at h = omega (arith, (requested r s refusal at h).1)
 
 pub refusals_numbered : RefusalsNumbered
-refusals_numbered r s number at h = (refusal r s number at h).0
+refusals_numbered r s refusal at h = (requested r s refusal at h).0
 
 pub refusals_placed : RefusalsPlaced
-refusals_placed r s number at h = (refusal r s number at h).2
+refusals_placed r s refusal at h = (requested r s refusal at h).2
 
 -- the most cells
 few_cells : (s : List ℕ) (ns : List Cell) (ts : List ColumnType) (cs : List Cell) (bs : List ℕ) → length s ≤ text_max
@@ -183,20 +184,20 @@ ample r a b c d s l (read ns ts cs bs) e at h =
     let i : leb (length cs) r.cells ≡ true = le-leb (length cs) r.cells (omega arith) in
     let j : leb (length bs) r.store ≡ true = le-leb (length bs) r.store (omega (arith, y.1)) in
     never (let z = rw (f, g, i, j) at h in cc)
-ample r a b c d s l (unread number p) e at h =
-    let z : number ≡ no_room = cc in none (subst (SheetIs s (name_parts (lines_of s)) (data_parts (lines_of s)) (extent (lines_of s))) e (text_is s)) z
+ample r a b c d s l (unread refusal p) e at h =
+    let z : refusal ≡ no_room = cc in none (subst (SheetIs s (name_parts (lines_of s)) (data_parts (lines_of s)) (extent (lines_of s))) e (text_is s)) z
   where
-    none : Told s number p → number ≡ no_room → ⊥
-    none (inl t, i) z = (text_apart number t).1 z
-    none (inr (inl (t, b)), i) z = omega arith
-    none (inr (inr (inl (t, b))), i) z = omega arith
-    none (inr (inr (inr (inl t, b))), i) z = omega arith
-    none (inr (inr (inr (inr t, b))), i) z = omega arith
+    none : Told s refusal p → refusal ≡ no_room → ⊥
+    none (inl t, i) z = text_apart refusal t z
+    none (inr (inl (t, b)), i) z = omega (arith, ap number_of t, ap number_of z)
+    none (inr (inr (inl (t, b))), i) z = omega (arith, ap number_of t, ap number_of z)
+    none (inr (inr (inr (inl t, b))), i) z = omega (arith, ap number_of t, ap number_of z)
+    none (inr (inr (inr (inr t, b))), i) z = omega (arith, ap number_of t, ap number_of z)
 
 pub rooms_suffice : RoomsSuffice
 unfolding read_text pick
 rooms_suffice r a b c d s at h =
-    split (ltb text_max (length s)) (λ g. let z = rw g at h in let n : too_long ≡ no_room = cc in absurd (omega (arith, n)))
+    split (ltb text_max (length s)) (λ g. let z = rw g at h in let n : too_long ≡ no_room = cc in absurd (omega (arith, ap number_of n)))
     (λ g. ample r a b c d s (ltb-false text_max (length s) g) (read_all s) refl at (rw g at h))
 
 no_room_lem : (r : Rooms) (n c m : ℕ) → (r.names < n) ⊎ ((r.types < n) ⊎ ((r.cells < c) ⊎ (r.store < m))) → has_room r n c m ≡ false

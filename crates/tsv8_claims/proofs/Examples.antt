@@ -29,12 +29,12 @@ use Rattle.tsv8_cells.specs.Cells.{cell_at, cells_of}
 use Rattle.tsv8.specs.Lines.{sort_of, read_line, read_lines}
 use Rattle.tsv8.specs.Read.{SheetRead, read, unread, has_types, behind_names, is_first, read_sheet, read_all}
 use Rattle.tsv8.specs.Answers.{Rooms, has_room, read_text}
-use Rattle.tsv8_claims.specs.Claims.{CellsReached, Example, examples, ExampleTables, wrong, refusals, ExampleRefusals}
+use Rattle.tsv8_claims.specs.Claims.{CellsReached, Example, examples, ExampleTables, refusals, ExampleRefusals}
 
 -- what is refused needs no room
 abbrev RoomFor : Rooms → SheetRead → Type 0
 RoomFor r (read ns ts cs bs) = has_room r (length ns) (length cs) (length bs) ≡ true
-RoomFor r (unread number at) = Unit
+RoomFor r (unread refusal at) = Unit
 
 record Fitting (r : Rooms) (e : Example) : Type 0 where
   pub short : length (ascii e.text) ≤ text_max
@@ -47,7 +47,7 @@ AllFitting r (e ∷ es) = Fitting r e × AllFitting r es
 text_of : (r : Rooms) (s : List ℕ) (q : SheetRead) → read_all s ≡ q → length s ≤ text_max → RoomFor r q → read_text r s ≡ q
 unfolding read_text pick
 text_of r s (read ns ts cs bs) e l h = rw (le-ltb text_max (length s) l, e, h)
-text_of r s (unread number at) e l h = rw (le-ltb text_max (length s) l, e)
+text_of r s (unread refusal at) e l h = rw (le-ltb text_max (length s) l, e)
 
 -- what holds of texts of any length in every room holds of short ones that find room
 all_texts : (r : Rooms) (es : List Example) → map (λ (e : Example). read_all (ascii e.text)) es ≡ map (λ (e : Example). e.answer) es
@@ -82,7 +82,7 @@ tables_computed r a b c d =
 -- refused, and short
 is_refused : SheetRead → Bool
 is_refused (read ns ts cs bs) = false
-is_refused (unread number at) = true
+is_refused (unread refusal at) = true
 
 all_refused : List Example → Bool
 all_refused [] = true
@@ -91,7 +91,7 @@ all_refused (e ∷ es) = leb (length (ascii e.text)) text_max && (is_refused e.a
 refused_fits : (r : Rooms) (q : SheetRead) → is_refused q ≡ true → RoomFor r q
 unfolding is_refused
 refused_fits r (read ns ts cs bs) h = never (let z : false ≡ true = h in cc)
-refused_fits r (unread number at) h = tt
+refused_fits r (unread refusal at) h = tt
 
 all_fit : (r : Rooms) (es : List Example) → all_refused es ≡ true → AllFitting r es
 unfolding all_refused

@@ -11,6 +11,8 @@ use lib.Dec.{eqb}
 use lib.ListN.{length, get_or, take, drop}
 use lib.Seq.{take-length}
 use borrow.Author.Tests.{eqb-true, eqb-false}
+use Rattle.std.specs.Prelude.{Result, Ok, Err}
+use Rattle.prelude.specs.declared.refusals.Refused.{Refused}
 use Rattle.prelude.specs.Pick.{pick}
 use Rattle.prelude.proofs.Cases.{split, never}
 use Rattle.utf8.specs.Class.{class_of}
@@ -20,8 +22,6 @@ use Rattle.notation.specs.Styles.{quote}
 use Rattle.notation.specs.Literals.{literal_run}
 use Rattle.notation.specs.Marks.{opens, unopened, opening}
 use Rattle.strings.specs.Read.{StringRead, accepted, refused, nothing_behind, read_token, read_string}
-use Rattle.lines.specs.declared.bare.Checked.{Checked}
-use Rattle.lines.specs.declared.bare.Checked.TheVariants.{Fine, Faulty}
 use Rattle.lines.specs.Line.{bare_fault, bare_from, bare, holds, from_string, from_bare, read_stripped}
 use Rattle.tokens.specs.Words.{false_word, true_word}
 use Rattle.json8.specs.Leaves.{slashed}
@@ -42,9 +42,9 @@ true_bare = refl
 pub number_bare : (w : List ℕ) → 0 < length w → is_float w ≡ true → read_stripped w ≡ holds 1 w
 number_bare w h e = (plain_bare w h (float_plain w e)).same
 
-from_bare_lem : (w bs : List ℕ) (kind : ℕ) (v : Checked) → from_bare w v ≡ holds kind bs → bs ≡ w
-from_bare_lem w bs kind Fine e = cc
-from_bare_lem w bs kind (Faulty number at) e = never cc
+from_bare_lem : (w bs : List ℕ) (kind : ℕ) (v : Result (Unit {0}) Refused) → from_bare w v ≡ holds kind bs → bs ≡ w
+from_bare_lem w bs kind (Ok x) e = cc
+from_bare_lem w bs kind (Err f) e = never cc
 
 pub bare_holds : (w bs : List ℕ) (kind : ℕ) → opening w ≡ unopened → read_stripped w ≡ holds kind bs → bs ≡ w
 unfolding read_stripped
@@ -60,7 +60,7 @@ from_holds n (accepted cs e) kind bs h =
     let a : cs ≡ bs = cc in
     rw (a, eqb-true e n q))
     (λ q. never (let z = rw q at h in cc))
-from_holds n (refused number at) kind bs h = never cc
+from_holds n (refused refusal at) kind bs h = never cc
 
 string_token : (w bs : List ℕ) (kind : ℕ) (st : Style) (k : ℕ) → opening w ≡ opens st k → read_stripped w ≡ holds kind bs
     → read_token w ≡ accepted bs (length w)

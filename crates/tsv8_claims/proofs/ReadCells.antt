@@ -10,6 +10,7 @@ use native.Mathlib.Omega.{arith}
 use lib.Dec.{lit≤}
 use lib.ListN.{length}
 use borrow.Author.Tests.{ne_eqb}
+use Rattle.prelude.specs.declared.refusals.Refusal.{Refusal}
 use Rattle.prelude.specs.Bytes.{TAB, LF}
 use Rattle.prelude.specs.Pick.{pick}
 use Rattle.prelude.specs.Refusals.{bad_header, bad_line, wrong_type, empty_cell, TextFault}
@@ -24,7 +25,9 @@ use Rattle.tokens.specs.Words.{same_bytes, false_word, true_word}
 use Rattle.tokens.specs.Numbers.{number_kind}
 use Rattle.json8.specs.Leaves.{slashed}
 use Rattle.tsv8_cells.specs.Parts.{Part}
-use Rattle.tsv8_cells.specs.Types.{ColumnType, bools, ints, floats, strs, all_digits, is_int, is_float}
+use Rattle.tsv8_cells.specs.declared.columns.ColumnType.{ColumnType}
+use Rattle.tsv8_cells.specs.declared.columns.ColumnType.TheVariants.{Bool as bools, Int as ints, Float as floats, Str as strs}
+use Rattle.tsv8_cells.specs.Types.{all_digits, is_int, is_float}
 use Rattle.tsv8_cells.specs.Cells.{Cell, cell, Cells, got, refused, plain, string_cell, cell_for, cell_by, cell_at}
 use Rattle.tsv8_cells.proofs.Numerals.{same_is}
 use Rattle.tsv8_claims.specs.Claims.{InRange, KindFits, TextFits, shown, Behind}
@@ -34,11 +37,11 @@ use Rattle.prelude.proofs.Standing.{Stands, stands_in, stands_take, stands_part}
 use Rattle.tsv8_claims.proofs.Standing.{strip_stands, strip_le}
 
 -- the request's refusals, with their places in the text
-abbrev pub Told : List ℕ → ℕ → ℕ → Type 0
-Told s number at =
-    (TextFault number
-    ⊎ (((number ≡ bad_header) × ((at ≡ 0) ⊎ (Behind s LF at ⊎ Behind s TAB at)))
-    ⊎ (((number ≡ bad_line) × Behind s LF at) ⊎ (((number ≡ wrong_type) ⊎ (number ≡ empty_cell)) × Behind s TAB at))))
+abbrev pub Told : List ℕ → Refusal → ℕ → Type 0
+Told s refusal at =
+    (TextFault refusal
+    ⊎ (((refusal ≡ bad_header) × ((at ≡ 0) ⊎ (Behind s LF at ⊎ Behind s TAB at)))
+    ⊎ (((refusal ≡ bad_line) × Behind s LF at) ⊎ (((refusal ≡ wrong_type) ⊎ (refusal ≡ empty_cell)) × Behind s TAB at))))
     × (at ≤ length s)
 
 is_number_lem : (w : List ℕ) → is_float w ≡ true → 0 < number_kind w
@@ -71,7 +74,7 @@ module _ (text : List ℕ) where
 
   abbrev pub CellRead : ColumnType → List ℕ → ℕ → ℕ → Cells → Type 0
   CellRead t w m k (got cs bs) = OneRead t w m k cs bs
-  CellRead t w m k (refused number at) = Told text number at
+  CellRead t w m k (refused refusal at) = Told text refusal at
 
   -- a text w at the place p, with its place after the tab
   module _ (t : ColumnType) (q p m k : ℕ) (w : List ℕ) (a : Stands text p w) (i : q ≤ length text) (b : Behind text TAB q) (h : 2 ≤ k) where
@@ -150,7 +153,7 @@ module _ (text : List ℕ) where
       → Judged (length w) r → LineFault (length w) r → CellRead t w m k (cell_by r t q p m w)
   by_read ignored t q p m k w s a i b l j f = (inr (inr (inr (inr refl, b))), i)
   by_read (holds kind bs) t q p m k w s a i b l j f = for_read q p m k w a i b (omega (arith, j.0)) t kind bs s j.0 (omega (arith, j.1))
-  by_read (faulty number at) t q p m k w s a i b l j f = (inl f.0, omega (arith, f.1, stands_in a))
+  by_read (faulty refusal at) t q p m k w s a i b l j f = (inl f.0, omega (arith, f.1, stands_in a))
 
   pub cell_read : (t : ColumnType) (m : ℕ) (c : Part) → Stands text c.place c.bytes → Behind text TAB c.place
       → CellRead t (strip c.bytes) m (suc (length c.bytes)) (cell_at t m c)

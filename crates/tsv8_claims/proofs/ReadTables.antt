@@ -19,7 +19,9 @@ use Rattle.prelude.proofs.Picks.{pick_case}
 use Rattle.lines.specs.Line.{strip}
 use Rattle.tokens.specs.Words.{same_bytes}
 use Rattle.tsv8_cells.specs.Parts.{Part, Line, lines_of}
-use Rattle.tsv8_cells.specs.Types.{ColumnType, strs, Named, named, unnamed, type_named, Types, types, untyped, and_type, types_in, all_strs}
+use Rattle.tsv8_cells.specs.declared.columns.ColumnType.{ColumnType}
+use Rattle.tsv8_cells.specs.declared.columns.ColumnType.TheVariants.{Str as strs}
+use Rattle.tsv8_cells.specs.Types.{Named, named, unnamed, type_named, Types, types, untyped, and_type, types_in, all_strs}
 use Rattle.tsv8_cells.specs.Cells.{Cell, cell, Cells, got, refused, more, chain, cell_at, cells_of}
 use Rattle.tsv8.specs.Lines.{LineSort, row, typing, other, stray, sort_of, line_by, read_line, is_row, read_lines, type_mark}
 use Rattle.tsv8.specs.Read.{SheetRead, read, unread, joined, behind_types, has_types, behind_names, by_names, first_mark, is_first, read_sheet, read_all}
@@ -101,11 +103,11 @@ module _ (text : List ℕ) where
 
   abbrev RowRead : List ColumnType → List Part → ℕ → ℕ → Cells → Type 0
   RowRead ts ps m k (got cs bs) = RowGot ts ps m k cs bs
-  RowRead ts ps m k (refused number at) = Told text number at
+  RowRead ts ps m k (refused refusal at) = Told text refusal at
 
   more_row : (t : ColumnType) (ts : List ColumnType) (p : Part) (ps : List Part) (m k l : ℕ) (cs : List Cell) (bs : List ℕ) (r : Cells) → OneRead text t (strip p.bytes) m k cs bs
       → RowRead ts ps (m + length bs) l r → RowRead (t ∷ ts) (p ∷ ps) m (k + l) (more cs bs r)
-  more_row t ts p ps m k l cs bs (refused number at) x y = y
+  more_row t ts p ps m k l cs bs (refused refusal at) x y = y
   more_row t ts p ps m k l cs bs (got ds es) x y =
       rw x.one
       (record {
@@ -121,7 +123,7 @@ module _ (text : List ℕ) where
   chain_row : (t : ColumnType) (ts : List ColumnType) (p : Part) (ps : List Part) (m k l : ℕ) (r : Cells) (go : ℕ → Cells)
       → CellRead text t (strip p.bytes) m k r → ((j : ℕ) → RowRead ts ps j l (go j)) → RowRead (t ∷ ts) (p ∷ ps) m (k + l) (chain m r go)
   chain_row t ts p ps m k l (got cs bs) go x f = more_row t ts p ps m k l cs bs (go (m + length bs)) x (f (m + length bs))
-  chain_row t ts p ps m k l (refused number at) go x f = x
+  chain_row t ts p ps m k l (refused refusal at) go x f = x
 
   row_read_lem : (ts : List ColumnType) (m : ℕ) (ps : List Part) → PartsStand text TAB ps → length ps ≡ length ts → RowRead ts ps m (spans ps) (cells_of ts m ps)
   unfolding cells_of
@@ -142,7 +144,7 @@ module _ (text : List ℕ) where
 
   abbrev RowsRead : List ColumnType → List Part → ℕ → ℕ → Cells → Type 0
   RowsRead ts ps m k (got cs bs) = RowsGot ts ps m k cs bs
-  RowsRead ts ps m k (refused number at) = Told text number at
+  RowsRead ts ps m k (refused refusal at) = Told text refusal at
 
   stray_told : (p : ℕ) → (p ≤ length text) × Behind text LF p → Told text bad_line p
   stray_told p i = (inr (inr (inl (refl, i.1))), i.0)
@@ -152,7 +154,7 @@ module _ (text : List ℕ) where
     none_read m k = record { table = no_rows Fits ts; shows = λ store z. tt; ranges = λ e h. tt; bytes = omega arith; cost = omega arith }
 
     row_alone : (ps : List Part) (m k : ℕ) (r : Cells) → RowRead ts ps m k r → RowsRead ts ps m (suc k) r
-    row_alone ps m k (refused number at) x = x
+    row_alone ps m k (refused refusal at) x = x
     row_alone ps m k (got cs bs) x =
         record {
           table = one-row Fits ts cs x.size (λ column. row_at ts cs column x.fits);
@@ -167,7 +169,7 @@ module _ (text : List ℕ) where
     line_by_lem row behind m k l h i a e = wider (cells_of ts m l.cells) (row_alone l.cells m (spans l.cells) (cells_of ts m l.cells) (row_read_lem ts m l.cells a e))
       where
         wider : (r : Cells) → RowsRead ts l.cells m (suc (spans l.cells)) r → RowsRead ts l.cells m k r
-        wider (refused number at) x = x
+        wider (refused refusal at) x = x
         wider (got cs bs) x = record { table = x.table; shows = x.shows; ranges = x.ranges; bytes = omega (arith, x.bytes); cost = omega (arith, x.cost) }
     line_by_lem typing true m k l h i a e = stray_told l.place i
     line_by_lem typing false m k l h i a e = (inr (inl (refl, inr (inl i.1))), i.0)
@@ -184,7 +186,7 @@ module _ (text : List ℕ) where
 
     more_rows : (ps qs : List Part) (m k l : ℕ) (cs : List Cell) (bs : List ℕ) (r : Cells) → RowsGot ts ps m k cs bs
         → RowsRead ts qs (m + length bs) l r → RowsRead ts (ps ++ qs) m (k + l) (more cs bs r)
-    more_rows ps qs m k l cs bs (refused number at) x y = y
+    more_rows ps qs m k l cs bs (refused refusal at) x y = y
     more_rows ps qs m k l cs bs (got ds es) x y =
         record {
           table = both Fits ts cs ds x.table y.table;
@@ -200,7 +202,7 @@ module _ (text : List ℕ) where
     chain_rows : (ps qs : List Part) (m k l : ℕ) (r : Cells) (go : ℕ → Cells) → RowsRead ts ps m k r → ((j : ℕ) → RowsRead ts qs j l (go j))
         → RowsRead ts (ps ++ qs) m (k + l) (chain m r go)
     chain_rows ps qs m k l (got cs bs) go x f = more_rows ps qs m k l cs bs (go (m + length bs)) x (f (m + length bs))
-    chain_rows ps qs m k l (refused number at) go x f = x
+    chain_rows ps qs m k l (refused refusal at) go x f = x
 
     lines_read : (behind : Bool) (m : ℕ) (ls : List Line) → LinesStand text ls → RowsRead ts (data_parts ls) m (extent ls) (read_lines behind ts m ls)
     unfolding read_lines
@@ -226,7 +228,7 @@ module _ (text : List ℕ) where
 
   abbrev pub SheetIs : List Part → List Part → ℕ → SheetRead → Type 0
   SheetIs os ps k (read ns ts cs bs) = SheetGot os ps k ns ts cs bs
-  SheetIs os ps k (unread number at) = Told text number at
+  SheetIs os ps k (unread refusal at) = Told text refusal at
 
   -- behind n names, from parts of k bytes
   module _ (n k : ℕ) (h : 1 ≤ n) (g : n ≤ column_max) (os : List Part) (ns : List Cell) (bs : List ℕ) (x : RowGot (all_strs n) os 0 k ns bs) where
@@ -234,7 +236,7 @@ module _ (text : List ℕ) where
     names_long = x.size ∙ strs_length n
 
     joined_is : (ts : List ColumnType) (ps : List Part) (l : ℕ) (r : Cells) → length ts ≡ n → RowsRead ts ps (length bs) l r → SheetIs os ps (6 + k + l) (joined ns ts bs r)
-    joined_is ts ps l (refused number at) e y = y
+    joined_is ts ps l (refused refusal at) e y = y
     joined_is ts ps l (got cs es) e y =
         record {
           some = omega (arith, names_long);
@@ -259,7 +261,7 @@ module _ (text : List ℕ) where
         (wider (read_lines false ts (length bs) ls) (lines_read ts false (length bs) ls a))
       where
         wider : (r : Cells) → RowsRead ts (data_parts ls) (length bs) (extent ls) r → RowsRead ts (data_parts ls) (length bs) l r
-        wider (refused number at) y = y
+        wider (refused refusal at) y = y
         wider (got cs es) y = record { table = y.table; shows = y.shows; ranges = y.ranges; bytes = omega (arith, y.bytes); cost = omega (arith, y.cost) }
 
     untyped_is : (ls : List Line) → LinesStand text ls → SheetIs os (data_parts ls) (6 + k + extent ls) (behind_types ns bs ls (types (all_strs (length ns))))
@@ -278,7 +280,7 @@ module _ (text : List ℕ) where
   names_is : (n k : ℕ) → 1 ≤ n → n ≤ column_max → (os : List Part) (r : Cells) → RowRead (all_strs n) os 0 k r → (ls : List Line) → LinesStand text ls
       → SheetIs os (data_parts ls) (6 + k + extent ls) (by_names r ls)
   names_is n k h g os (got ns bs) x ls a = behind_is n k h g os ns bs x ls a
-  names_is n k h g os (refused number at) x ls a = x
+  names_is n k h g os (refused refusal at) x ls a = x
 
   first_told : (p : ℕ) → (p ≤ length text) × ((p ≡ 0) ⊎ Behind text LF p) → Told text bad_header p
   first_told p (i, inl z) = (inr (inl (refl, inl z)), i)

@@ -11,7 +11,8 @@ use lib.Seq.{get_or-append-add}
 use borrow.Author.Tests.{ltb-true, ltb-false}
 use Rattle.prelude.proofs.Cases.{split}
 use Rattle.tsv8_cells.specs.Parts.{Part}
-use Rattle.tsv8_cells.specs.Types.{ColumnType, strs}
+use Rattle.tsv8_cells.specs.declared.columns.ColumnType.{ColumnType}
+use Rattle.tsv8_cells.specs.declared.columns.ColumnType.TheVariants.{Str as strs}
 use Rattle.tsv8_cells.specs.Cells.{Cell, cell}
 use Rattle.tsv8_claims.specs.Claims.{Each, Table, OneForOne}
 

@@ -3,15 +3,18 @@
 -- Assumes nothing.
 use Rattle.std.specs.Prelude.{ℕ, zero, suc, pred, ◌+◌, ◌*◌, ◌≤◌, ◌<◌, Bool, true, false, List, [], ◌∷◌, ◌++◌, map, ◌⊎◌, ◌≡◌, eqb, length, get_or, take, drop}
 use Prim.Native.String.{String}
+use Rattle.prelude.specs.declared.refusals.Refusal.{Refusal}
 use Rattle.prelude.specs.Bytes.{TAB, LF, ascii}
 use Rattle.prelude.specs.Limits.{text_max, column_max}
 use Rattle.prelude.specs.Pick.{pick}
-use Rattle.prelude.specs.Refusals.{too_long, cut_off, no_room, bad_header, bad_line, wrong_type, empty_cell, TextFault}
+use Rattle.prelude.specs.Refusals.{too_long, cut_off, no_room, bad_header, bad_line, wrong_type, empty_cell, FromTo, TextFault}
 use Rattle.lines.specs.Line.{strip, holds, read_stripped}
 use Rattle.tokens.specs.Words.{false_word, true_word}
 use Rattle.tokens.specs.Numbers.{number_kind}
 use Rattle.tsv8_cells.specs.Parts.{Part, divided, parts_of, Line, lines_of}
-use Rattle.tsv8_cells.specs.Types.{ColumnType, bools, ints, floats, strs, type_number, all_digits}
+use Rattle.tsv8_cells.specs.declared.columns.ColumnType.{ColumnType}
+use Rattle.tsv8_cells.specs.declared.columns.ColumnType.TheVariants.{Bool as bools, Int as ints, Float as floats, Str as strs}
+use Rattle.tsv8_cells.specs.Types.{type_number, all_digits}
 use Rattle.tsv8_cells.specs.Cells.{Cell, cell}
 use Rattle.j8_lines.specs.Lines.{cut}
 use Rattle.tsv8.specs.Lines.{sort_of, is_row}
@@ -125,14 +128,14 @@ CellsShowTheirTexts =
 
 -- a refusal's place is in the text or at its end
 abbrev pub PlacesInside : Type 0
-PlacesInside = (r : Rooms) (s : List ℕ) (number at : ℕ) → read_text r s ≡ unread number at → at ≤ length s
+PlacesInside = (r : Rooms) (s : List ℕ) (refusal : Refusal) (at : ℕ) → read_text r s ≡ unread refusal at → at ≤ length s
 
 -- "Refusals: 2 .., then the leftmost of 4 to 11 and these: 19 .. 20 .. 21 .. 22 .. last 12."; request [2], "23 .. 27 .. replace 5 everywhere"
-abbrev pub Numbered : ℕ → Type 0
-Numbered number = (number ≡ too_long) ⊎ (TextFault number ⊎ (((bad_header ≤ number) × (number ≤ empty_cell)) ⊎ (number ≡ no_room)))
+abbrev pub Numbered : Refusal → Type 0
+Numbered refusal = (refusal ≡ too_long) ⊎ (TextFault refusal ⊎ (FromTo bad_header empty_cell refusal ⊎ (refusal ≡ no_room)))
 
 abbrev pub RefusalsNumbered : Type 0
-RefusalsNumbered = (r : Rooms) (s : List ℕ) (number at : ℕ) → read_text r s ≡ unread number at → Numbered number
+RefusalsNumbered = (r : Rooms) (s : List ℕ) (refusal : Refusal) (at : ℕ) → read_text r s ≡ unread refusal at → Numbered refusal
 
 -- the byte b stands before a place
 abbrev pub Behind : List ℕ → ℕ → ℕ → Type 0
@@ -140,13 +143,13 @@ Behind s b at = (1 ≤ at) × (get_or s (pred at) 0 ≡ b)
 
 -- "20 stands at its line's start, 19 there (0 if no line is left) or after its type's tab, 21 and 22 after their cell's tab"; 2 and 12, of
 -- the whole text, at 0
-abbrev pub Placed : List ℕ → ℕ → ℕ → Type 0
-Placed s number at =
-    (number ≡ bad_line → Behind s LF at) × (number ≡ bad_header → (at ≡ 0) ⊎ (Behind s LF at ⊎ Behind s TAB at))
-    × (number ≡ wrong_type → Behind s TAB at) × (number ≡ empty_cell → Behind s TAB at) × (number ≡ too_long → at ≡ 0) × (number ≡ no_room → at ≡ 0)
+abbrev pub Placed : List ℕ → Refusal → ℕ → Type 0
+Placed s refusal at =
+    (refusal ≡ bad_line → Behind s LF at) × (refusal ≡ bad_header → (at ≡ 0) ⊎ (Behind s LF at ⊎ Behind s TAB at))
+    × (refusal ≡ wrong_type → Behind s TAB at) × (refusal ≡ empty_cell → Behind s TAB at) × (refusal ≡ too_long → at ≡ 0) × (refusal ≡ no_room → at ≡ 0)
 
 abbrev pub RefusalsPlaced : Type 0
-RefusalsPlaced = (r : Rooms) (s : List ℕ) (number at : ℕ) → read_text r s ≡ unread number at → Placed s number at
+RefusalsPlaced = (r : Rooms) (s : List ℕ) (refusal : Refusal) (at : ℕ) → read_text r s ≡ unread refusal at → Placed s refusal at
 
 -- no more names and cells than the text has bytes, and no more bytes in the store
 abbrev pub NoLargerThanTheText : Type 0
@@ -179,7 +182,7 @@ full_text = ascii "!tsv8" ++ (again 58 (ascii "\ta") ++ again 279 (ascii "\n" ++
 
 abbrev pub cell_count : SheetRead → ℕ
 cell_count (read ns ts cs bs) = length cs
-cell_count (unread number at) = 0
+cell_count (unread refusal at) = 0
 
 -- no smaller number is enough
 abbrev pub CellsReached : Type 0
@@ -252,8 +255,8 @@ ExampleTables =
     → map (λ (e : Example). read_text r (ascii e.text)) examples ≡ map (λ (e : Example). e.answer) examples
 
 -- a text that is refused
-abbrev pub wrong : String → ℕ → ℕ → Example
-wrong text number at = record { text = text; answer = unread number at }
+abbrev pub wrong : String → Refusal → ℕ → Example
+wrong text refusal at = record { text = text; answer = unread refusal at }
 
 -- each of 19 to 22 with its place, and what comes before what: "in a line 20 comes first, and in a cell 22, its own text wherever it fails, 21"
 abbrev pub refusals : List Example
