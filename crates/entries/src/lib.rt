@@ -2,19 +2,17 @@
 #![tactic(auto)]
 
 ghost use Rattle.std.specs.Prelude.{true, ◌≡◌, ◌+◌, ◌*◌, ◌≤◌, length};
-ghost use Rattle.utf8.specs.Class.{IsTable};
 ghost use Rattle.strings_write.specs.Write.{written_in, wrote_into};
 ghost use Rattle.rooms.specs.inner.Puts.{room_max, Put};
 ghost use Rattle.entries.specs.Entries.{entry_text, value_text, cell_text};
 
-use prelude::answers::Written;
-use prelude::refusals;
+use prelude::refusals::Refusal;
 use rooms::parts;
-use utf8::classes;
+use utf8::classes::Classes;
 
 // An entry, as far as room and buffer reach.
-fn put_entry(t: &[u8; 256], n: usize, s: &[u8], room: usize, out: &mut [u8]) -> usize
-    requires { IsTable t.now × (room ≤ room_max) }
+fn put_entry(t: &Classes, n: usize, s: &[u8], room: usize, out: &mut [u8]) -> usize
+    requires { room ≤ room_max }
     ensures { Put (entry_text n s.now) room 0 result out.old out.new }
 {
     let a = decimals::put_decimal(n, room, 0, out);
@@ -24,8 +22,8 @@ fn put_entry(t: &[u8; 256], n: usize, s: &[u8], room: usize, out: &mut [u8]) -> 
 }
 
 // A cell's value, as far as room and buffer reach.
-fn put_value(t: &[u8; 256], quoted: bool, s: &[u8], room: usize, o: usize, out: &mut [u8]) -> usize
-    requires { IsTable t.now × (room ≤ room_max) }
+fn put_value(t: &Classes, quoted: bool, s: &[u8], room: usize, o: usize, out: &mut [u8]) -> usize
+    requires { room ≤ room_max }
     ensures { Put (value_text quoted s.now) room o result out.old out.new }
 {
     if quoted {
@@ -36,7 +34,7 @@ fn put_value(t: &[u8; 256], quoted: bool, s: &[u8], room: usize, o: usize, out: 
 
 // A cell, as far as room and buffer reach.
 fn put_cell(
-    t: &[u8; 256],
+    t: &Classes,
     row: usize,
     name: &[u8],
     quoted: bool,
@@ -44,7 +42,7 @@ fn put_cell(
     room: usize,
     out: &mut [u8],
 ) -> usize
-    requires { IsTable t.now × (room ≤ room_max) }
+    requires { room ≤ room_max }
     ensures { Put (cell_text row name.now quoted value.now) room 0 result out.old out.new }
 {
     let a = decimals::put_decimal(row, room, 0, out);
@@ -65,39 +63,45 @@ fn ample(size: usize, room: usize) -> bool
     size <= (room - 27) / 6
 }
 
-// Puts the number, a tab, the bytes as a J8 string and LF in front of out, or answers 12 and leaves out as it was. It is measured first, unless
+// Puts the number, a tab, the bytes as a J8 string and LF in front of out, or refuses with 12 and leaves out as it was. It is measured first, unless
 // the room is known to suffice.
-pub fn write(n: usize, s: &[u8], out: &mut [u8]) -> Written
+pub fn write(n: usize, s: &[u8], out: &mut [u8]) -> Result<usize, Refusal>
     ensures answer { result ≡ written_in (length out.old) (entry_text n s.now) }
     ensures stored { out.new ≡ wrote_into (entry_text n s.now) out.old }
 {
-    let t = classes::table();
+    let t = Classes::new();
     let room = out.len();
     if ample(s.len(), room) {
-        return Written::Wrote(put_entry(&t, n, s, room, out));
+        return Ok(put_entry(&t, n, s, room, out));
     }
     let k = put_entry(&t, n, s, room, &mut out[..0]);
     if room < k {
-        return Written::Refused(refusals::NO_ROOM);
+        return Err(Refusal::NoRoom);
     }
     put_entry(&t, n, s, room, out);
-    Written::Wrote(k)
+    Ok(k)
 }
 
 // The same of a cell: its row, a tab, its column's name as a J8 string, a tab, its value, LF.
-pub fn write_cell(row: usize, name: &[u8], quoted: bool, value: &[u8], out: &mut [u8]) -> Written
+pub fn write_cell(
+    row: usize,
+    name: &[u8],
+    quoted: bool,
+    value: &[u8],
+    out: &mut [u8],
+) -> Result<usize, Refusal>
     ensures answer { result ≡ written_in (length out.old) (cell_text row name.now quoted value.now) }
     ensures stored { out.new ≡ wrote_into (cell_text row name.now quoted value.now) out.old }
 {
-    let t = classes::table();
+    let t = Classes::new();
     let room = out.len();
     if ample(name.len() + value.len(), room) {
-        return Written::Wrote(put_cell(&t, row, name, quoted, value, room, out));
+        return Ok(put_cell(&t, row, name, quoted, value, room, out));
     }
     let k = put_cell(&t, row, name, quoted, value, room, &mut out[..0]);
     if room < k {
-        return Written::Refused(refusals::NO_ROOM);
+        return Err(Refusal::NoRoom);
     }
     put_cell(&t, row, name, quoted, value, room, out);
-    Written::Wrote(k)
+    Ok(k)
 }

@@ -2,13 +2,13 @@
 #![tactic(auto)]
 
 ghost use Rattle.std.specs.Prelude.{◌≤◌};
-ghost use Rattle.utf8.specs.Class.{IsTable};
 ghost use Rattle.rooms.specs.inner.Puts.{room_max, Put};
 ghost use Rattle.messages.specs.declared.Head.TheVariants.{Refused};
 ghost use Rattle.messages.specs.Messages.{spot_fields, fields_text, object_text};
 
 use messages::{Head, Spot};
 use rooms::parts;
+use utf8::classes::Classes;
 
 fn put_spot_fields(spot: Spot, room: usize, o: usize, out: &mut [u8]) -> usize
     requires { room ≤ room_max }
@@ -56,8 +56,8 @@ fn put_fields(head: Head, room: usize, out: &mut [u8]) -> usize
 }
 
 // A line that is an object.
-pub fn put_object(t: &[u8; 256], head: Head, sentence: &[u8], room: usize, out: &mut [u8]) -> usize
-    requires { IsTable t.now × (room ≤ room_max) }
+pub fn put_object(t: &Classes, head: Head, sentence: &[u8], room: usize, out: &mut [u8]) -> usize
+    requires { room ≤ room_max }
     ensures { Put (object_text head sentence.now) room 0 result out.old out.new }
 {
     let p = put_fields(head, room, out);

@@ -1,9 +1,9 @@
 -- An object is what JSON8's writer has for its tree: the keys are written as they stand, by computing, and parts are joined to the right.
 -- Assumes nothing.
 use Prim.Native.Nat.{ℕ}
-use mathlib.Core.List.{List, [], ◌∷◌, ◌++◌, append_assoc}
-use mathlib.Core.Path.{◌≡◌, refl, sym, ap, ◌∙◌}
-use Rattle.prelude.specs.Bytes.{ascii, LF}
+use mathlib.Core.List.{List, ◌++◌, append_assoc}
+use mathlib.Core.Path.{◌≡◌, refl, ◌∙◌}
+use Rattle.prelude.specs.Bytes.{ascii}
 use Rattle.prelude.specs.Pick.{pick}
 use Rattle.utf8.specs.Class.{class_of}
 use Rattle.utf8.specs.Utf8.{len_by, char_len, valid_from}

@@ -1,6 +1,7 @@
 -- As in write (Passes, Entries).
 use Rattle.entries.specs.Entries.{cell_text}
-use Rattle.prelude.specs.declared.answers.Written.TheVariants.{Wrote, Refused}
+use Rattle.std.specs.Prelude.{Ok, Err}
+use Rattle.prelude.specs.Refusals.{no_room}
 use Rattle.strings_write.specs.Write.{written_in}
 use Rattle.rooms.proofs.Passes.{one_pass, too_long_lem, two_passes}
 use Rattle.entries.proofs.Entries.{cell_room}
@@ -9,14 +10,14 @@ use Rattle.entries.proofs.write_cell.Goals as goal
 pub returns-then-ample : goal.returns-then-ample
 unfolding written_in
 returns-then-ample c =
-    let r = one_pass Wrote (Refused 12) (cell_text c.args.row c.args.name.now c.args.quoted c.args.value.now) c.args.out.now (cell_room c.args.row c.args.name.now c.args.quoted c.args.value.now _ (c.ample.ensures c.if-ample.true)) c.put_cell.ensures in record { answer = r.0; stored = r.1 }
+    let r = one_pass Ok (Err no_room) (cell_text c.args.row c.args.name.now c.args.quoted c.args.value.now) c.args.out.now (cell_room c.args.row c.args.name.now c.args.quoted c.args.value.now _ (c.ample.ensures c.if-ample.true)) c.put_cell.ensures in record { answer = r.0; stored = r.1 }
 
 pub returns-then-room-k : goal.returns-then-room-k
 unfolding written_in
 returns-then-room-k c =
-    let r = too_long_lem Wrote (Refused 12) (cell_text c.args.row c.args.name.now c.args.quoted c.args.value.now) c.args.out.now c.put_cell-k.new.out c.put_cell-k.auto.out c.put_cell-k.ensures c.if-room-k.true in record { answer = r.0; stored = r.1 }
+    let r = too_long_lem Ok (Err no_room) (cell_text c.args.row c.args.name.now c.args.quoted c.args.value.now) c.args.out.now c.put_cell-k.new.out c.put_cell-k.auto.out c.put_cell-k.ensures c.if-room-k.true in record { answer = r.0; stored = r.1 }
 
 pub returns : goal.returns
 unfolding written_in
 returns c =
-    let r = two_passes Wrote (Refused 12) (cell_text c.args.row c.args.name.now c.args.quoted c.args.value.now) c.args.out.now c.put_cell-k.new.out c.put_cell-k.auto.out c.put_cell-k.ensures c.if-room-k.false c.put_cell-2.ensures in record { answer = r.0; stored = r.1 }
+    let r = two_passes Ok (Err no_room) (cell_text c.args.row c.args.name.now c.args.quoted c.args.value.now) c.args.out.now c.put_cell-k.new.out c.put_cell-k.auto.out c.put_cell-k.ensures c.if-room-k.false c.put_cell-2.ensures in record { answer = r.0; stored = r.1 }
