@@ -9,6 +9,7 @@ use borrow.Author.Tests.{le-leb, leb-true, leb-false}
 use lib.Dec.{leb}
 use lib.ListN.{length, length-append, take}
 use lib.Seq.{sets, length-sets, take_all}
+use Rattle.std.specs.Prelude.{ℤ, Option, Some}
 use Rattle.prelude.proofs.Cases.{split, never}
 use Rattle.prelude.proofs.Picks.{pick_true, pick_false}
 use Rattle.prelude.proofs.Stores.{sets_append}
@@ -21,18 +22,13 @@ use Rattle.command_texts.proofs.Puts.{put_whole}
 use Rattle.command_outputs.specs.declared.pages.Page.{Page}
 use Rattle.command_outputs.specs.declared.pages.Form.{Form}
 use Rattle.command_outputs.specs.declared.pages.Form.TheVariants.{Entry, Raw}
-use Rattle.command_outputs.specs.declared.outcomes.Outcome.TheVariants.{Done, Unwritten}
-use Rattle.command_outputs.specs.Pages.{form_text, page_outcome, Printed, Added}
+use Rattle.command_outputs.specs.Pages.{form_text, failure_outcome, page_outcome, Printed, Added}
 use Rattle.command_outputs.proofs.Printing.{Shown}
 
 -- what came of a page
-pub page_failed : (p : Page) → p.failed ≡ true → Unwritten p.error ≡ page_outcome p
+pub page_by : (p : Page) (f : Option ℤ) → p.failure ≡ f → failure_outcome f ≡ page_outcome p
 unfolding page_outcome
-page_failed p e = sym (pick_true _ _ _ e)
-
-pub page_done : (p : Page) → p.failed ≡ false → Done ≡ page_outcome p
-unfolding page_outcome
-page_done p e = sym (pick_false _ _ _ e)
+page_by p f e = ap failure_outcome (sym e)
 
 -- no text is empty
 pub form_some : (form : Form) (n : ℕ) (s : List ℕ) → 0 < length (form_text form n s)
@@ -71,30 +67,28 @@ module _ (p : Page) (page shown : List ℕ) (n : ℕ) (f : p.at ≤ length page 
     told : Shown p.terminal (take p.at page) shown r new
     told = subst (λ (t : List ℕ). Shown p.terminal t shown r new) front s
 
-    pub printed : r ≡ false → Printed p page shown (record { at = 0; terminal = p.terminal; failed = p.failed; error = p.error }) new
+    pub printed : r ≡ false → Printed p page shown (record { at = 0; terminal = p.terminal; failure = p.failure }) new
     printed e = record {
       terminal = refl;
       kept = λ k. k;
       unshown = λ u. never (let z : true ≡ false = sym (told.0 u) ∙ e in cc);
-      error = λ k. refl;
       stored = told.1;
     }
 
-    pub unprinted : (error : _) → Printed p page shown (record { at = 0; terminal = p.terminal; failed = true; error = error }) new
+    pub unprinted : (error : ℤ) → Printed p page shown (record { at = 0; terminal = p.terminal; failure = Some error }) new
     unprinted error = record {
       terminal = refl;
       kept = λ k. refl;
       unshown = λ u. refl;
-      error = λ k. never (let z : true ≡ false = k in cc);
       stored = told.1;
     }
 
 -- a text added, by the place that was answered
 module _ (p : Page) {text : List ℕ} (some : 0 < length text) (page shown : List ℕ) {at : ℕ} {new : List ℕ} (w : PutWhole text p.at at page new) where
-  pub added_behind : p.at < at → Added p text page shown (record { at = at; terminal = p.terminal; failed = p.failed; error = p.error }) new shown
+  pub added_behind : p.at < at → Added p text page shown (record { at = at; terminal = p.terminal; failure = p.failure }) new shown
   added_behind h = (
     λ e. record {
-      same = ap (λ (k : ℕ). record { at = k; terminal = p.terminal; failed = p.failed; error = p.error }) (w.answer ∙ pick_true _ _ _ e);
+      same = ap (λ (k : ℕ). record { at = k; terminal = p.terminal; failure = p.failure }) (w.answer ∙ pick_true _ _ _ e);
       put = w.stored ∙ pick_true _ _ _ e;
       unprinted = refl;
     },
@@ -112,12 +106,12 @@ module _ (p : Page) {text : List ℕ} (some : 0 < length text) (page shown : Lis
     same = w.stored ∙ pick_false _ _ _ full
 
     pub added_anew : (q : Page) {behind : ℕ} {shown' last : List ℕ} → Printed p new shown q shown' → PutWhole text 0 behind new last
-        → Added p text page shown (record { at = behind; terminal = q.terminal; failed = q.failed; error = q.error }) last shown'
+        → Added p text page shown (record { at = behind; terminal = q.terminal; failure = q.failure }) last shown'
     added_anew q {behind} {shown'} {last} a b =
         let c : Printed p page shown q shown' = subst (λ (t : List ℕ). Printed p t shown q shown') same a in (
           λ e. never (let z : true ≡ false = sym e ∙ full in cc),
           λ e. record {
-            printed = record { terminal = c.terminal; kept = c.kept; unshown = c.unshown; error = c.error; stored = c.stored };
+            printed = record { terminal = c.terminal; kept = c.kept; unshown = c.unshown; stored = c.stored };
             put = subst (λ (t : List ℕ). PutWhole text 0 behind t last) same b;
           },
         )

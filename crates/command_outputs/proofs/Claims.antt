@@ -9,6 +9,6 @@ statuses_to_three Done = omega arith
 statuses_to_three (Refused number spot place) = omega arith
 statuses_to_three (Long size) = omega arith
 statuses_to_three (Mixed line) = omega arith
-statuses_to_three (Misused fault argument) = omega arith
+statuses_to_three (Misused wrong) = omega arith
 statuses_to_three (Unread error) = omega arith
 statuses_to_three (Unwritten error) = omega arith

@@ -12,7 +12,7 @@ status_of Done = 0
 status_of (Refused number spot place) = 1
 status_of (Long size) = 1
 status_of (Mixed line) = 1
-status_of (Misused fault argument) = 2
+status_of (Misused wrong) = 2
 status_of (Unread error) = 3
 status_of (Unwritten error) = 3
 
@@ -22,7 +22,7 @@ is_unwritten Done = false
 is_unwritten (Refused number spot place) = false
 is_unwritten (Long size) = false
 is_unwritten (Mixed line) = false
-is_unwritten (Misused fault argument) = false
+is_unwritten (Misused wrong) = false
 is_unwritten (Unread error) = false
 is_unwritten (Unwritten error) = true
 
@@ -36,6 +36,6 @@ is_printed Done = true
 is_printed (Refused number spot place) = false
 is_printed (Long size) = false
 is_printed (Mixed line) = false
-is_printed (Misused fault argument) = false
+is_printed (Misused wrong) = false
 is_printed (Unread error) = false
 is_printed (Unwritten error) = true

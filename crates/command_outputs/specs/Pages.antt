@@ -1,8 +1,7 @@
 -- The page: texts one behind another, printed when there is no room for the next. What the system says of printing is all that isn't told here.
 -- Assumes nothing.
-use Rattle.std.specs.Prelude.{ℕ, zero, suc, ◌+◌, Bool, true, false, List, [], ◌∷◌, ◌++◌, ◌≡◌, leb, pos, length, take}
+use Rattle.std.specs.Prelude.{ℕ, zero, suc, ◌+◌, Bool, true, false, List, [], ◌∷◌, ◌++◌, ◌≡◌, leb, ℤ, length, take, Option, Some, None, IsSome}
 use Rattle.std.proofs.lemmas.List.Edits.{sets}
-use Rattle.prelude.specs.Pick.{pick}
 use Rattle.entries.specs.Entries.{entry_text}
 use Rattle.command_texts.specs.Texts.{PutWhole}
 use Rattle.command_outputs.specs.declared.pages.Page.{Page}
@@ -13,28 +12,31 @@ use Rattle.command_outputs.specs.declared.outcomes.Outcome.TheVariants.{Done, Un
 use Rattle.command_outputs.specs.Outputs.{shown_in, is_showable}
 
 abbrev pub fresh_page : Bool → Page
-fresh_page terminal = record { at = 0; terminal = terminal; failed = false; error = pos 0 }
+fresh_page terminal = record { at = 0; terminal = terminal; failure = None }
 
 -- what a text becomes on the page
 abbrev pub form_text : Form → ℕ → List ℕ → List ℕ
 form_text Entry n s = entry_text n s
 form_text (Raw end) n s = s ++ (end ∷ [])
 
--- what came of a page
+-- what came of a page, by what the system says of it
+abbrev pub failure_outcome : Option ℤ → Outcome
+failure_outcome None = Done
+failure_outcome (Some error) = Unwritten error
+
 unfoldable pub page_outcome : Page → Outcome
-page_outcome p = pick p.failed (Unwritten p.error) Done
+page_outcome p = failure_outcome p.failure
 
 -- a page that was printed: a failure stays, and there is one where what a terminal is shown of it has no room
 pub record Printed (p : Page) (page : List ℕ) (shown : List ℕ) (r : Page) (new : List ℕ) : Type 0 where
   pub terminal : r.terminal ≡ p.terminal
-  pub kept : p.failed ≡ true → r.failed ≡ true
-  pub unshown : is_showable p.terminal (take p.at page) (length shown) ≡ false → r.failed ≡ true
-  pub error : r.failed ≡ false → r.error ≡ p.error
+  pub kept : IsSome p.failure → IsSome r.failure
+  pub unshown : is_showable p.terminal (take p.at page) (length shown) ≡ false → IsSome r.failure
   pub stored : new ≡ shown_in p.terminal (take p.at page) shown
 
 -- a text added: behind what is there, or on the page anew, once that is printed
 pub record Behind (p : Page) (text page shown : List ℕ) (r : Page) (page' shown' : List ℕ) : Type 0 where
-  pub same : r ≡ record { at = p.at + length text; terminal = p.terminal; failed = p.failed; error = p.error }
+  pub same : r ≡ record { at = p.at + length text; terminal = p.terminal; failure = p.failure }
   pub put : page' ≡ sets page p.at text
   pub unprinted : shown' ≡ shown
 

@@ -2,6 +2,7 @@
 ghost use Rattle.std.specs.Prelude.{◌≡◌};
 ghost use Rattle.command_outputs.specs.Outcomes.{status_of, refused_at};
 
+use command_words::arguments::Wrong;
 use messages::Spot;
 
 #[derive(Clone, Copy)]
@@ -13,20 +14,19 @@ pub enum Outcome {
     Long(usize),
     // A name on this line holds the byte that would end it.
     Mixed(usize),
-    // Wrong words: which of them, and the argument.
-    Misused(usize, usize),
+    // Wrong words, or none at all.
+    Misused(Option<Wrong>),
     // What the system says of an input that can't be read, or an output that can't be written.
     Unread(i32),
     Unwritten(i32),
 }
 
-// A run that ended: the bytes of a text that was read whole, the first line that begins with a byte order mark (0 for none), and whether the
-// input was empty.
+// A run that ended: the bytes of a text that was read whole, the first line that begins with a byte order mark, and whether the input was empty.
 #[derive(Clone, Copy)]
 pub struct Run {
     pub outcome: Outcome,
     pub size: usize,
-    pub mark: usize,
+    pub mark: Option<usize>,
     pub empty: bool,
 }
 
@@ -38,7 +38,7 @@ pub fn status_of(outcome: Outcome) -> u32
         Outcome::Refused(_, _, _) => 1,
         Outcome::Long(_) => 1,
         Outcome::Mixed(_) => 1,
-        Outcome::Misused(_, _) => 2,
+        Outcome::Misused(_) => 2,
         Outcome::Unread(_) => 3,
         Outcome::Unwritten(_) => 3,
     }

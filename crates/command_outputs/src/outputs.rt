@@ -7,7 +7,6 @@ ghost use Rattle.command_outputs.specs.Outcomes.{is_unwritten};
 ghost use Rattle.command_outputs.specs.Outputs.{shown_in, is_showable};
 
 use crate::outcomes::Outcome;
-use prelude::answers::Written;
 use std::io;
 use std::io::Print;
 use std::rt::Stdout;
@@ -31,13 +30,12 @@ pub fn print(output: Stdout, bytes: &[u8], terminal: bool, shown: &mut [u8]) -> 
     if !terminal {
         return output.write_all(bytes).map_err(number_of);
     }
-    let written = terminals::write(bytes, shown);
-    match written {
-        Written::Wrote(n) => {
+    match terminals::write(bytes, shown) {
+        Ok(n) => {
             let k = command_texts::within(n, shown);
             output.write_all(&shown[..k]).map_err(number_of)
         }
-        Written::Refused(_) => Err(0),
+        Err(_) => Err(0),
     }
 }
 

@@ -8,14 +8,12 @@ use crate::outcomes::Outcome;
 use crate::outputs;
 use std::rt::Stdout;
 
-// The bytes that wait to be printed, whether a terminal shows them, and whether something before them couldn't be printed, with what the
-// system says.
+// The bytes that wait to be printed, whether a terminal shows them, and what the system says if something before them couldn't be printed.
 #[derive(Clone, Copy)]
 pub struct Page {
     pub at: usize,
     pub terminal: bool,
-    pub failed: bool,
-    pub error: i32,
+    pub failure: Option<i32>,
 }
 
 pub fn fresh(terminal: bool) -> Page
@@ -24,8 +22,7 @@ pub fn fresh(terminal: bool) -> Page
     Page {
         at: 0,
         terminal,
-        failed: false,
-        error: 0,
+        failure: None,
     }
 }
 
@@ -46,8 +43,7 @@ pub fn flush(output: Stdout, p: Page, page: &[u8], shown: &mut [u8]) -> Page
     match outputs::print(output, &page[..n], p.terminal, shown) {
         Ok(()) => p,
         Err(error) => {
-            p.failed = true;
-            p.error = error;
+            p.failure = Some(error);
             p
         }
     }
@@ -155,8 +151,8 @@ pub fn add_cell(
 pub fn outcome_of(p: Page) -> Outcome
     ensures { result ≡ page_outcome p }
 {
-    if p.failed {
-        return Outcome::Unwritten(p.error);
+    match p.failure {
+        Some(error) => Outcome::Unwritten(error),
+        None => Outcome::Done,
     }
-    Outcome::Done
 }
