@@ -4,11 +4,13 @@ reach, each behind those that it calls, one a line.
 
     libraries.py HEADER LIBRARIES >j8.mir
 
-LIBRARIES: the folder of the crates; each proved one has its functions in NAME/out/rlib/NAME.rlib/toolchain/mir.json. What isn't known here ends the run.
+LIBRARIES: the folder of the crates; each proved one has its functions in NAME/out/rlib/NAME.rlib/toolchain/mir.json, and the kit's library `core` beside the
+guide that `rt doc` names. What isn't known here ends the run.
 """
 import glob
 import json
 import os
+import subprocess
 import sys
 from collections.abc import Mapping
 
@@ -149,15 +151,40 @@ def constant(held):
     return ["c_ints", width(wide), listed(map(count, values))]
 
 
-def callee(held):
+def dictionary(held, impls):
+    """An impl, by its methods, at types and for bounds of its own; or what the function takes for a bound."""
     name, of = only(held)
-    need(name == "Fn" and fields(of[1], "types", "dicts") == [[], []], "a call of no function, or at types:", held)
-    return ["fn", Text(of[0]), "no_args"]
+    if name == "Given":
+        return ["given", count(of)]
+    need(name == "Impl" and of[0] in impls, "unknown dictionary", held)
+    return ["impl", listed(map(Text, impls[of[0]])), listed(map(type_term, of[1])), listed(dictionary(one, impls) for one in of[2])]
+
+
+def arguments(held, impls):
+    types, dicts = fields(held, "types", "dicts")
+    if not types and not dicts:
+        return "no_args"
+    return ["args", listed(map(type_term, types)), listed(dictionary(one, impls) for one in dicts)]
+
+
+def callee(held, impls):
+    name, of = only(held)
+    if name == "Method":
+        return ["method", dictionary(of[0], impls), count(of[1]), arguments(of[2], impls)]
+    need(name == "Fn", "a call of no function:", held)
+    return ["fn", Text(of[0]), arguments(of[1], impls)]
+
+
+class Held:
+    """The statements that are left of a function's list, and the methods of the impls that it names."""
+
+    def __init__(self, statements, impls):
+        self.left, self.impls = iter(statements), impls
 
 
 def body(held):
     """The next statement of a list in which each stands before those inside it."""
-    one = next(held, "Nothing")
+    one = next(held.left, "Nothing")
     name, of = (one, None) if isinstance(one, str) else only(one)
     need(name in BODIES, "unknown statement", name)
     return BODIES[name](of, held)
@@ -184,7 +211,7 @@ BODIES = {
     "Assign": lambda of, held: ["assign", place(of[0]), right(of[1])],
     "If": lambda of, held: ["cond", operand(of), body(held), body(held)],
     "Exit": lambda of, held: ["exit", count(of)],
-    "Call": lambda of, held: ["call", callee(of[0]), listed(map(operand, of[1])), place(of[2])],
+    "Call": lambda of, held: ["call", callee(of[0], held.impls), listed(map(operand, of[1])), place(of[2])],
     "LendStatic": lambda of, held: ["lend_static", place(of[0]), type_term(of[1]), constant(of[2])],
     "Switch": switch,
 }
@@ -196,8 +223,7 @@ def shape(held):
     return ["fields", listed(map(type_term, of))] if name == "Fields" else ["variants", listed(listed(map(type_term, variant)) for variant in of)]
 
 
-# What a plain function, and what a plain declared type has besides its MIR.
-PLAIN = {"types": [], "outlives": [], "bounds": [], "method_of": None, "trait_lifetimes": 0, "impls": []}
+# What a plain declared type has besides its MIR.
 PLAIN_TYPE = {"lifetimes": 0, "bounds": [], "const_params": [], "type_bounds": [], "owns": False, "is_cell": False, "is_tuple": False}
 
 
@@ -211,11 +237,14 @@ def entry(held):
 def definition(symbol, held):
     """A function of a library."""
     lifetimes, outlives, params, generics, types, own, statements = fields(held, "lifetimes", "outlives", "params", "generics", "types", "locals", "body")
-    need(outlives == [] and {**generics, "method_of": None} == PLAIN, symbol, "isn't plain")
-    left = iter(statements)
+    kinds, type_outlives, bounds, _, trait_lifetimes, impls = fields(generics, "types", "outlives", "bounds", "method_of", "trait_lifetimes", "impls")
+    need(outlives == [] and type_outlives == [] and trait_lifetimes == 0, symbol, "has bounds of lifetimes")
+    need(all(one["const_bits"] is None for one in kinds), symbol, "takes numbers in the place of types")
+    held = Held(statements, {one["name"]: one["methods"] for one in impls})
     local_terms = [["local", type_term(ty), named(WORDS, home)] for ty, home in (fields(one, "ty", "home") for one in own)]
-    term = ["function", count(lifetimes), listed([]), listed([]), "0", count(params), listed(local_terms), body(left)]
-    need(next(left, None) is None, symbol, "has statements behind its body")
+    taken = [listed(["a_type"] * len(kinds)), count(len(bounds)), count(params)]
+    term = ["function", count(lifetimes), listed([])] + taken + [listed(local_terms), body(held)]
+    need(next(held.left, None) is None, symbol, "has statements behind its body")
     return ["fn_def", Text(symbol), term, listed(map(entry, types))]
 
 
@@ -224,7 +253,9 @@ class Libraries(Mapping):
 
     def __init__(self, folder):
         self.where, self.held, self.read = {}, {}, {}
-        for path in sorted(glob.glob(os.path.join(folder, "*", "out", "rlib", "*.rlib", "toolchain", "mir.json"))):
+        guide = subprocess.run(["rt", "doc"], check=True, capture_output=True, text=True).stdout.strip()
+        core = os.path.join(os.path.dirname(guide), "rlibs", "core.rlib", "toolchain", "mir.json")
+        for path in sorted(glob.glob(os.path.join(folder, "*", "out", "rlib", "*.rlib", "toolchain", "mir.json"))) + [core]:
             library = os.path.basename(os.path.dirname(os.path.dirname(path)))[: -len(".rlib")]
             with open(path, encoding="utf-8") as file:
                 for symbol, held in json.load(file):

@@ -213,8 +213,8 @@ class Function:
 
 
 def function_of(symbol, term):
-    _, outlives, ty_params, givens, params, local_terms, body = parts(term, "function", 7)
-    need(outlives == ty_params == ["list"] and givens == "0", "a function of types or with bounds:", outlives, ty_params, givens)
+    _, outlives, _, _, params, local_terms, body = parts(term, "function", 7)
+    need(outlives == ["list"], "a function with bounds:", outlives)
     types, homes = [], []
     for one in items(local_terms):
         ty, home = parts(one, "local", 2)
@@ -249,12 +249,69 @@ def program_of(source, wanted):
         terms[symbol] = one
     program = Program({}, {})
     for symbol in reached(terms, wanted):
-        program.terms[symbol] = terms[symbol][2]
         for entry in items(terms[symbol][3]):
             name, kinds, shape = parts(entry, "entry", 3)
             need(set(items(kinds)) <= {"a_type"}, "a declared type of numbers:", entry)
             need(program.shapes.setdefault(str(name), shape_of(shape)) == shape_of(shape), "two shapes of", name)
+    made = at_arguments(terms, wanted)
+    program.terms = {symbol: made[symbol] for symbol in ordered(made, [one for one in made if one in terms and one.split("::")[-1] in wanted])}
     return program
+
+
+def at_arguments(terms, wanted):
+    """The functions that those wanted reach, each once for the types and dictionaries that it is called at, which are put in (logic/Mir/Inst.antt); these are
+    counted in its symbol."""
+    made, names = {}, {}
+
+    def name_of(symbol, types, dicts):
+        if not types and not dicts:
+            return symbol
+        numbers = names.setdefault(symbol, {})
+        return "%s::%d" % (symbol, numbers.setdefault(printed(["list"] + types + dicts), len(numbers) + 1))
+
+    def put(term, types, dicts):
+        if not isinstance(term, list) or not term:
+            return term
+        head = term[0]
+        if head == "ty_param":
+            return types[number(term[1])]
+        if head == "given":
+            return dicts[number(term[1])]
+        term = [put(one, types, dicts) for one in term]
+        if head == "method":
+            dictionary, k, own = parts(term, "method", 3)
+            methods, impl_types, impl_dicts = parts(dictionary, "impl", 3)
+            need(own == "no_args", "a method at types of its own:", term)
+            term = ["fn", items(methods)[number(k)], ["args", impl_types, impl_dicts]]
+        if term[0] == "fn":
+            _, symbol, given = term
+            own_types, own_dicts = ([], []) if given == "no_args" else map(items, parts(given, "args", 2))
+            return ["fn", Text(visit(str(symbol), own_types, own_dicts)), "no_args"]
+        return term
+
+    def visit(symbol, types, dicts):
+        name = name_of(symbol, types, dicts)
+        if name not in made:
+            need(symbol in terms, "no function is named", symbol)
+            head, lifetimes, outlives, kinds, givens, *rest = terms[symbol][2]
+            need(len(items(kinds)) == len(types) and number(givens) == len(dicts), symbol, "at", types, dicts)
+            made[name] = None
+            made[name] = [head, lifetimes, outlives, kinds, givens] + [put(one, types, dicts) for one in rest]
+        return name
+
+    for one in roots(terms, wanted):
+        visit(one, [], [])
+    return made
+
+
+def roots(terms, wanted):
+    """The symbols of the functions of these names."""
+    symbols = []
+    for name in wanted:
+        found = [symbol for symbol in terms if symbol.split("::")[-1] == name]
+        need(len(found) == 1, "functions named", name + ":", found)
+        symbols += found
+    return symbols
 
 
 def calls_in(term):
@@ -265,12 +322,29 @@ def calls_in(term):
         if isinstance(one, list):
             if one and one[0] == "fn":
                 found.append(str(one[1]))
+            if one and one[0] == "impl":
+                found += map(str, items(one[1]))
             left += one
     return found
 
 
 def reached(terms, wanted):
     """The functions that those wanted reach, each behind those that it calls but for a ring of calls."""
+    return ordered({symbol: Later(terms, symbol) for symbol in terms}, roots(terms, wanted))
+
+
+class Later:
+    """A function's term, read when it is asked for."""
+
+    def __init__(self, terms, symbol):
+        self.terms, self.symbol = terms, symbol
+
+    def get(self):
+        return self.terms[self.symbol][2]
+
+
+def ordered(terms, symbols):
+    """The functions that these reach, each behind those that it calls but for a ring of calls."""
     order, begun = [], set()
 
     def visit(symbol):
@@ -278,12 +352,11 @@ def reached(terms, wanted):
             return
         begun.add(symbol)
         need(symbol in terms, "no function is named", symbol)
-        for other in sorted(set(calls_in(terms[symbol][2]))):
+        term = terms[symbol].get() if isinstance(terms[symbol], Later) else terms[symbol]
+        for other in sorted(set(calls_in(term))):
             visit(other)
         order.append(symbol)
 
-    for name in wanted:
-        found = [symbol for symbol in terms if symbol.split("::")[-1] == name]
-        need(len(found) == 1, "functions named", name + ":", found)
-        visit(found[0])
+    for symbol in symbols:
+        visit(symbol)
     return order

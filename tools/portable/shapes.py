@@ -10,9 +10,10 @@ def c_name(symbol):
 
 
 def type_name(ty):
-    """The C name of a declared type, of the types too that it is used at."""
+    """The C name of a declared type, with those of the types that it is used at. C tells names apart by 63 letters at least."""
     if isinstance(ty, Named):
-        return "_".join([c_name(ty.symbol)] + [type_name(one) for one in ty.types])
+        own = ty.symbol.split("::")[-1] if ty.symbol in STANDARD else c_name(ty.symbol)
+        return "_".join([own] + [type_name(one) for one in ty.types])
     words = {Bool(): "bool", Unit(): "unit"}
     need(isinstance(ty, Int) or ty in words, "a declared type at", ty)
     return words.get(ty) or "u%d" % ty.width

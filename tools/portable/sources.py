@@ -5,8 +5,14 @@ import re
 from mir import Array, Bool, Int, Named, Ref, Slice, Unit, need
 
 NUMBERS = {"u8": Int(8), "u16": Int(16), "u32": Int(32), "u64": Int(64), "usize": Int(64), "bool": Bool(), "()": Unit()}
-# The variants of the standard library's enums, which have no source here.
-STANDARD = {"core::option::Option": ["None", "Some"], "core::result::Result": ["Ok", "Err"]}
+# The fields and variants of the standard library's types, which have no source here.
+STANDARD = {
+    "core::option::Option": ["None", "Some"],
+    "core::result::Result": ["Ok", "Err"],
+    "core::ops::ControlFlow": ["Continue", "Break"],
+    "core::result::ErrResidual": ["error"],
+    "core::option::NoValue": [],
+}
 
 
 def apart(text):
@@ -50,6 +56,8 @@ class Sources:
 
     def file(self, symbol):
         """The file of a path, below root: its crate's root file, or that of its modules as far as there are files."""
+        if symbol.startswith("core::"):
+            return "the standard library"
         crate, *rest = symbol.split("::")
         for count in range(len(rest), 0, -1):
             path = "crates/%s/src/%s.rt" % (crate, "/".join(rest[:count]))
@@ -75,6 +83,8 @@ class Sources:
 
     def fields(self, symbol, types):
         """The names of a struct's fields."""
+        if symbol in STANDARD:
+            return STANDARD[symbol]
         names = []
         entries = self.body(symbol, "struct")
         need(len(entries) == len(types), symbol, "has", len(types), "fields and in its source", len(entries))

@@ -222,7 +222,7 @@ class File:
             symbol = [one for one in self.functions if one.split("::")[-1] == name][0]
             wrappers.append(with_name(name, lambda: self.header.wrapper(self.shapes, self.sources, name, self.functions[symbol])))
         names = [c_name(symbol) for symbol in self.functions] + list(self.shapes.made) + list(self.header.functions)
-        need(len(set(names)) == len(names), "two things of one name in C")
+        need(len({one[:63] for one in names}) == len(names), "two things of one name in C")
         types, helpers = self.shapes.made.values(), [HELPERS[one] for one in sorted(self.helpers)]
         made = [HEAD % {"version": self.header.version}, "\n".join(types), "\n".join(self.constants), "\n".join(helpers), "".join(heads)]
         made.append("\n".join(bodies + wrappers))
