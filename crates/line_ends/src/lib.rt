@@ -10,10 +10,8 @@ fn any_lf(p: &[u8], at: usize) -> bool
     ensures { result ≡ false → NoLf p.now at 32 }
 {
     let mut found = false;
-    let mut k: usize = 0;
-    while k < 32 {
+    for k in 0..32 {
         found = found | (p[at + k] == b'\n');
-        k += 1;
     }
     found
 }
@@ -23,14 +21,12 @@ fn lf_near(p: &[u8], from: usize) -> usize
     requires { from ≤ length p.now }
     ensures { result ≡ from + line_run (drop from p.now) }
 {
-    let mut i = from;
-    while i < p.len() {
+    for i in from..p.len() {
         if p[i] == b'\n' {
             return i;
         }
-        i += 1;
     }
-    i
+    p.len()
 }
 
 // The place of the next LF from a place on, or the end.

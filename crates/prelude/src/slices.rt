@@ -53,10 +53,8 @@ pub(crate) fn copy_all(s: &[u8], at: usize, n: usize, o: usize, out: &mut [u8])
     requires { (at + n ≤ length s.now) × (n ≤ length out.old - o) }
     ensures { out.new ≡ sets out.old o (take n (drop at s.now)) }
 {
-    let mut i = 0;
-    while i < n {
+    for i in 0..n {
         out[o + i] = s[at + i];
-        i += 1;
     }
 }
 

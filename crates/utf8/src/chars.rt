@@ -191,14 +191,12 @@ fn fault_from(s: &[u8], from: usize, a: u8) -> Option<Refusal>
 {
     let n = wanted(a);
     let mut v = start_bits(a);
-    let mut k: usize = 0;
-    while k < n {
+    for k in 0..n {
         let b = slices::byte_at(s, from, k);
         if !in_range(0x80, 0xbf, b) {
             return Some(Refusal::Utf8Incomplete);
         }
         v = v * 0x40 + (b - 0x80) as u32;
-        k += 1;
     }
     value_fault(least_of(a), v)
 }
@@ -263,10 +261,8 @@ pub fn any_high(s: &[u8], at: usize, n: usize) -> bool
     ensures { (result ≡ false → AllLow s.now at n) × (AllLow s.now at n → result ≡ false) }
 {
     let mut found = false;
-    let mut k: usize = 0;
-    while k < n {
+    for k in 0..n {
         found = found | (s[at + k] >= 127);
-        k += 1;
     }
     found
 }

@@ -7,42 +7,6 @@ use lib.Seq.{sets}
 use Rattle.prelude.proofs.Stores.{further}
 use Rattle.prelude.proofs.copies.copy_blocks.Goals as goal
 
-pub loop-i-init : goal.loop-i-init
-loop-i-init c = (omega arith, refl, refl)
-
-pub overflow_sub-n : goal.overflow_sub-n
-overflow_sub-n c = omega arith
-
-pub overflow_add-at : goal.overflow_add-at
-overflow_add-at c = omega arith
-
-pub overflow_add-o : goal.overflow_add-o
-overflow_add-o c = omega arith
-
-pub copy_thirty_two-requires : goal.copy_thirty_two-requires
-copy_thirty_two-requires c = omega arith
-
-pub overflow_add-at-in-loop-i : goal.overflow_add-at-in-loop-i
-overflow_add-at-in-loop-i c = omega arith
-
-pub overflow_add-at-in-loop-i-2 : goal.overflow_add-at-in-loop-i-2
-overflow_add-at-in-loop-i-2 c = omega arith
-
-pub overflow_add-o-in-loop-i : goal.overflow_add-o-in-loop-i
-overflow_add-o-in-loop-i c = omega arith
-
-pub overflow_add-o-in-loop-i-2 : goal.overflow_add-o-in-loop-i-2
-overflow_add-o-in-loop-i-2 c = omega arith
-
-pub copy_thirty_two-requires-in-loop-i : goal.copy_thirty_two-requires-in-loop-i
-copy_thirty_two-requires-in-loop-i c = omega arith
-
-pub overflow_add-i : goal.overflow_add-i
-overflow_add-i c = omega arith
-
-pub loop-i-smaller : goal.loop-i-smaller
-loop-i-smaller c = omega arith
-
 pub loop-i-preserved : goal.loop-i-preserved
 loop-i-preserved c = (
   omega arith,
@@ -51,10 +15,3 @@ loop-i-preserved c = (
       c.copy_thirty_two-in-loop-i.ensures,
   omega arith,
 )
-
-pub shape_of-out : goal.shape_of-out
-shape_of-out c = c.loop-i.invariant.2
-
-pub returns : goal.returns
-returns c =
-    (c.loop-i.invariant.0, omega arith, λ t e. c.loop-i.invariant.1 ∙ ap (λ (l : List ℕ). sets l c.args.o (take c.loop-i.i (drop c.args.at c.args.s.now))) e)

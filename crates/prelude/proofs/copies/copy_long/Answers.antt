@@ -4,15 +4,9 @@ use lib.ListN.{drop, length-drop}
 use Rattle.prelude.proofs.Stores.{copied_least}
 use Rattle.prelude.proofs.copies.copy_long.Goals as goal
 
-pub copy_all-requires : goal.copy_all-requires
-copy_all-requires c = omega (arith, c.left.ensures)
-
 pub returns-then-m-lt16 : goal.returns-then-m-lt16
 returns-then-m-lt16 c =
     copied_least (drop c.args.at c.args.s.now) c.args.out.now _ c.args.o _ c.args.n _ (simp length-drop (omega arith)) c.left.ensures c.least-m.ensures c.copy_all.ensures
-
-pub copy_many-requires : goal.copy_many-requires
-copy_many-requires c = omega (arith, c.left.ensures)
 
 pub returns : goal.returns
 returns c =
