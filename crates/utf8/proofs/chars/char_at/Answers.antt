@@ -8,3 +8,6 @@ returns-then-s-at c = search at_end_lem
 
 pub returns-then-k-lt5 : goal.returns-then-k-lt5
 returns-then-k-lt5 c = search is_one
+
+pub long_at-requires : goal.long_at-requires
+long_at-requires c = (omega arith, c.class-k.ensures, omega arith)

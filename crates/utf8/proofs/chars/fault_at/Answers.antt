@@ -10,5 +10,8 @@ returns-then-s-at c = search fault_end
 pub returns-then-no_start : goal.returns-then-no_start
 returns-then-no_start c = search no_start_lem
 
+pub fault_from-requires : goal.fault_from-requires
+fault_from-requires c = sym c.no_start.ensures ∙ c.if-no_start.false
+
 pub returns : goal.returns
 returns c = search from_start

@@ -1,0 +1,16 @@
+use Prim.Native.Nat.{◌+◌, ◌-◌}
+use mathlib.Core.Path.{◌≡◌}
+use native.Mathlib.Omega.{arith}
+use lib.ListN.{get_or}
+use borrow.Author.Tests.{eqb-false}
+use Rattle.prelude.proofs.Blocks.{one_more}
+use Rattle.line_ends.proofs.any_lf.Goals as goal
+
+pub loop-k-init : goal.loop-k-init
+loop-k-init c = (omega arith, λ e k h. absurd (omega arith))
+
+pub loop-k-preserved : goal.loop-k-preserved
+loop-k-preserved c = (omega arith, one_more (λ k. get_or c.args.p.now (c.args.at + k) 0 ≡ 10 → ⊥) _ _ _ c.loop-k.invariant.1 (eqb-false _ _))
+
+pub returns : goal.returns
+returns c = λ e k h. c.loop-k.invariant.1 e k (omega arith)
