@@ -117,16 +117,14 @@ fn put_one_by_one(s: &[u8], from: usize, out: &mut [u8]) -> usize
     requires { (from ≤ length s.now) × (length s.now + 2 ≤ length out.old) }
     ensures { (result ≤ length s.now) × Onward s.now from result out.old out.new }
 {
-    let mut at = from;
-    while at < s.len() {
+    for at in from..s.len() {
         let b = s[at];
         if blocks::odd(b'"', b) {
             return at;
         }
         out[at + 1] = b;
-        at += 1;
     }
-    at
+    s.len()
 }
 
 // The continuations at a place, up to two: they belong to the character before it.

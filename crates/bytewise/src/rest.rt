@@ -14,10 +14,8 @@ fn any_control(s: &[u8], at: usize) -> bool
     ensures { result ≡ false → NoControl s.now at 8 }
 {
     let mut found = false;
-    let mut k: usize = 0;
-    while k < 8 {
+    for k in 0..8 {
         found = found | (s[at + k] < 32);
-        k += 1;
     }
     found
 }
@@ -35,10 +33,8 @@ fn any_slashed(s: &[u8], at: usize) -> bool
     ensures { result ≡ false → NoControl s.now at 8 → Unmarked s.now at 8 }
 {
     let mut found = false;
-    let mut k: usize = 0;
-    while k < 8 {
+    for k in 0..8 {
         found = found | slashed(s[at + k]);
-        k += 1;
     }
     found
 }
@@ -89,11 +85,9 @@ fn put_eight(t: &Classes, s: &[u8], from: usize, start: usize, out: &mut [u8]) -
     requires { (from + 8 ≤ length s.now) × NoControl s.now from 8 × (start + 48 ≤ length out.old) }
     ensures { Texted s.now from (from + 8) start out.old result out.new }
 {
-    let mut k: usize = 0;
     let mut o = start;
-    while k < 8 {
+    for k in 0..8 {
         o = put_slashed(t, s[from + k], o, out);
-        k += 1;
     }
     o
 }
@@ -103,11 +97,9 @@ fn put_texts(t: &Classes, s: &[u8], from: usize, start: usize, out: &mut [u8]) -
     requires { (from ≤ length s.now) × (start + 6 * (length s.now - from) ≤ length out.old) }
     ensures { Texted s.now from (length s.now) start out.old result out.new }
 {
-    let mut at = from;
     let mut o = start;
-    while at < s.len() {
+    for at in from..s.len() {
         o = put_text(t, s[at], o, out);
-        at += 1;
     }
     o
 }
@@ -124,18 +116,16 @@ fn put_past(t: &Classes, s: &[u8], from: usize, start: usize, out: &mut [u8]) ->
     requires { (from < length s.now) × (start + 6 * (length s.now - from) ≤ length out.old) }
     ensures { (from < result.at) × (result.at ≤ length s.now) × Texted s.now from result.at start out.old result.o out.new }
 {
-    let mut at = from;
     let mut o = start;
-    while at < s.len() {
+    for at in from..s.len() {
         let b = s[at];
         if t.class(b) == 1 {
             let e = put_control(b, o, out);
             return Reached { at: at + 1, o: e };
         }
         o = put_slashed(t, b, o, out);
-        at += 1;
     }
-    Reached { at: at, o: o }
+    Reached { at: s.len(), o }
 }
 
 // The same of all bytes, by eights: one that has a control goes byte by byte through it, one that stands as it is is stored at once.

@@ -36,12 +36,6 @@ fn hex_val(b: u8) -> Option<u8>
     None
 }
 
-fn wide(d: u8) -> u32
-    ensures { result ≡ d }
-{
-    d as u32
-}
-
 // The digits from a place on, `most` of them at most; seven fit the number's type.
 pub fn digits_at(s: &[u8], at: usize, most: usize) -> Digits
     requires { most ≤ 7 }
@@ -49,18 +43,16 @@ pub fn digits_at(s: &[u8], at: usize, most: usize) -> Digits
     ensures number { result.value ≡ hex_number most (drop at s.now) }
     ensures below { result.value < 16 ^ most }
 {
-    let mut count: usize = 0;
     let mut value: u32 = 0;
-    while count < most {
+    for count in 0..most {
         match hex_val(slices::byte_at(s, at, count)) {
             Some(d) => {
-                value = value * 16 + wide(d);
-                count += 1;
+                value = value * 16 + d as u32;
             }
             None => {
                 return Digits { count, value };
             }
         }
     }
-    Digits { count, value }
+    Digits { count: most, value }
 }

@@ -39,10 +39,8 @@ pub fn any_odd(q: u8, s: &[u8], at: usize, n: usize) -> bool
     ensures { (result ≡ false → AllAlone q s.now at n) × (AllAlone q s.now at n → result ≡ false) }
 {
     let mut found = false;
-    let mut k: usize = 0;
-    while k < n {
+    for k in 0..n {
         found = found | odd(q, s[at + k]);
-        k += 1;
     }
     found
 }
@@ -54,10 +52,8 @@ fn any_odd_beside(q: u8, s: &[u8], a: usize, b: usize, n: usize) -> bool
     ensures { result ≡ false → AllAlone q s.now a n × AllAlone q s.now b n }
 {
     let mut found = false;
-    let mut k: usize = 0;
-    while k < n {
+    for k in 0..n {
         found = found | (odd(q, s[a + k]) | odd(q, s[b + k]));
-        k += 1;
     }
     found
 }
@@ -95,10 +91,8 @@ pub(crate) fn first_odd(q: u8, s: &[u8], at: usize) -> usize
     ensures { (k : ℕ) → k < 32 → k < result → Alone q (get_or s.now (at + k) 0) }
 {
     let mut first: u8 = 32;
-    let mut k: usize = 0;
-    while k < 32 {
+    for k in 0..32 {
         first = lesser(first, place_of(odd(q, s[at + k]), narrow(k)));
-        k += 1;
     }
     wide(first)
 }
@@ -109,10 +103,8 @@ pub(crate) fn any_odd_pair(q: u8, s: &[u8], at: usize, n: usize) -> bool
     ensures { result ≡ false → AllPaired q s.now at n }
 {
     let mut found = false;
-    let mut k: usize = 0;
-    while k < n {
+    for k in 0..n {
         found = found | odd_pair(q, s[at + k], s[at + k + 1]);
-        k += 1;
     }
     found
 }

@@ -26,10 +26,8 @@ pub fn any_odd_three(q: u8, s: &[u8], at: usize) -> bool
     ensures { (result ≡ false → AllTripled q s.now at 16) × (AllTripled q s.now at 16 → result ≡ false) }
 {
     let mut found = false;
-    let mut k: usize = 0;
-    while k < 16 {
+    for k in 0..16 {
         found = found | odd_three(q, s[at + k], s[at + k + 1], s[at + k + 2]);
-        k += 1;
     }
     found
 }

@@ -55,14 +55,12 @@ fn digits(s: &[u8], from: usize) -> usize
     requires { from ≤ length s.now }
     ensures { result ≡ from + length (run_of is_digit (drop from s.now)) }
 {
-    let mut at = from;
-    while at < s.len() {
+    for at in from..s.len() {
         if !words::is_digit(s[at]) {
             return at;
         }
-        at += 1;
     }
-    at
+    s.len()
 }
 
 // The token must end here.

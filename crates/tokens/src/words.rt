@@ -38,14 +38,12 @@ pub fn word_len(s: &[u8], from: usize) -> usize
     requires { from ≤ length s.now }
     ensures { result ≡ length (word_of (drop from s.now)) }
 {
-    let mut at = from;
-    while at < s.len() {
+    for at in from..s.len() {
         if !is_word(s[at]) {
             return at - from;
         }
-        at += 1;
     }
-    at - from
+    s.len() - from
 }
 
 // Whether two texts have the same bytes.
@@ -55,12 +53,10 @@ pub fn same(a: &[u8], b: &[u8]) -> bool
     if a.len() != b.len() {
         return false;
     }
-    let mut i = 0;
-    while i < a.len() {
+    for i in 0..a.len() {
         if a[i] != b[i] {
             return false;
         }
-        i += 1;
     }
     true
 }

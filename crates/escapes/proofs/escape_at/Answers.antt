@@ -3,9 +3,6 @@ use borrow.Author.Rules.{rules}
 use Rattle.escapes.proofs.EscapeLaws.{first_inside, escape_u, escape_y, escape_letter}
 use Rattle.escapes.proofs.escape_at.Goals as goal
 
-pub code_point-requires : goal.code_point-requires
-code_point-requires c = search first_inside
-
 pub returns-then-c-eq117 : goal.returns-then-c-eq117
 returns-then-c-eq117 c = record { is = search escape_u; few = search rules }
 

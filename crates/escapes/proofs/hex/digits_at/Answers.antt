@@ -1,14 +1,11 @@
 use native.Mathlib.Omega.{arith}
-use mathlib.Core.Path.{refl, ap, ◌∙◌}
+use mathlib.Core.Path.{◌≡◌, refl, sym, ap, ◌∙◌}
 use Rattle.escapes.specs.Hex.{hex_val}
 use Rattle.escapes.proofs.HexLaws.{begun, again, stopped, full, room}
 use Rattle.escapes.proofs.hex.digits_at.Goals as goal
 
 pub loop-count-init : goal.loop-count-init
 loop-count-init c = begun _ _
-
-pub byte_at-requires : goal.byte_at-requires
-byte_at-requires c = tt
 
 pub returns-in-None : goal.returns-in-None
 returns-in-None c =
@@ -17,21 +14,14 @@ returns-in-None c =
 pub overflow_mul-value : goal.overflow_mul-value
 overflow_mul-value c = omega (arith, room _ _ _ _ c.loop-count.invariant c.loop-count-test.true c.requires)
 
-pub wide-requires : goal.wide-requires
-wide-requires c = tt
-
 pub overflow_add-value : goal.overflow_add-value
 overflow_add-value c = omega (arith, room _ _ _ _ c.loop-count.invariant c.loop-count-test.true c.requires)
 
-pub overflow_add-count : goal.overflow_add-count
-overflow_add-count c = omega arith
-
-pub loop-count-smaller : goal.loop-count-smaller
-loop-count-smaller c = omega arith
-
 pub loop-count-preserved : goal.loop-count-preserved
 loop-count-preserved c =
-    again _ _ _ _ c.loop-count.invariant c.loop-count-test.true _ (c.wide.ensures ∙ c.in-Some.ensures.1 ∙ ap hex_val c.byte_at.ensures) (rw c.wide.ensures c.in-Some.ensures.0)
+    again _ _ _ _ c.loop-count.invariant c.loop-count-test.true _ (c.in-Some.ensures.1 ∙ ap hex_val c.byte_at.ensures) c.in-Some.ensures.0
 
 pub returns : goal.returns
-returns c = let p = full _ _ _ _ c.loop-count.invariant c.loop-count-test.false in record { run = p.0; number = p.1; below = p.2 }
+returns c =
+    let e : c.loop-count.count ≡ c.args.most = omega (arith, c.loop-count.invariant.few) in
+    let p = full _ _ _ _ c.loop-count.invariant c.loop-count-test.false in record { run = sym e ∙ p.0; number = p.1; below = p.2 }

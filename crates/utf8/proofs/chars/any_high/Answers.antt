@@ -7,15 +7,6 @@ use Rattle.utf8.proofs.chars.any_high.Goals as goal
 pub loop-k-init : goal.loop-k-init
 loop-k-init c = (omega arith, (λ e k h. absurd (omega arith)), λ l. refl)
 
-pub overflow_add-found : goal.overflow_add-found
-overflow_add-found c = omega arith
-
-pub bounds-s-at : goal.bounds-s-at
-bounds-s-at c = omega arith
-
-pub loop-k-smaller : goal.loop-k-smaller
-loop-k-smaller c = omega arith
-
 pub loop-k-preserved : goal.loop-k-preserved
 loop-k-preserved c = (omega arith, low_more c.args.s.now c.args.at _ _ c.loop-k.invariant.1, low_less c.args.s.now c.args.at _ _ c.loop-k.invariant.2)
 

@@ -13,15 +13,9 @@ returns-then-n-lt16 c = ((λ e. let z : ◌≡◌ {A = Bool} false true = e in n
 pub ascii_blocks-at-requires : goal.ascii_blocks-at-requires
 ascii_blocks-at-requires c = (c.requires, omega arith)
 
-pub overflow_sub-n : goal.overflow_sub-n
-overflow_sub-n c = c.ascii_blocks-at.ensures.alike.inside
-
 pub returns-then-n-at-ge16 : goal.returns-then-n-at-ge16
 returns-then-n-at-ge16 c =
     ((λ e. let z : ◌≡◌ {A = Bool} false true = e in never cc), λ l. absurd (low_stuck _ _ _ c.ascii_blocks-at.ensures (omega (arith, c.ascii_blocks-at.ensures.alike.inside)) l))
-
-pub any_high-requires : goal.any_high-requires
-any_high-requires c = omega arith
 
 pub returns : goal.returns
 returns c =

@@ -6,23 +6,11 @@ use Rattle.utf8.proofs.chars.chars_until.Goals as goal
 pub loop-at-init : goal.loop-at-init
 loop-at-init c = here _ _ c.requires.0
 
-pub bounds-s-at : goal.bounds-s-at
-bounds-s-at c = omega (arith, c.requires)
-
-pub overflow_add-at : goal.overflow_add-at
-overflow_add-at c = omega (arith, c.requires)
-
-pub loop-at-smaller-then-k-lt5 : goal.loop-at-smaller-then-k-lt5
-loop-at-smaller-then-k-lt5 c = omega (arith, c.requires)
-
 pub loop-at-preserved-then-k-lt5 : goal.loop-at-preserved-then-k-lt5
 loop-at-preserved-then-k-lt5 c = one_on _ _ _ _ c.loop-at.invariant (omega (arith, c.requires)) c.class-k.ensures c.if-k-lt5.true
 
 pub returns-then-k-lt6 : goal.returns-then-k-lt6
 returns-then-k-lt6 c = lone_stop _ _ _ _ c.loop-at.invariant (omega (arith, c.requires)) c.class-k.ensures _ c.if-k-lt5.false c.if-k-lt6.true
-
-pub near_len-n-requires : goal.near_len-n-requires
-near_len-n-requires c = tt
 
 pub returns-then-n-eq0 : goal.returns-then-n-eq0
 returns-then-n-eq0 c = cut_stop _ _ _ _ c.loop-at.invariant (omega (arith, c.requires)) c.class-k.ensures _ c.near_len-n.ensures c.if-k-lt6.false _ c.if-n-eq0.true

@@ -4,9 +4,6 @@ use mathlib.Core.Path.{sym, ◌∙◌}
 use Rattle.utf8.proofs.FaultSteps.{begun, told, roomy, cut, on, tail_low}
 use Rattle.utf8.proofs.chars.fault_from.Goals as goal
 
-pub start_bits-v-requires : goal.start_bits-v-requires
-start_bits-v-requires c = c.requires
-
 pub loop-k-init : goal.loop-k-init
 loop-k-init c = begun _ _ _ _ c.requires c.wanted-n.ensures c.start_bits-v.ensures
 
@@ -21,9 +18,6 @@ overflow_sub-v c = tail_low _ (sym c.in_range.ensures ∙ c.if-not-in_range.fals
 
 pub overflow_add-v : goal.overflow_add-v
 overflow_add-v c = omega (arith, roomy c.loop-k.invariant (omega arith))
-
-pub loop-k-smaller : goal.loop-k-smaller
-loop-k-smaller c = omega arith
 
 pub loop-k-preserved : goal.loop-k-preserved
 loop-k-preserved c = on c.loop-k.invariant (omega arith) _ c.byte_at-b.ensures (sym c.in_range.ensures ∙ c.if-not-in_range.false)

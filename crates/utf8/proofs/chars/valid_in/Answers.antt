@@ -18,11 +18,5 @@ chars_until-next-requires c = (c.ascii_blocks-mid.ensures.alike.inside, c.soon-e
 pub returns-then-next-end : goal.returns-then-next-end
 returns-then-next-end c = search turn_stuck
 
-pub loop-at-smaller : goal.loop-at-smaller
-loop-at-smaller c = search turn_less
-
-pub loop-at-preserved : goal.loop-at-preserved
-loop-at-preserved c = search turn_on
-
 pub returns : goal.returns
 returns c = ended _ _ c.loop-at.invariant (omega arith)

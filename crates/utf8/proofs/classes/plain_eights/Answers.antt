@@ -10,20 +10,8 @@ use Rattle.utf8.proofs.classes.plain_eights.Goals as goal
 pub loop-i-init : goal.loop-i-init
 loop-i-init c = record { turns = 0; inside = c.requires; place = omega arith; same = refl }
 
-pub overflow_sub-s : goal.overflow_sub-s
-overflow_sub-s c = omega arith
-
-pub plain_eight-requires : goal.plain_eight-requires
-plain_eight-requires c = omega arith
-
 pub returns-then-not-plain_eight : goal.returns-then-not-plain_eight
 returns-then-not-plain_eight c = omega (arith, leb-false 8 (plain_run (drop c.loop-i.i c.args.s.now)) (sym c.plain_eight.ensures ∙ c.if-not-plain_eight.true))
-
-pub overflow_add-i : goal.overflow_add-i
-overflow_add-i c = omega arith
-
-pub loop-i-smaller : goal.loop-i-smaller
-loop-i-smaller c = omega arith
 
 pub loop-i-preserved : goal.loop-i-preserved
 loop-i-preserved c =
