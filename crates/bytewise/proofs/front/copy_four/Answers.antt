@@ -5,9 +5,6 @@ use lib.ListN.{length-set}
 use Rattle.bytewise.proofs.ByteTexts.{four_stored}
 use Rattle.bytewise.proofs.front.copy_four.Goals as goal
 
-pub bounds-out-o : goal.bounds-out-o
-bounds-out-o c = omega (arith, c.requires)
-
 pub bounds-out-o-2 : goal.bounds-out-o-2
 bounds-out-o-2 c = simp length-set (omega (arith, c.requires))
 

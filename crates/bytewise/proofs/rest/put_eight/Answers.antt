@@ -5,21 +5,9 @@ use Rattle.bytewise.proofs.rest.put_eight.Goals as goal
 pub loop-k-init : goal.loop-k-init
 loop-k-init c = (omega arith, texted_start _ _ _ _)
 
-pub overflow_add-from : goal.overflow_add-from
-overflow_add-from c = omega (arith, c.requires.0)
-
-pub bounds-s-from : goal.bounds-s-from
-bounds-s-from c = omega (arith, c.requires.0)
-
 pub put_slashed-o-requires : goal.put_slashed-o-requires
 put_slashed-o-requires c =
     (c.requires.1 _ (omega arith), omega (arith, c.requires.2, texted_bound _ _ _ _ _ _ _ c.loop-k.invariant.1, texted_length _ _ _ _ _ _ _ c.loop-k.invariant.1))
-
-pub overflow_add-k : goal.overflow_add-k
-overflow_add-k c = omega arith
-
-pub loop-k-smaller : goal.loop-k-smaller
-loop-k-smaller c = omega arith
 
 pub loop-k-preserved : goal.loop-k-preserved
 loop-k-preserved c = (omega arith, texted_next _ _ _ _ _ _ _ _ _ (omega (arith, c.requires.0)) c.loop-k.invariant.1 c.put_slashed-o.ensures)

@@ -6,35 +6,17 @@ use Rattle.bytewise.proofs.rest.put_rest.Goals as goal
 pub loop-at-init : goal.loop-at-init
 loop-at-init c = (omega arith, omega (arith, c.requires.0), texted_none _ _ _ _)
 
-pub overflow_sub-s : goal.overflow_sub-s
-overflow_sub-s c = omega (arith, c.loop-at.invariant.1)
-
-pub any_control-requires : goal.any_control-requires
-any_control-requires c = omega (arith, c.loop-at.invariant.1)
-
 pub put_past-p-requires : goal.put_past-p-requires
 put_past-p-requires c =
     (omega arith, omega (arith, c.requires.0, c.loop-at.invariant.0, c.loop-at.invariant.1, texted_bound _ _ _ _ _ _ _ c.loop-at.invariant.2, texted_length _ _ _ _ _ _ _ c.loop-at.invariant.2))
-
-pub loop-at-smaller-then-any_control : goal.loop-at-smaller-then-any_control
-loop-at-smaller-then-any_control c = omega (arith, c.put_past-p.ensures.0, c.put_past-p.ensures.1)
 
 pub loop-at-preserved-then-any_control : goal.loop-at-preserved-then-any_control
 loop-at-preserved-then-any_control c =
     (omega (arith, c.loop-at.invariant.0, c.put_past-p.ensures.0), c.put_past-p.ensures.1, texted_then _ _ _ _ _ _ _ _ _ _ c.loop-at.invariant.0 (omega (arith, c.put_past-p.ensures.0)) c.loop-at.invariant.2 c.put_past-p.ensures.2)
 
-pub any_slashed-requires : goal.any_slashed-requires
-any_slashed-requires c = omega (arith, c.loop-at.invariant.1)
-
 pub put_eight-o-requires : goal.put_eight-o-requires
 put_eight-o-requires c =
     (omega (arith, c.loop-at.invariant.1), c.any_control.ensures c.if-any_control.false, omega (arith, c.requires.0, c.loop-at.invariant.0, c.loop-at.invariant.1, texted_bound _ _ _ _ _ _ _ c.loop-at.invariant.2, texted_length _ _ _ _ _ _ _ c.loop-at.invariant.2))
-
-pub overflow_add-at : goal.overflow_add-at
-overflow_add-at c = omega (arith, c.loop-at.invariant.1)
-
-pub loop-at-smaller-then-any_slashed : goal.loop-at-smaller-then-any_slashed
-loop-at-smaller-then-any_slashed c = omega (arith, c.loop-at.invariant.1)
 
 pub loop-at-preserved-then-any_slashed : goal.loop-at-preserved-then-any_slashed
 loop-at-preserved-then-any_slashed c =
@@ -44,15 +26,9 @@ pub copy-requires : goal.copy-requires
 copy-requires c =
     (omega (arith, c.loop-at.invariant.1), omega (arith, c.requires.0, c.loop-at.invariant.0, c.loop-at.invariant.1, texted_bound _ _ _ _ _ _ _ c.loop-at.invariant.2, texted_length _ _ _ _ _ _ _ c.loop-at.invariant.2))
 
-pub overflow_add-at-in-loop-at : goal.overflow_add-at-in-loop-at
-overflow_add-at-in-loop-at c = omega (arith, c.loop-at.invariant.1)
-
 pub overflow_add-o : goal.overflow_add-o
 overflow_add-o c =
     omega (arith, c.requires.0, c.loop-at.invariant.0, c.loop-at.invariant.1, texted_bound _ _ _ _ _ _ _ c.loop-at.invariant.2, texted_length _ _ _ _ _ _ _ c.loop-at.invariant.2)
-
-pub loop-at-smaller : goal.loop-at-smaller
-loop-at-smaller c = omega (arith, c.loop-at.invariant.1)
 
 pub loop-at-preserved : goal.loop-at-preserved
 loop-at-preserved c =

@@ -11,9 +11,6 @@ slashes-requires c = class_few _ _ c.class.ensures
 pub overflow_add-e : goal.overflow_add-e
 overflow_add-e c = omega (arith, slash_within _ _ c.slashes.ensures)
 
-pub bounds-out-o : goal.bounds-out-o
-bounds-out-o c = omega arith
-
 pub bounds-out-e : goal.bounds-out-e
 bounds-out-e c = simp length-set (omega (arith, slash_within _ _ c.slashes.ensures))
 

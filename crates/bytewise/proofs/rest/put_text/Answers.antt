@@ -6,11 +6,5 @@ use Rattle.bytewise.proofs.rest.put_text.Goals as goal
 pub put_control-requires : goal.put_control-requires
 put_control-requires c = (is_control _ _ c.class.ensures c.if-class-eq1.true, omega arith)
 
-pub returns-then-class-eq1 : goal.returns-then-class-eq1
-returns-then-class-eq1 c = c.put_control.ensures
-
 pub put_slashed-requires : goal.put_slashed-requires
 put_slashed-requires c = (no_control _ _ c.class.ensures c.if-class-eq1.false, omega arith)
-
-pub returns : goal.returns
-returns c = c.put_slashed.ensures

@@ -5,17 +5,8 @@ use Rattle.bytewise.proofs.rest.put_texts.Goals as goal
 pub loop-at-init : goal.loop-at-init
 loop-at-init c = (omega arith, omega (arith, c.requires.0), texted_none _ _ _ _)
 
-pub bounds-s-at : goal.bounds-s-at
-bounds-s-at c = omega (arith, c.requires.0)
-
 pub put_text-o-requires : goal.put_text-o-requires
 put_text-o-requires c = (omega (arith, c.requires.0, texted_bound _ _ _ _ _ _ _ c.loop-at.invariant.2, texted_length _ _ _ _ _ _ _ c.loop-at.invariant.2))
-
-pub overflow_add-at : goal.overflow_add-at
-overflow_add-at c = omega (arith, c.requires.0)
-
-pub loop-at-smaller : goal.loop-at-smaller
-loop-at-smaller c = omega arith
 
 pub loop-at-preserved : goal.loop-at-preserved
 loop-at-preserved c =

@@ -9,21 +9,6 @@ use Rattle.runs.proofs.blocks.any_odd.Goals as goal
 pub loop-k-init : goal.loop-k-init
 loop-k-init c = (omega arith, (λ e k h. absurd (omega arith)), λ l. refl)
 
-pub overflow_add-at : goal.overflow_add-at
-overflow_add-at c = omega arith
-
-pub bounds-s-at : goal.bounds-s-at
-bounds-s-at c = omega arith
-
-pub odd-found-requires : goal.odd-found-requires
-odd-found-requires c = tt
-
-pub overflow_add-k : goal.overflow_add-k
-overflow_add-k c = omega arith
-
-pub loop-k-smaller : goal.loop-k-smaller
-loop-k-smaller c = omega arith
-
 pub loop-k-preserved : goal.loop-k-preserved
 loop-k-preserved c =
     (omega arith, one_more (λ k. Alone c.args.q (get_or c.args.s.now (c.args.at + k) 0)) _ _ _ c.loop-k.invariant.1 c.odd-found.ensures.0, one_less (λ k. Alone c.args.q (get_or c.args.s.now (c.args.at + k) 0)) _ _ _ c.loop-k.invariant.2 c.odd-found.ensures.1)

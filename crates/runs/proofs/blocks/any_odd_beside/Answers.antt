@@ -9,30 +9,6 @@ use Rattle.runs.proofs.blocks.any_odd_beside.Goals as goal
 pub loop-k-init : goal.loop-k-init
 loop-k-init c = (omega arith, (λ e k h. absurd (omega arith)), λ e k h. absurd (omega arith))
 
-pub overflow_add-a : goal.overflow_add-a
-overflow_add-a c = omega arith
-
-pub bounds-s-a : goal.bounds-s-a
-bounds-s-a c = omega arith
-
-pub odd-requires : goal.odd-requires
-odd-requires c = tt
-
-pub overflow_add-b : goal.overflow_add-b
-overflow_add-b c = omega arith
-
-pub bounds-s-b : goal.bounds-s-b
-bounds-s-b c = omega arith
-
-pub odd-requires-in-loop-k : goal.odd-requires-in-loop-k
-odd-requires-in-loop-k c = tt
-
-pub overflow_add-k : goal.overflow_add-k
-overflow_add-k c = omega arith
-
-pub loop-k-smaller : goal.loop-k-smaller
-loop-k-smaller c = omega arith
-
 pub loop-k-preserved : goal.loop-k-preserved
 loop-k-preserved c =
     (omega arith, one_more (λ k. Alone c.args.q (get_or c.args.s.now (c.args.a + k) 0)) _ _ _ c.loop-k.invariant.1 (λ e. c.odd.ensures.0 (or_left c.odd.result c.odd-in-loop-k.result e)), one_more (λ k. Alone c.args.q (get_or c.args.s.now (c.args.b + k) 0)) _ _ _ c.loop-k.invariant.2 (λ e. c.odd-in-loop-k.ensures.0 (or_right c.odd.result c.odd-in-loop-k.result e)))

@@ -9,15 +9,6 @@ use Rattle.runs.proofs.literals.chars_before.Goals as goal
 pub loop-at-init : goal.loop-at-init
 loop-at-init c = here _ _ _ c.requires.0
 
-pub bounds-s-at : goal.bounds-s-at
-bounds-s-at c = omega arith
-
-pub overflow_add-at : goal.overflow_add-at
-overflow_add-at c = omega arith
-
-pub loop-at-smaller-then-k-eq0 : goal.loop-at-smaller-then-k-eq0
-loop-at-smaller-then-k-eq0 c = omega arith
-
 pub loop-at-preserved-then-k-eq0 : goal.loop-at-preserved-then-k-eq0
 loop-at-preserved-then-k-eq0 c =
     let h : c.loop-at.at < length c.args.s.now = omega arith in

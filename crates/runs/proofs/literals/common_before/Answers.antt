@@ -9,22 +9,10 @@ use Rattle.runs.proofs.literals.common_before.Goals as goal
 pub loop-at-init : goal.loop-at-init
 loop-at-init c = (c.requires.0, λ st. here st _ _ c.requires.0)
 
-pub bounds-s-at : goal.bounds-s-at
-bounds-s-at c = omega arith
-
-pub overflow_add-at : goal.overflow_add-at
-overflow_add-at c = omega arith
-
-pub loop-at-smaller-then-k-eq0 : goal.loop-at-smaller-then-k-eq0
-loop-at-smaller-then-k-eq0 c = omega arith
-
 pub loop-at-preserved-then-k-eq0 : goal.loop-at-preserved-then-k-eq0
 loop-at-preserved-then-k-eq0 c =
     let h : c.loop-at.at < length c.args.s.now = omega arith in
     ((moved Json _ _ _ 1 (c.loop-at.invariant.1 Json) (plain_char Json _ _ _ h c.class-k.ensures c.if-k-eq0.true)).inside, λ st. moved st _ _ _ 1 (c.loop-at.invariant.1 st) (plain_char st _ _ _ h c.class-k.ensures c.if-k-eq0.true))
-
-pub one_follows-requires : goal.one_follows-requires
-one_follows-requires c = omega arith
 
 pub overflow_add-at-then-one_follows : goal.overflow_add-at-then-one_follows
 overflow_add-at-then-one_follows c =
@@ -41,9 +29,6 @@ loop-at-preserved-then-one_follows c =
     let h : c.loop-at.at < length c.args.s.now = omega arith in
     ((moved Json _ _ _ 2 (c.loop-at.invariant.1 Json) (two_bytes_lem Json _ _ _ h c.class-k.ensures c.if-k-eq6.true (c.one_follows.ensures c.if-one_follows.true))).inside, λ st. moved st _ _ _ 2 (c.loop-at.invariant.1 st) (two_bytes_lem st _ _ _ h c.class-k.ensures c.if-k-eq6.true (c.one_follows.ensures c.if-one_follows.true)))
 
-pub two_follow-requires : goal.two_follow-requires
-two_follow-requires c = omega arith
-
 pub overflow_add-at-then-two_follow : goal.overflow_add-at-then-two_follow
 overflow_add-at-then-two_follow c =
     let h : c.loop-at.at < length c.args.s.now = omega arith in
@@ -58,12 +43,3 @@ pub loop-at-preserved : goal.loop-at-preserved
 loop-at-preserved c =
     let h : c.loop-at.at < length c.args.s.now = omega arith in
     ((moved Json _ _ _ 3 (c.loop-at.invariant.1 Json) (three_bytes_lem Json _ _ _ h c.class-k.ensures c.if-k-eq7.true (c.two_follow.ensures c.if-two_follow.true))).inside, λ st. moved st _ _ _ 3 (c.loop-at.invariant.1 st) (three_bytes_lem st _ _ _ h c.class-k.ensures c.if-k-eq7.true (c.two_follow.ensures c.if-two_follow.true)))
-
-pub returns-else-two_follow : goal.returns-else-two_follow
-returns-else-two_follow c = c.loop-at.invariant.1
-
-pub returns-else-k-eq7 : goal.returns-else-k-eq7
-returns-else-k-eq7 c = c.loop-at.invariant.1
-
-pub returns : goal.returns
-returns c = c.loop-at.invariant.1

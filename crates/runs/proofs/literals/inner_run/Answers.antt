@@ -5,9 +5,6 @@ use Rattle.runs.proofs.LiteralRuns.{here, stopped}
 use Rattle.runs.proofs.BlockLaws.{over_block}
 use Rattle.runs.proofs.literals.inner_run.Goals as goal
 
-pub returns-then-s-from-lt32 : goal.returns-then-s-from-lt32
-returns-then-s-from-lt32 c = c.run_on.ensures
-
 pub returns-then-k-ge32 : goal.returns-then-k-ge32
 returns-then-k-ge32 c =
     c.run_on-then-k-ge32.ensures ∙ (over_block _ _ _ _ c.quote_of.ensures 32 _ (here _ _ _ c.requires) (omega arith) (λ j h. c.first_odd-k.ensures j h (omega arith))).same

@@ -5,9 +5,6 @@ use Rattle.runs.proofs.literals.literal_run.Goals as goal
 pub loop-at-init : goal.loop-at-init
 loop-at-init c = here _ _ _ c.requires
 
-pub several-mid-requires : goal.several-mid-requires
-several-mid-requires c = c.loop-at.invariant.inside
-
 pub soon-end-requires : goal.soon-end-requires
 soon-end-requires c = (c.several-mid.ensures.inside, omega arith)
 
@@ -19,12 +16,6 @@ chars_before-next-requires c = ((c.common_before-most.ensures c.args.style).insi
 
 pub returns-then-next-end : goal.returns-then-next-end
 returns-then-next-end c = search turn_stopped
-
-pub loop-at-smaller : goal.loop-at-smaller
-loop-at-smaller c = search turn_less
-
-pub loop-at-preserved : goal.loop-at-preserved
-loop-at-preserved c = search turn_on
 
 pub returns : goal.returns
 returns c = at_end_lem _ _ _ _ c.loop-at.invariant (omega arith)

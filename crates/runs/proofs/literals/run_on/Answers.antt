@@ -5,12 +5,6 @@ use Rattle.runs.proofs.literals.run_on.Goals as goal
 pub loop-at-init : goal.loop-at-init
 loop-at-init c = here _ _ _ c.requires
 
-pub thirty_twos-mid-requires : goal.thirty_twos-mid-requires
-thirty_twos-mid-requires c = c.loop-at.invariant.inside
-
-pub ends-requires : goal.ends-requires
-ends-requires c = tt
-
 pub returns-then-ends : goal.returns-then-ends
 returns-then-ends c = stopped _ _ _ _ (further _ _ _ _ _ c.loop-at.invariant c.thirty_twos-mid.ensures) (c.ends.ensures c.if-ends.true)
 
@@ -25,12 +19,6 @@ chars_before-next-requires c = ((c.common_before-most.ensures c.args.style).insi
 
 pub returns-then-next-end : goal.returns-then-next-end
 returns-then-next-end c = search turn_stopped
-
-pub loop-at-smaller : goal.loop-at-smaller
-loop-at-smaller c = search turn_less
-
-pub loop-at-preserved : goal.loop-at-preserved
-loop-at-preserved c = search turn_on
 
 pub returns : goal.returns
 returns c = at_end_lem _ _ _ _ c.loop-at.invariant (omega arith)

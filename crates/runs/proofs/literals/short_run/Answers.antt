@@ -13,8 +13,5 @@ chars_before-at-requires c = (c.requires, c.soon-end.ensures.within.0)
 pub returns-then-at-end : goal.returns-then-at-end
 returns-then-at-end c = stopped _ _ _ _ c.chars_before-at.ensures.run (c.chars_before-at.ensures.stop c.if-at-end.true)
 
-pub run_on-requires : goal.run_on-requires
-run_on-requires c = c.chars_before-at.ensures.run.inside
-
 pub returns : goal.returns
 returns c = c.run_on.ensures ∙ c.chars_before-at.ensures.run.same

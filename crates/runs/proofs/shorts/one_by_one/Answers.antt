@@ -3,26 +3,11 @@ use Rattle.runs.proofs.LiteralRuns.{here}
 use Rattle.runs.proofs.BlockLaws.{over_one, over_lead, lead_fits}
 use Rattle.runs.proofs.shorts.one_by_one.Goals as goal
 
-pub quote_of-q-requires : goal.quote_of-q-requires
-quote_of-q-requires c = tt
-
 pub loop-at-init : goal.loop-at-init
 loop-at-init c = (c.requires, λ st e. here st _ _ c.requires)
 
-pub bounds-s-at : goal.bounds-s-at
-bounds-s-at c = omega arith
-
-pub odd-requires : goal.odd-requires
-odd-requires c = tt
-
-pub leads-requires : goal.leads-requires
-leads-requires c = tt
-
 pub returns-then-not-leads : goal.returns-then-not-leads
 returns-then-not-leads c = c.loop-at.invariant.1 _ c.quote_of-q.ensures
-
-pub one_follows-requires : goal.one_follows-requires
-one_follows-requires c = omega arith
 
 pub returns-then-not-one_follows : goal.returns-then-not-one_follows
 returns-then-not-one_follows c = c.loop-at.invariant.1 _ c.quote_of-q.ensures
@@ -38,12 +23,6 @@ loop-at-smaller-then-odd c =
 pub loop-at-preserved-then-odd : goal.loop-at-preserved-then-odd
 loop-at-preserved-then-odd c =
     (lead_fits c.args.s.now c.loop-at.at (omega arith) (c.leads.ensures (c.if-not-leads.false)).0 (c.leads.ensures (c.if-not-leads.false)).1 (c.one_follows.ensures (c.if-not-one_follows.false)), λ st e. over_lead st _ _ _ (c.loop-at.invariant.1 st e) (omega arith) (c.leads.ensures (c.if-not-leads.false)).0 (c.leads.ensures (c.if-not-leads.false)).1 (c.one_follows.ensures (c.if-not-one_follows.false)))
-
-pub overflow_add-at-else-odd : goal.overflow_add-at-else-odd
-overflow_add-at-else-odd c = omega arith
-
-pub loop-at-smaller : goal.loop-at-smaller
-loop-at-smaller c = omega arith
 
 pub loop-at-preserved : goal.loop-at-preserved
 loop-at-preserved c = (omega arith, λ st e. over_one st _ _ _ e _ (c.loop-at.invariant.1 st e) (omega arith) (c.odd.ensures.0 c.if-odd.false))

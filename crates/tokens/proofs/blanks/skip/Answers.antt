@@ -6,23 +6,8 @@ use Rattle.tokens.proofs.blanks.skip.Goals as goal
 pub loop-at-init : goal.loop-at-init
 loop-at-init c = begun _ _ c.requires
 
-pub bounds-s-at : goal.bounds-s-at
-bounds-s-at c = omega arith
-
-pub overflow_add-at : goal.overflow_add-at
-overflow_add-at c = omega arith
-
-pub loop-at-smaller-then-x-eq10 : goal.loop-at-smaller-then-x-eq10
-loop-at-smaller-then-x-eq10 c = omega arith
-
 pub loop-at-preserved-then-x-eq10 : goal.loop-at-preserved-then-x-eq10
 loop-at-preserved-then-x-eq10 c = comment_end _ _ _ _ c.loop-at.invariant (omega arith) c.if-inside.true c.if-x-eq10.true
-
-pub overflow_add-at-then-class-eq0 : goal.overflow_add-at-then-class-eq0
-overflow_add-at-then-class-eq0 c = omega arith
-
-pub loop-at-smaller-then-class-eq0 : goal.loop-at-smaller-then-class-eq0
-loop-at-smaller-then-class-eq0 c = omega arith
 
 pub loop-at-preserved-then-class-eq0 : goal.loop-at-preserved-then-class-eq0
 loop-at-preserved-then-class-eq0 c = comment_plain _ _ _ _ c.loop-at.invariant (omega arith) c.if-inside.true c.if-x-eq10.false _ c.class.ensures c.if-class-eq0.true
@@ -30,9 +15,6 @@ loop-at-preserved-then-class-eq0 c = comment_plain _ _ _ _ c.loop-at.invariant (
 pub overflow_add-at-in-Ok : goal.overflow_add-at-in-Ok
 overflow_add-at-in-Ok c =
     let g = comment_char _ _ _ _ c.loop-at.invariant (omega arith) c.if-inside.true c.if-x-eq10.false _ (sym c.char_at.ensures ∙ c.in-Ok.is) in record { fits = omega (arith, g.inside) }
-
-pub overflow_sub-result : goal.overflow_sub-result
-overflow_sub-result c = omega (arith, c.loop-at.invariant.onward)
 
 pub returns-in-Err : goal.returns-in-Err
 returns-in-Err c = rw c.at.ensures (comment_ill _ _ _ _ c.loop-at.invariant (omega arith) c.if-inside.true c.if-x-eq10.false _ (sym c.char_at.ensures ∙ c.in-Err.is))
@@ -44,32 +26,14 @@ loop-at-smaller-then-inside c =
 pub loop-at-preserved-then-inside : goal.loop-at-preserved-then-inside
 loop-at-preserved-then-inside c = comment_char _ _ _ _ c.loop-at.invariant (omega arith) c.if-inside.true c.if-x-eq10.false _ (sym c.char_at.ensures ∙ c.in-Ok.is)
 
-pub is_space-requires : goal.is_space-requires
-is_space-requires c = tt
-
-pub overflow_add-at-then-is_space : goal.overflow_add-at-then-is_space
-overflow_add-at-then-is_space c = omega arith
-
-pub loop-at-smaller-then-is_space : goal.loop-at-smaller-then-is_space
-loop-at-smaller-then-is_space c = omega arith
-
 pub loop-at-preserved-then-is_space : goal.loop-at-preserved-then-is_space
 loop-at-preserved-then-is_space c = space_on _ _ _ _ c.loop-at.invariant (omega arith) c.if-inside.false (sym c.is_space.ensures ∙ c.if-is_space.true)
 
 pub returns-then-x-ne35 : goal.returns-then-x-ne35
 returns-then-x-ne35 c = token_here _ _ _ _ c.loop-at.invariant (omega arith) c.if-inside.false (sym c.is_space.ensures ∙ c.if-is_space.false) c.if-x-ne35.true
 
-pub overflow_add-at-in-loop-at : goal.overflow_add-at-in-loop-at
-overflow_add-at-in-loop-at c = omega arith
-
-pub loop-at-smaller : goal.loop-at-smaller
-loop-at-smaller c = omega arith
-
 pub loop-at-preserved : goal.loop-at-preserved
 loop-at-preserved c = mark_on _ _ _ _ c.loop-at.invariant (omega arith) c.if-inside.false (sym c.is_space.ensures ∙ c.if-is_space.false) c.if-x-ne35.false
-
-pub overflow_sub-result-2 : goal.overflow_sub-result-2
-overflow_sub-result-2 c = omega (arith, c.loop-at.invariant.onward)
 
 pub returns : goal.returns
 returns c = ended _ _ _ _ c.loop-at.invariant (omega arith)

@@ -2,8 +2,5 @@
 use mathlib.Core.Path.{◌∙◌}
 use Rattle.tokens.proofs.numbers.behind_e.Goals as goal
 
-pub exp_digits-requires : goal.exp_digits-requires
-exp_digits-requires c = c.past_sign.ensures.inside
-
 pub returns : goal.returns
 returns c = c.exp_digits.ensures ∙ c.past_sign.ensures.same

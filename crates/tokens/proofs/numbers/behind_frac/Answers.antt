@@ -15,8 +15,5 @@ behind_e-requires c = next_inside _ _ _ c.byte_at.ensures (e_number _ (sym c.is_
 pub returns-then-is_e : goal.returns-then-is_e
 returns-then-is_e c = frac_e _ _ _ _ c.byte_at.ensures (sym c.is_e.ensures ∙ c.if-is_e.true) c.behind_e.ensures
 
-pub finish-requires : goal.finish-requires
-finish-requires c = omega arith
-
 pub returns : goal.returns
 returns c = frac_end _ _ _ _ c.byte_at.ensures (sym c.is_e.ensures ∙ c.if-is_e.false) c.finish.ensures

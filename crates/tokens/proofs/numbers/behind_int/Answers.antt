@@ -25,8 +25,5 @@ behind_e-requires c = next_inside _ _ _ c.byte_at-x.ensures (e_number _ (sym c.i
 pub returns-then-is_e : goal.returns-then-is_e
 returns-then-is_e c = int_e _ _ _ _ c.byte_at-x.ensures c.if-x-eq46.false (sym c.is_e.ensures ∙ c.if-is_e.true) c.behind_e.ensures
 
-pub finish-requires : goal.finish-requires
-finish-requires c = omega arith
-
 pub returns : goal.returns
 returns c = int_end _ _ _ _ c.byte_at-x.ensures c.if-x-eq46.false (sym c.is_e.ensures ∙ c.if-is_e.false) c.finish.ensures

@@ -7,24 +7,12 @@ use Rattle.tokens.proofs.numbers.digits.Goals as goal
 pub loop-at-init : goal.loop-at-init
 loop-at-init c = (omega arith, refl)
 
-pub bounds-s-at : goal.bounds-s-at
-bounds-s-at c = omega arith
-
-pub is_digit-requires : goal.is_digit-requires
-is_digit-requires c = tt
-
 pub returns-then-not-is_digit : goal.returns-then-not-is_digit
 returns-then-not-is_digit c = stopped is_digit c.args.s.now c.args.from c.loop-at.at c.loop-at.invariant.1 (omega arith) (sym c.is_digit.ensures ∙ c.if-not-is_digit.true)
-
-pub overflow_add-at : goal.overflow_add-at
-overflow_add-at c = omega arith
-
-pub loop-at-smaller : goal.loop-at-smaller
-loop-at-smaller c = omega arith
 
 pub loop-at-preserved : goal.loop-at-preserved
 loop-at-preserved c =
     (omega arith, one_more is_digit c.args.s.now c.args.from c.loop-at.at c.loop-at.invariant.1 (omega arith) (sym c.is_digit.ensures ∙ c.if-not-is_digit.false))
 
 pub returns : goal.returns
-returns c = ended is_digit c.args.s.now c.args.from c.loop-at.at c.loop-at.invariant.1 (omega arith)
+returns c = omega (arith, ended is_digit c.args.s.now c.args.from c.loop-at.at c.loop-at.invariant.1 (omega arith))

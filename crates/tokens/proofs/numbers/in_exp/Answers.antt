@@ -3,8 +3,5 @@ use native.Mathlib.Omega.{arith}
 use Rattle.tokens.proofs.Grammar.{exp_over}
 use Rattle.tokens.proofs.numbers.in_exp.Goals as goal
 
-pub finish-requires : goal.finish-requires
-finish-requires c = omega arith
-
 pub returns : goal.returns
 returns c = exp_over _ _ _ _ c.digits.ensures c.finish.ensures

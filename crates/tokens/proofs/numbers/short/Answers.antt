@@ -7,12 +7,6 @@ use Rattle.eights.specs.inner.Words.{is_other}
 use Rattle.tokens.proofs.Shorts.{zero_told, digits_told}
 use Rattle.tokens.proofs.numbers.short.Goals as goal
 
-pub overflow_sub-s : goal.overflow_sub-s
-overflow_sub-s c = omega (arith, c.requires.0)
-
-pub eight-requires : goal.eight-requires
-eight-requires c = omega (arith, c.requires.0, c.if-s-from-lt8.false)
-
 pub returns-else-k-ne1 : goal.returns-else-k-ne1
 returns-else-k-ne1 c =
     zero_told c.args.s.now c.args.from _ _ c.requires.1 c.requires.2 (omega (arith, c.requires.0, c.if-s-from-lt8.false)) (c.place-k.ensures (λ j. is_other (get_or c.args.s.now (c.args.from + j) 0)) (c.others.ensures (λ j. get_or c.args.s.now (c.args.from + j) 0) c.eight.ensures.1 c.eight.ensures.0)) _ c.byte_at.ensures (sym c.is_number.ensures ∙ c.if-is_number.false) c.if-x-eq48.true c.if-k-ne1.false

@@ -2,8 +2,5 @@
 use mathlib.Core.Path.{◌∙◌}
 use Rattle.tokens.proofs.numbers.signed.Goals as goal
 
-pub unsigned-requires : goal.unsigned-requires
-unsigned-requires c = c.past_minus.ensures.inside
-
 pub returns : goal.returns
 returns c = c.unsigned.ensures ∙ c.past_minus.ensures.same

@@ -9,8 +9,5 @@ returns-then-not-is_digit c = no_digit _ _ _ c.byte_at-x.ensures (sym c.is_digit
 pub past_int-requires : goal.past_int-requires
 past_int-requires c = (c.byte_at-x.ensures, sym c.is_digit.ensures ∙ c.if-not-is_digit.false)
 
-pub behind_int-requires : goal.behind_int-requires
-behind_int-requires c = c.past_int.ensures.inside
-
 pub returns : goal.returns
 returns c = c.behind_int.ensures ∙ c.past_int.ensures.same

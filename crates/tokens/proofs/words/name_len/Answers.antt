@@ -7,22 +7,13 @@ use Rattle.tokens.specs.inner.Parts.{Named}
 use Rattle.tokens.proofs.Shorts.{true_named, null_named, false_named}
 use Rattle.tokens.proofs.words.name_len.Goals as goal
 
-pub spells-requires : goal.spells-requires
-spells-requires c = omega arith
-
 pub returns-then-spells : goal.returns-then-spells
 returns-then-spells c =
     (omega arith, subst (λ (k : ℕ). Named (drop c.args.at c.args.s.now) k 4) (sym c.if-x-eq116.true) (true_named _ (sym c.requires ∙ c.if-x-eq116.true) (c.spells.ensures c.if-spells.true)))
 
-pub spells-requires-then-x-eq110 : goal.spells-requires-then-x-eq110
-spells-requires-then-x-eq110 c = omega arith
-
 pub returns-then-spells-2 : goal.returns-then-spells-2
 returns-then-spells-2 c =
     (omega arith, subst (λ (k : ℕ). Named (drop c.args.at c.args.s.now) k 4) (sym c.if-x-eq110.true) (null_named _ (sym c.requires ∙ c.if-x-eq110.true) (c.spells-then-x-eq110.ensures c.if-spells-2.true)))
-
-pub spells-requires-then-byte_at-eq97 : goal.spells-requires-then-byte_at-eq97
-spells-requires-then-byte_at-eq97 c = omega arith
 
 pub returns-then-spells-3 : goal.returns-then-spells-3
 returns-then-spells-3 c =

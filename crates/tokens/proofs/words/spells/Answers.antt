@@ -11,20 +11,11 @@ use Rattle.tokens.proofs.words.spells.Goals as goal
 pub returns-then-byte_at-a : goal.returns-then-byte_at-a
 returns-then-byte_at-a c = λ e. never (let z : false ≡ true = e in cc)
 
-pub overflow_add-k : goal.overflow_add-k
-overflow_add-k c = omega arith
-
 pub returns-then-byte_at-b : goal.returns-then-byte_at-b
 returns-then-byte_at-b c = λ e. never (let z : false ≡ true = e in cc)
 
-pub overflow_add-k-2 : goal.overflow_add-k-2
-overflow_add-k-2 c = omega arith
-
 pub returns-then-byte_at-c : goal.returns-then-byte_at-c
 returns-then-byte_at-c c = λ e. never (let z : false ≡ true = e in cc)
-
-pub overflow_add-k-3 : goal.overflow_add-k-3
-overflow_add-k-3 c = omega arith
 
 pub returns : goal.returns
 returns c =

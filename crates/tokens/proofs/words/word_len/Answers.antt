@@ -7,31 +7,13 @@ use Rattle.tokens.proofs.words.word_len.Goals as goal
 pub loop-at-init : goal.loop-at-init
 loop-at-init c = (omega arith, omega arith, refl)
 
-pub bounds-s-at : goal.bounds-s-at
-bounds-s-at c = omega arith
-
-pub is_word-requires : goal.is_word-requires
-is_word-requires c = tt
-
-pub overflow_sub-result : goal.overflow_sub-result
-overflow_sub-result c = omega arith
-
 pub returns-then-not-is_word : goal.returns-then-not-is_word
 returns-then-not-is_word c =
     omega (arith, stopped is_word c.args.s.now c.args.from c.loop-at.at c.loop-at.invariant.2 (omega arith) (sym c.is_word.ensures ∙ c.if-not-is_word.true))
 
-pub overflow_add-at : goal.overflow_add-at
-overflow_add-at c = omega arith
-
-pub loop-at-smaller : goal.loop-at-smaller
-loop-at-smaller c = omega arith
-
 pub loop-at-preserved : goal.loop-at-preserved
 loop-at-preserved c =
     (omega arith, omega arith, one_more is_word c.args.s.now c.args.from c.loop-at.at c.loop-at.invariant.2 (omega arith) (sym c.is_word.ensures ∙ c.if-not-is_word.false))
-
-pub overflow_sub-result-2 : goal.overflow_sub-result-2
-overflow_sub-result-2 c = omega arith
 
 pub returns : goal.returns
 returns c = omega (arith, ended is_word c.args.s.now c.args.from c.loop-at.at c.loop-at.invariant.2 (omega arith))
