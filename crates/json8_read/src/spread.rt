@@ -69,10 +69,8 @@ pub(crate) fn stored(n: usize, notes: &[u64; NODE_MAX]) -> usize
     ensures { result ≡ sizes (nodes_in (take n notes.now)) }
 {
     let mut m: u64 = 0;
-    let mut i: usize = 0;
-    while i < n {
+    for i in 0..n {
         m += stored_by(notes[i]);
-        i += 1;
     }
     index(m)
 }
@@ -136,10 +134,8 @@ pub(crate) fn spread(
     ensures bytes { store.new ≡ sets store.old 0 (bytes_of text.now (nodes_in (take n notes.now))) }
 {
     let mut m: usize = 0;
-    let mut i: usize = 0;
-    while i < n {
+    for i in 0..n {
         m = spread_node(t, text, notes[i], i, m, table, store);
-        i += 1;
     }
     m
 }

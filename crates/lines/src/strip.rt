@@ -18,14 +18,12 @@ fn is_blank(x: u8) -> bool
 pub fn lead(s: &[u8]) -> usize
     ensures { result ≡ leads s.now }
 {
-    let mut i = 0;
-    while i < s.len() {
+    for i in 0..s.len() {
         if !is_blank(s[i]) {
             return i;
         }
-        i += 1;
     }
-    i
+    s.len()
 }
 
 // The length without the blanks at the end.

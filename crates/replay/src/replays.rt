@@ -46,14 +46,12 @@ pub fn replay(text: &[u8], plan: &[usize], line: &mut [u8], out: &mut [u8]) -> F
         place: 0,
     };
     let mut at = 0;
-    let mut i = 0;
-    while i < plan.len() {
+    for i in 0..plan.len() {
         let p = play_one(state, text, at, plan[i], line, out);
         let f = p.fed;
         state = f.state;
         answer = f.answer;
         at = p.at;
-        i += 1;
     }
     Fed { state, answer }
 }

@@ -15,17 +15,14 @@ fn line_at(s: &[u8], n: usize) -> usize
     ensures { (result ≤ length s.now) × (drop result s.now ≡ from_line s.now s.now n) }
 {
     let mut left = n;
-    let mut i = 0;
-    while i < s.len() {
+    for i in 0..s.len() {
         if left == 0 {
             return i;
         }
         if s[i] != b'\n' {
-            i += 1;
             continue;
         }
         left -= 1;
-        i += 1;
     }
     0
 }

@@ -286,13 +286,11 @@ fn put_safe(text: &[u8], room: usize, out: &mut [u8]) -> usize
 {
     let mut m = standing(None, false, 0);
     let mut o = 0;
-    let mut at = 0;
-    while at < text.len() {
+    for at in 0..text.len() {
         let x = text[at];
         let c = control_at(m, text, at);
         o = put_safe_byte(m, c, x, room, o, out);
         m = mode_after(m, c, x);
-        at += 1;
     }
     o
 }

@@ -110,12 +110,10 @@ fn bool_kind(w: &[u8]) -> Option<u32>
 fn all_digits(w: &[u8]) -> bool
     ensures { result ≡ all_digits w.now }
 {
-    let mut i: usize = 0;
-    while i < w.len() {
+    for i in 0..w.len() {
         if !words::is_digit(w[i]) {
             return false;
         }
-        i += 1;
     }
     true
 }

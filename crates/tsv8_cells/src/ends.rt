@@ -20,8 +20,7 @@ pub fn end_from(text: &[u8], from: usize) -> usize
     requires { from ≤ length text.now }
     ensures { result ≡ from + cell_run (drop from text.now) }
 {
-    let mut at = from;
-    while at < text.len() {
+    for at in from..text.len() {
         let x = text[at];
         if x == b'\t' {
             return at;
@@ -29,9 +28,8 @@ pub fn end_from(text: &[u8], from: usize) -> usize
         if x == b'\n' {
             return at;
         }
-        at += 1;
     }
-    at
+    text.len()
 }
 
 // The same, by eights as long as bytes are plain.
@@ -91,14 +89,12 @@ pub fn gap(text: &[u8], from: usize) -> usize
     requires { from ≤ length text.now }
     ensures { result ≡ from + gap_run (drop from text.now) }
 {
-    let mut at = from;
-    while at < text.len() {
+    for at in from..text.len() {
         if !is_gap(text[at]) {
             return at;
         }
-        at += 1;
     }
-    at
+    text.len()
 }
 
 // Whether a line ends at a place.

@@ -6,9 +6,6 @@ use Rattle.rooms.proofs.Puts.{put_as}
 use Rattle.sentences.proofs.SentenceLines.{line_between}
 use Rattle.sentences.proofs.put_line.Goals as goal
 
-pub overflow_sub-end : goal.overflow_sub-end
-overflow_sub-end c = omega (arith, c.lf_from-end.ensures)
-
 pub put_run-requires : goal.put_run-requires
 put_run-requires c = (omega (arith, c.lf_from-end.ensures, run_inside c.args.s.now c.line_at-at.result c.line_at-at.ensures.0), c.requires)
 

@@ -3,14 +3,8 @@ use native.Mathlib.Omega.{arith}
 use Rattle.lines.proofs.BareTexts.{run_fine, run_inside, behind_run}
 use Rattle.lines.proofs.bare.check_bare.Goals as goal
 
-pub strides_to_end-at-requires : goal.strides_to_end-at-requires
-strides_to_end-at-requires c = omega arith
-
 pub returns-then-at-s : goal.returns-then-at-s
 returns-then-at-s c = search run_fine
-
-pub literal_run-e-requires : goal.literal_run-e-requires
-literal_run-e-requires c = c.strides_to_end-at.ensures.inside
 
 pub check_from-requires : goal.check_from-requires
 check_from-requires c = run_inside _ _ _ c.strides_to_end-at.ensures _ c.literal_run-e.ensures

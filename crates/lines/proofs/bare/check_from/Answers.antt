@@ -4,26 +4,8 @@ use Rattle.std.specs.Prelude.{Err}
 use Rattle.lines.proofs.BareTexts.{begun, plain_on, tab_on, control_stop, good_on, further, bad_stop, ended}
 use Rattle.lines.proofs.bare.check_from.Goals as goal
 
-pub loop-at-init : goal.loop-at-init
-loop-at-init c = search begun
-
-pub bounds-s-at : goal.bounds-s-at
-bounds-s-at c = omega arith
-
-pub overflow_add-at : goal.overflow_add-at
-overflow_add-at c = omega arith
-
-pub loop-at-smaller-then-k-ne1 : goal.loop-at-smaller-then-k-ne1
-loop-at-smaller-then-k-ne1 c = omega arith
-
 pub loop-at-preserved-then-k-ne1 : goal.loop-at-preserved-then-k-ne1
 loop-at-preserved-then-k-ne1 c = search plain_on
-
-pub overflow_add-at-then-x-eq9 : goal.overflow_add-at-then-x-eq9
-overflow_add-at-then-x-eq9 c = omega arith
-
-pub loop-at-smaller-then-x-eq9 : goal.loop-at-smaller-then-x-eq9
-loop-at-smaller-then-x-eq9 c = omega arith
 
 pub loop-at-preserved-then-x-eq9 : goal.loop-at-preserved-then-x-eq9
 loop-at-preserved-then-x-eq9 c = search tab_on

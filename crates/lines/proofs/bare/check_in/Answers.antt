@@ -3,9 +3,6 @@ use native.Mathlib.Omega.{arith}
 use Rattle.lines.proofs.BareTexts.{whole_inside, behind_whole}
 use Rattle.lines.proofs.bare.check_in.Goals as goal
 
-pub literal_run-e-requires : goal.literal_run-e-requires
-literal_run-e-requires c = omega arith
-
 pub check_from-requires : goal.check_from-requires
 check_from-requires c = whole_inside _ _ _ c.literal_run-e.ensures
 

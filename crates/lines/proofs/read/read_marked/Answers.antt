@@ -7,9 +7,6 @@ use Rattle.runs.proofs.LiteralRuns.{through}
 use Rattle.lines.proofs.LineAnswers.{mark_fits, quoted_holds, quoted_inside, quoted_faulty}
 use Rattle.lines.proofs.read.read_marked.Goals as goal
 
-pub literal_run-e-requires : goal.literal_run-e-requires
-literal_run-e-requires c = c.requires.1.inside
-
 pub closes-requires : goal.closes-requires
 closes-requires c = (through _ _ _ _ _ c.requires.1 c.literal_run-e.ensures).inside
 

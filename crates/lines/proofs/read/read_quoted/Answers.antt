@@ -5,9 +5,6 @@ use Rattle.lines.proofs.read.read_quoted.Goals as goal
 pub strides-at-requires : goal.strides-at-requires
 strides-at-requires c = mark_fits _ _ _ c.requires
 
-pub closes-requires : goal.closes-requires
-closes-requires c = c.strides-at.ensures.inside
-
 pub read_literal-requires : goal.read_literal-requires
 read_literal-requires c = (c.requires, c.strides-at.ensures, c.closes.ensures.0 c.if-closes.true)
 

@@ -6,23 +6,8 @@ use Rattle.lines.proofs.strip.trim.Goals as goal
 pub loop-e-init : goal.loop-e-init
 loop-e-init c = (omega arith, trim_whole c.args.s.now)
 
-pub overflow_sub-e : goal.overflow_sub-e
-overflow_sub-e c = omega arith
-
-pub bounds-s-e : goal.bounds-s-e
-bounds-s-e c = omega arith
-
-pub is_blank-requires : goal.is_blank-requires
-is_blank-requires c = tt
-
 pub returns-then-not-is_blank : goal.returns-then-not-is_blank
 returns-then-not-is_blank c = trim_found c.args.s.now c.loop-e.e (omega arith) c.loop-e.invariant.0 c.loop-e.invariant.1 (sym c.is_blank.ensures ∙ c.if-not-is_blank.true)
-
-pub overflow_sub-e-in-loop-e : goal.overflow_sub-e-in-loop-e
-overflow_sub-e-in-loop-e c = omega arith
-
-pub loop-e-smaller : goal.loop-e-smaller
-loop-e-smaller c = omega arith
 
 pub loop-e-preserved : goal.loop-e-preserved
 loop-e-preserved c =

@@ -6,20 +6,8 @@ use Rattle.tsv8_cells.proofs.cells.all_digits.Goals as goal
 pub loop-i-init : goal.loop-i-init
 loop-i-init c = (omega arith, refl)
 
-pub bounds-w-i : goal.bounds-w-i
-bounds-w-i c = omega arith
-
-pub is_digit-requires : goal.is_digit-requires
-is_digit-requires c = tt
-
 pub returns-then-not-is_digit : goal.returns-then-not-is_digit
 returns-then-not-is_digit c = digit_stop _ _ c.loop-i.invariant.1 c.loop-i-test.true (sym c.is_digit.ensures ∙ c.if-not-is_digit.true)
-
-pub overflow_add-i : goal.overflow_add-i
-overflow_add-i c = omega arith
-
-pub loop-i-smaller : goal.loop-i-smaller
-loop-i-smaller c = omega arith
 
 pub loop-i-preserved : goal.loop-i-preserved
 loop-i-preserved c = (omega arith, digit_more _ _ c.loop-i.invariant.1 c.loop-i-test.true (sym c.is_digit.ensures ∙ c.if-not-is_digit.false))

@@ -6,23 +6,14 @@ use Rattle.tsv8_cells.proofs.ends.end_from.Goals as goal
 pub loop-at-init : goal.loop-at-init
 loop-at-init c = (c.requires, refl)
 
-pub bounds-text-at : goal.bounds-text-at
-bounds-text-at c = omega arith
-
 pub returns-then-x-eq9 : goal.returns-then-x-eq9
 returns-then-x-eq9 c = scan_tab _ _ _ c.loop-at.invariant.1 c.loop-at-test.true c.if-x-eq9.true
 
 pub returns-then-x-eq10 : goal.returns-then-x-eq10
 returns-then-x-eq10 c = scan_lf _ _ _ c.loop-at.invariant.1 c.loop-at-test.true c.if-x-eq10.true
 
-pub overflow_add-at : goal.overflow_add-at
-overflow_add-at c = omega arith
-
-pub loop-at-smaller : goal.loop-at-smaller
-loop-at-smaller c = omega arith
-
 pub loop-at-preserved : goal.loop-at-preserved
 loop-at-preserved c = (omega arith, scan_on _ _ _ c.loop-at.invariant.1 c.loop-at-test.true c.if-x-eq9.false c.if-x-eq10.false)
 
 pub returns : goal.returns
-returns c = scan_end _ _ _ c.loop-at.invariant.1 c.loop-at-test.false
+returns c = omega (arith, scan_end _ _ _ c.loop-at.invariant.1 c.loop-at-test.false)

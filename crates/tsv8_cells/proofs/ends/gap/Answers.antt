@@ -6,23 +6,11 @@ use Rattle.tsv8_cells.proofs.ends.gap.Goals as goal
 pub loop-at-init : goal.loop-at-init
 loop-at-init c = (c.requires, refl)
 
-pub bounds-text-at : goal.bounds-text-at
-bounds-text-at c = omega arith
-
-pub is_gap-requires : goal.is_gap-requires
-is_gap-requires c = tt
-
 pub returns-then-not-is_gap : goal.returns-then-not-is_gap
 returns-then-not-is_gap c = gap_stop _ _ _ c.loop-at.invariant.1 c.loop-at-test.true (sym c.is_gap.ensures ∙ c.if-not-is_gap.true)
-
-pub overflow_add-at : goal.overflow_add-at
-overflow_add-at c = omega arith
-
-pub loop-at-smaller : goal.loop-at-smaller
-loop-at-smaller c = omega arith
 
 pub loop-at-preserved : goal.loop-at-preserved
 loop-at-preserved c = (omega arith, gap_more _ _ _ c.loop-at.invariant.1 c.loop-at-test.true (sym c.is_gap.ensures ∙ c.if-not-is_gap.false))
 
 pub returns : goal.returns
-returns c = gap_end _ _ _ c.loop-at.invariant.1 c.loop-at-test.false
+returns c = omega (arith, gap_end _ _ _ c.loop-at.invariant.1 c.loop-at-test.false)

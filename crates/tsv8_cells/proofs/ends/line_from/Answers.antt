@@ -5,20 +5,11 @@ use Rattle.tsv8_cells.proofs.ends.line_from.Goals as goal
 pub loop-at-init : goal.loop-at-init
 loop-at-init c = left_here _ _ c.requires
 
-pub gap-e-requires : goal.gap-e-requires
-gap-e-requires c = omega arith
-
-pub is_end-requires : goal.is_end-requires
-is_end-requires c = tt
-
 pub returns-then-not-is_end : goal.returns-then-not-is_end
 returns-then-not-is_end c = left_stop _ _ _ c.loop-at.invariant c.loop-at-test.true _ c.gap-e.ensures _ c.is_end.ensures (c.if-not-is_end.true)
 
 pub overflow_add-at : goal.overflow_add-at
 overflow_add-at c = omega (arith, (left_more _ _ _ c.loop-at.invariant c.loop-at-test.true _ c.gap-e.ensures _ c.is_end.ensures (c.if-not-is_end.false)).1.0)
-
-pub loop-at-smaller : goal.loop-at-smaller
-loop-at-smaller c = omega (arith, c.gap-e.ensures)
 
 pub loop-at-preserved : goal.loop-at-preserved
 loop-at-preserved c = left_more _ _ _ c.loop-at.invariant c.loop-at-test.true _ c.gap-e.ensures _ c.is_end.ensures (c.if-not-is_end.false)

@@ -8,14 +8,8 @@ pub quoted_end-requires : goal.quoted_end-requires
 quoted_end-requires c =
     (byte_inside c.args.text.now c.args.q c.byte_at.result c.byte_at.ensures (λ z. omega (arith, z, c.if-byte_at-eq34.true)), byte_is c.args.text.now c.args.q c.byte_at.result c.byte_at.ensures (λ z. omega (arith, z, c.if-byte_at-eq34.true)) ∙ c.if-byte_at-eq34.true)
 
-pub overflow_sub-result : goal.overflow_sub-result
-overflow_sub-result c = omega (arith, c.in_ok-e.ensures.marks)
-
 pub returns-then-byte_at-eq34 : goal.returns-then-byte_at-eq34
 returns-then-byte_at-eq34 c = λ m. quoted_found c.args.text.now c.args.q _ m c.in_ok-e.ensures
-
-pub overflow_sub-result-2 : goal.overflow_sub-result-2
-overflow_sub-result-2 c = omega (arith, c.in_ok-e-2.ensures.solid.some)
 
 pub returns : goal.returns
 returns c = λ m. bare_found c.args.text.now c.args.q _ m c.in_ok-e-2.ensures
