@@ -28,10 +28,8 @@ pub(crate) fn room_of(table: &[u32], n: usize) -> usize
     ensures { result ≡ room_of n (nodes_in table.now) }
 {
     let mut room: usize = 0;
-    let mut i = 0;
-    while i < n {
+    for i in 0..n {
         room += 6 * (1 + bytes_held(table, i));
-        i += 1;
     }
     room
 }

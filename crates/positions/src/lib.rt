@@ -41,10 +41,8 @@ pub fn position_of(text: &[u8], place: usize) -> Position
 {
     let end = slices::least(place, text.len());
     let mut p = Position { line: 1, column: 1 };
-    let mut i = 0;
-    while i < end {
+    for i in 0..end {
         p = behind_byte(p, text[i]);
-        i += 1;
     }
     p
 }

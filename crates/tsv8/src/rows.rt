@@ -60,9 +60,8 @@ pub(crate) fn judge_row(
     ensures { RowTold (row_read (take n types.now) m p (cells_at text.now from)) (line_end text.now from) from n m result }
 {
     let mut q = from;
-    let mut k: usize = 0;
     let mut j = m;
-    while k < n {
+    for k in 0..n {
         if slices::byte_at(text, q, 0) != b'\t' {
             return Err(Refusal::BadLine.at(p));
         }
@@ -76,7 +75,6 @@ pub(crate) fn judge_row(
             }
         }
         q = ended.end;
-        k += 1;
     }
     if slices::byte_at(text, q, 0) == b'\t' {
         return Err(Refusal::BadLine.at(p));

@@ -105,13 +105,11 @@ pub(crate) fn put_row(
     ensures bytes { store.new ≡ sets store.old m (bytes_in (cells_of (take n types.now) m (cells_at text.now from))) }
 {
     let mut q = from;
-    let mut k: usize = 0;
     let mut j = m;
-    while k < n {
+    for k in 0..n {
         let moved = put_cell(t, text, q + 1, types[k], i + k, j, table, store);
         q = moved.end;
         j = moved.count;
-        k += 1;
     }
     Moved { end: q, count: j }
 }
@@ -151,9 +149,7 @@ pub(crate) fn put_types(n: usize, types: &[ColumnType; COLUMN_MAX], out: &mut [u
     requires { (n ≤ column_max) × (n ≤ length types.now) × (n ≤ length out.old) }
     ensures { out.new ≡ sets out.old 0 (map type_number (take n types.now)) }
 {
-    let mut k: usize = 0;
-    while k < n {
+    for k in 0..n {
         out[k] = types[k].number();
-        k += 1;
     }
 }

@@ -59,15 +59,13 @@ fn types_from(
     ensures { TypesTold (types_in (cells_at text.now from)) (line_end text.now from) n types.new result }
 {
     let mut q = from;
-    let mut k: usize = 0;
-    while k < n {
+    for k in 0..n {
         let e = ends::end_from(text, q + 1);
         let Some(ty) = named_in(&text[q + 1..e]) else {
             return Err(Refusal::BadHeader.at(q + 1));
         };
         types[k] = ty;
         q = e;
-        k += 1;
     }
     Ok(q + 1)
 }

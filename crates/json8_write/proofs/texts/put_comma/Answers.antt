@@ -4,6 +4,3 @@ use Rattle.json8_write.proofs.texts.put_comma.Goals as goal
 
 pub returns-then-first : goal.returns-then-first
 returns-then-first c = search comma_none
-
-pub returns : goal.returns
-returns c = search comma_put

@@ -6,8 +6,5 @@ pub string_text-p-requires : goal.string_text-p-requires
 string_text-p-requires c =
     (key_there c.args.table.now c.args.text.now c.args.store.now c.args.i c.requires.0, key_holds c.args.table.now c.args.text.now c.args.store.now c.args.i c.requires.0, c.requires.1)
 
-pub put_byte-requires : goal.put_byte-requires
-put_byte-requires c = c.requires.1
-
 pub returns : goal.returns
 returns c = key_put c.args.table.now c.args.text.now c.args.store.now c.args.i c.requires.0 c.string_text-p.ensures c.put_byte.ensures

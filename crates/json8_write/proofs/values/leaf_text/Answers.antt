@@ -18,8 +18,5 @@ pub returns-then-kind-gt2 : goal.returns-then-kind-gt2
 returns-then-kind-gt2 c =
     leaf_number c.args.text.now c.args.store.now (node_at c.args.i c.args.table.now) c.requires.1 c.if-kind-gt2.true c.if-kind-gt4.false c.number_text.ensures
 
-pub put_word-requires : goal.put_word-requires
-put_word-requires c = c.requires.2
-
 pub returns : goal.returns
 returns c = leaf_word c.args.text.now c.args.store.now (node_at c.args.i c.args.table.now) c.requires.1 c.if-kind-gt2.false c.put_word.ensures

@@ -7,14 +7,8 @@ use Rattle.tsv8_cells.proofs.Places.{cell_ended}
 use Rattle.tsv8.proofs.HeadTexts.{no_first_line, no_head, columns_in, names_stop, names_in, head_told}
 use Rattle.tsv8.proofs.heads.judge.Goals as goal
 
-pub line_from-at-requires : goal.line_from-at-requires
-line_from-at-requires c = omega arith
-
 pub returns-then-text-at : goal.returns-then-text-at
 returns-then-text-at c = no_first_line _ _ c.line_from-at.ensures c.if-text-at.true _ _ c.at.ensures
-
-pub end_from-q-requires : goal.end_from-q-requires
-end_from-q-requires c = omega arith
 
 pub columns-requires : goal.columns-requires
 columns-requires c = let i = cell_ended c.args.text.now _ _ (omega (arith, c.if-text-at.false)) c.end_from-q.ensures in (omega (arith, c.end_from-q.ensures), i.0, i.1)

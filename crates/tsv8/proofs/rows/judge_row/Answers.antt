@@ -6,23 +6,11 @@ use Rattle.tsv8.proofs.rows.judge_row.Goals as goal
 pub loop-k-init : goal.loop-k-init
 loop-k-init c = reading_none _ _ _ _ _ c.requires.1 c.requires.4 c.requires.3
 
-pub byte_at-requires : goal.byte_at-requires
-byte_at-requires c = tt
-
 pub returns-then-byte_at-ne9 : goal.returns-then-byte_at-ne9
 returns-then-byte_at-ne9 c = row_short _ _ _ _ _ _ _ _ c.loop-k.invariant c.requires.5 _ _ c.byte_at.ensures c.loop-k-test.true c.if-byte_at-ne9.true _ c.at.ensures
 
-pub overflow_add-q : goal.overflow_add-q
-overflow_add-q c = omega (arith, c.loop-k.invariant.inside)
-
-pub bounds-types-k : goal.bounds-types-k
-bounds-types-k c = omega arith
-
 pub read-ended-requires : goal.read-ended-requires
 read-ended-requires c = (c.requires.0, omega (arith, (tab_there c.args.text.now c.loop-k.q _ c.byte_at.ensures (omega arith)).0))
-
-pub stored_by-j-requires : goal.stored_by-j-requires
-stored_by-j-requires c = tt
 
 pub overflow_add-j : goal.overflow_add-j
 overflow_add-j c =
@@ -35,18 +23,9 @@ pub returns-in-Err : goal.returns-in-Err
 returns-in-Err c =
     row_refused _ _ _ _ _ _ _ _ c.loop-k.invariant _ _ c.byte_at.ensures (omega arith) c.read-ended.ensures.end c.loop-k-test.true c.requires.5 _ _ _ _ c.read-ended.ensures.told c.in-Err.is c.refuse.ensures
 
-pub overflow_add-k : goal.overflow_add-k
-overflow_add-k c = omega arith
-
-pub loop-k-smaller : goal.loop-k-smaller
-loop-k-smaller c = omega arith
-
 pub loop-k-preserved : goal.loop-k-preserved
 loop-k-preserved c =
     reading_more _ _ _ _ _ _ _ _ c.loop-k.invariant _ _ c.byte_at.ensures (omega arith) c.read-ended.ensures.end c.loop-k-test.true c.requires.5 _ _ _ _ c.read-ended.ensures.told c.in-Ok.is c.stored_by-j.ensures refl
-
-pub byte_at-requires-2 : goal.byte_at-requires-2
-byte_at-requires-2 c = tt
 
 pub returns-then-byte_at-eq9 : goal.returns-then-byte_at-eq9
 returns-then-byte_at-eq9 c = row_long _ _ _ _ _ _ _ _ c.loop-k.invariant c.requires.5 _ _ c.byte_at-2.ensures c.loop-k-test.false c.if-byte_at-eq9.true _ c.at-then-byte_at-eq9.ensures

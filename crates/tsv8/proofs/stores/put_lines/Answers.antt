@@ -6,18 +6,9 @@ use Rattle.tsv8.proofs.stores.put_lines.Goals as goal
 pub loop-at-init : goal.loop-at-init
 loop-at-init c = spreading_none _ _ _ _ _ _ _ c.requires.3 (normal _ _ _ _ _ c.requires.4) c.requires.1
 
-pub bounds-text-at : goal.bounds-text-at
-bounds-text-at c = omega arith
-
-pub lf_from-at-requires : goal.lf_from-at-requires
-lf_from-at-requires c = omega arith
-
 pub overflow_add-at : goal.overflow_add-at
 overflow_add-at c =
     omega (arith, c.lf_from-at.ensures, line_within _ _ _ _ _ _ _ c.requires.3 (normal _ _ _ _ _ c.requires.4) _ _ _ _ _ c.loop-at.invariant c.loop-at-test.true, c.requires.0)
-
-pub loop-at-smaller-then-text-at-ne9 : goal.loop-at-smaller-then-text-at-ne9
-loop-at-smaller-then-text-at-ne9 c = omega (arith, c.lf_from-at.ensures)
 
 pub loop-at-preserved-then-text-at-ne9 : goal.loop-at-preserved-then-text-at-ne9
 loop-at-preserved-then-text-at-ne9 c =
@@ -33,9 +24,6 @@ overflow_add-at-in-loop-at c =
 
 pub overflow_add-i : goal.overflow_add-i
 overflow_add-i c = omega (arith, rows_few _ _ _ _ _ _ _ c.requires.3 (normal _ _ _ _ _ c.requires.4) _ _ _ _ _ c.loop-at.invariant c.loop-at-test.true (omega arith))
-
-pub loop-at-smaller : goal.loop-at-smaller
-loop-at-smaller c = omega (arith, c.put_row-moved.ensures.end)
 
 pub loop-at-preserved : goal.loop-at-preserved
 loop-at-preserved c =

@@ -5,12 +5,6 @@ use Rattle.tsv8.proofs.stores.put_row.Goals as goal
 pub loop-k-init : goal.loop-k-init
 loop-k-init c = writing_none _ _ _ _ _ _ _ _ c.requires.4 (normal _ _ _ _ _ c.requires.6) c.requires.5 c.requires.1 c.requires.2
 
-pub overflow_add-q : goal.overflow_add-q
-overflow_add-q c = omega (arith, c.loop-k.invariant.inside)
-
-pub bounds-types-k : goal.bounds-types-k
-bounds-types-k c = omega arith
-
 pub overflow_add-i : goal.overflow_add-i
 overflow_add-i c =
     omega (arith, (cell_fits _ _ _ _ _ _ _ _ c.requires.4 (normal _ _ _ _ _ c.requires.6) c.requires.5 _ _ _ _ _ c.loop-k.invariant c.loop-k-test.true).1.1.0)
@@ -18,12 +12,6 @@ overflow_add-i c =
 pub put_cell-moved-requires : goal.put_cell-moved-requires
 put_cell-moved-requires c =
     let v = cell_fits _ _ _ _ _ _ _ _ c.requires.4 (normal _ _ _ _ _ c.requires.6) c.requires.5 _ _ _ _ _ c.loop-k.invariant c.loop-k-test.true in (c.requires.0, v.0, v.1.0, v.1.1.0, v.1.1.1)
-
-pub overflow_add-k : goal.overflow_add-k
-overflow_add-k c = omega arith
-
-pub loop-k-smaller : goal.loop-k-smaller
-loop-k-smaller c = omega arith
 
 pub loop-k-preserved : goal.loop-k-preserved
 loop-k-preserved c =

@@ -5,18 +5,6 @@ use Rattle.tsv8.proofs.stores.put_types.Goals as goal
 pub loop-k-init : goal.loop-k-init
 loop-k-init c = types_none _ _ _
 
-pub bounds-types-k : goal.bounds-types-k
-bounds-types-k c = omega arith
-
-pub bounds-out-k : goal.bounds-out-k
-bounds-out-k c = omega (arith, types_still _ _ _ _ _ c.loop-k.invariant, c.requires.2)
-
-pub overflow_add-k : goal.overflow_add-k
-overflow_add-k c = omega arith
-
-pub loop-k-smaller : goal.loop-k-smaller
-loop-k-smaller c = omega arith
-
 pub loop-k-preserved : goal.loop-k-preserved
 loop-k-preserved c = types_more _ _ _ _ _ c.loop-k.invariant _ c.loop-k-test.true c.requires.1 c.number.ensures
 

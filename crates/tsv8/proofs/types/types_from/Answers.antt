@@ -5,14 +5,8 @@ use Rattle.tsv8.proofs.types.types_from.Goals as goal
 pub loop-k-init : goal.loop-k-init
 loop-k-init c = naming_none _ _ _ _ c.requires.1 c.requires.2 c.requires.3 c.requires.5
 
-pub overflow_add-q : goal.overflow_add-q
-overflow_add-q c = omega (arith, c.loop-k.invariant.inside)
-
 pub end_from-e-requires : goal.end_from-e-requires
 end_from-e-requires c = omega (arith, (tab_due _ _ _ _ _ _ c.loop-k.invariant c.loop-k-test.true).0)
-
-pub overflow_add-q-in-loop-k : goal.overflow_add-q-in-loop-k
-overflow_add-q-in-loop-k c = omega (arith, c.loop-k.invariant.inside)
 
 pub slice_bounds-named_in-count : goal.slice_bounds-named_in-count
 slice_bounds-named_in-count c = omega (arith, (type_in _ _ _ _ _ _ c.loop-k.invariant c.loop-k-test.true _ c.end_from-e.ensures).0)
@@ -23,23 +17,8 @@ slice_bounds-named_in-start c = omega (arith, (type_in _ _ _ _ _ _ c.loop-k.inva
 pub slice_bounds-named_in-end : goal.slice_bounds-named_in-end
 slice_bounds-named_in-end c = omega (arith, (type_in _ _ _ _ _ _ c.loop-k.invariant c.loop-k-test.true _ c.end_from-e.ensures).1)
 
-pub named_in-requires : goal.named_in-requires
-named_in-requires c = tt
-
-pub overflow_add-result : goal.overflow_add-result
-overflow_add-result c = omega (arith, c.loop-k.invariant.inside)
-
 pub returns-in_default : goal.returns-in_default
 returns-in_default c = type_unnamed _ _ _ _ _ _ c.loop-k.invariant c.loop-k-test.true _ c.end_from-e.ensures c.in_default.ensures _ c.at.ensures
-
-pub bounds-types-k : goal.bounds-types-k
-bounds-types-k c = omega arith
-
-pub overflow_add-k : goal.overflow_add-k
-overflow_add-k c = omega arith
-
-pub loop-k-smaller : goal.loop-k-smaller
-loop-k-smaller c = omega arith
 
 pub loop-k-preserved : goal.loop-k-preserved
 loop-k-preserved c = type_named_lem _ _ _ _ _ _ c.loop-k.invariant c.loop-k-test.true _ c.end_from-e.ensures _ c.in-Some.ensures
