@@ -2,19 +2,20 @@
 // text before it, and could stand there if it isn't refused with 13 too.
 use json8::answers::Parsed;
 use json8_read::read;
-use prelude::{refusals, slices};
+use prelude::refusals::{Refusal, Refused};
+use prelude::slices;
 use tokens::words;
-use utf8::chars::Char;
-use utf8::{chars, classes};
+use utf8::chars;
+use utf8::classes::Classes;
 
 // More of a word isn't told.
 const WORD_MAX: usize = 64;
 
 // Whether an answer isn't that nothing so begins at the place.
-fn is_let(parsed: Parsed, place: usize) -> bool {
+fn is_let(parsed: Result<Parsed, Refused>, place: usize) -> bool {
     match parsed {
-        Parsed::Done(_, _) => true,
-        Parsed::Refused(number, at) => number != refusals::MISPLACED || at != place,
+        Ok(_) => true,
+        Err(f) => f != Refusal::Misplaced.at(place),
     }
 }
 
@@ -79,10 +80,8 @@ fn put_choices(
     said: &mut [u8],
 ) -> usize {
     let mut at = first;
-    let mut k: usize = 0;
-    while k < 6 {
+    for k in 0..6 {
         at = put_choice(k, place, first, at, text, table, store, said);
-        k += 1;
     }
     at
 }
@@ -96,12 +95,7 @@ fn size_at(text: &[u8], place: usize) -> usize {
     if n > 0 {
         return slices::least(n, WORD_MAX);
     }
-    let t = classes::table();
-    let c = chars::char_at(&t, text, place);
-    match c {
-        Char::Good(n) => n,
-        Char::Bad(_) => 1,
-    }
+    chars::char_at(&Classes::new(), text, place).unwrap_or(1)
 }
 
 // What stands at a place, quoted.
@@ -114,7 +108,7 @@ fn put_there(text: &[u8], place: usize, at: usize, line: &mut [u8], said: &mut [
 
 // The sentence of the number, and what stands there.
 fn put_wrong(text: &[u8], place: usize, line: &mut [u8], said: &mut [u8]) -> usize {
-    let a = command_texts::put_sentence(refusals::MISPLACED, 0, said);
+    let a = command_texts::put_sentence(Refusal::Misplaced.number(), 0, said);
     let b = command_texts::put(b": ", a, said);
     put_there(text, place, b, line, said)
 }

@@ -7,11 +7,9 @@ use check::same;
 use command_outputs::outcomes::{Outcome, Run};
 use command_outputs::{outcomes, outputs};
 use command_words::arguments;
-use command_words::arguments::{Command, Options};
+use command_words::arguments::{Command, Fault, Options, Wrong};
 use messages::Head;
-use prelude::answers::Written;
-use prelude::limits::TEXT_MAX;
-use prelude::refusals;
+use prelude::refusals::Refusal;
 use std::io::Print;
 use std::rt::{Env, Stderr};
 
@@ -30,11 +28,10 @@ fn put_argument<E: Env>(
     }
 }
 
-// What can be wrong with the words, in the order of the numbers in `arguments`.
-fn put_fault(fault: usize, said: &mut [u8]) -> usize {
+// What can be wrong with the words, in the order of `arguments::Fault`.
+fn put_fault(fault: Fault, said: &mut [u8]) -> usize {
     command_texts::put_line(
         b"\
-see 'j8 help'
 there is no such command
 there is no such option here
 one file at most
@@ -43,7 +40,7 @@ a file's name may have 4,095 bytes
 --pieces takes a number from 1 to 4096
 --line goes with neither --lines nor -0
 ",
-        fault,
+        fault as usize,
         0,
         said,
     )
@@ -52,32 +49,28 @@ a file's name may have 4,095 bytes
 // The argument that it is about, if any.
 fn put_wrong<E: Env>(
     words: &E,
-    i: usize,
+    argument: Option<usize>,
     at: usize,
     store: &mut [u8],
     said: &mut [u8],
     line: &mut [u8],
 ) -> usize {
-    if i == 0 {
+    let Some(i) = argument else {
         return at;
-    }
+    };
     let e = command_texts::put(b": ", at, said);
     put_argument(words, i, e, store, said, line)
 }
 
 fn put_misuse<E: Env>(
     words: &E,
-    fault: usize,
-    i: usize,
+    wrong: Wrong,
     store: &mut [u8],
     said: &mut [u8],
     line: &mut [u8],
 ) -> usize {
-    if fault == 0 {
-        return 0;
-    }
-    let a = put_fault(fault, said);
-    let b = put_wrong(words, i, a, store, said, line);
+    let a = put_fault(wrong.fault, said);
+    let b = put_wrong(words, wrong.argument, a, store, said, line);
     command_texts::put(b" (see 'j8 help')", b, said)
 }
 
@@ -116,65 +109,28 @@ const ENAMETOOLONG: i32 = 36;
 
 const ELOOP: i32 = 40;
 
-// The line of an error of reading or writing in `put_reason`, or 0 for any other.
-fn moving_reason(error: i32) -> usize {
-    if error == ENOSPC {
-        return 9;
-    }
-    if error == EPIPE {
-        return 10;
-    }
-    if error == EIO {
-        return 11;
-    }
-    if error == EBADF {
-        return 12;
-    }
-    if error == EFBIG {
-        return 13;
-    }
-    if error == EINVAL {
-        return 14;
-    }
-    if error == EINTR {
-        return 15;
-    }
-    if error == EAGAIN {
-        return 16;
-    }
-    if error == ENOMEM {
-        return 17;
-    }
-    0
-}
-
-// The same of an error of opening or of any other.
+// The line of an error in `put_reason`, the first for any other.
 fn reason_of(error: i32) -> usize {
-    if error == ENOENT {
-        return 1;
+    match error {
+        ENOENT => 1,
+        EACCES => 2,
+        EISDIR => 3,
+        ENOTDIR => 4,
+        EPERM => 5,
+        EMFILE => 6,
+        ELOOP => 7,
+        ENAMETOOLONG => 8,
+        ENOSPC => 9,
+        EPIPE => 10,
+        EIO => 11,
+        EBADF => 12,
+        EFBIG => 13,
+        EINVAL => 14,
+        EINTR => 15,
+        EAGAIN => 16,
+        ENOMEM => 17,
+        _ => 0,
     }
-    if error == EACCES {
-        return 2;
-    }
-    if error == EISDIR {
-        return 3;
-    }
-    if error == ENOTDIR {
-        return 4;
-    }
-    if error == EPERM {
-        return 5;
-    }
-    if error == EMFILE {
-        return 6;
-    }
-    if error == ELOOP {
-        return 7;
-    }
-    if error == ENAMETOOLONG {
-        return 8;
-    }
-    moving_reason(error)
 }
 
 // What the system says of an error, in its own words.
@@ -209,14 +165,14 @@ Cannot allocate memory
 // The input: standard input, or the file's name, quoted.
 fn put_input<E: Env>(
     words: &E,
-    file: usize,
+    file: Option<usize>,
     store: &mut [u8],
     said: &mut [u8],
     line: &mut [u8],
 ) -> usize {
-    if file == 0 {
+    let Some(file) = file else {
         return command_texts::put(b"standard input", 0, said);
-    }
+    };
     let n = command_texts::within(words.arg(file, store).unwrap_or(0), store);
     if same(&store[..n], b"-") {
         return command_texts::put(b"standard input", 0, said);
@@ -226,7 +182,7 @@ fn put_input<E: Env>(
 
 fn put_unread<E: Env>(
     words: &E,
-    file: usize,
+    file: Option<usize>,
     error: i32,
     store: &mut [u8],
     said: &mut [u8],
@@ -269,7 +225,7 @@ fn put_mixed(n: usize, o: Options, said: &mut [u8]) -> usize {
 fn put_beside(number: u32, command: Command, at: usize, said: &mut [u8]) -> usize {
     match command {
         Command::Quote => {
-            if number == refusals::NO_ROOM {
+            if number == Refusal::NoRoom.number() {
                 return command_texts::put(b": a J8 string may have 32,768 bytes", at, said);
             }
             command_texts::put(b": no upload could read this name back", at, said)
@@ -297,7 +253,8 @@ fn put_outcome<E: Env>(
         Outcome::Refused(number, _, _) => put_refused(number, command, said),
         Outcome::Long(n) => put_long(n, said),
         Outcome::Mixed(n) => put_mixed(n, o, said),
-        Outcome::Misused(fault, i) => put_misuse(words, fault, i, store, said, line),
+        Outcome::Misused(None) => 0,
+        Outcome::Misused(Some(wrong)) => put_misuse(words, wrong, store, said, line),
         Outcome::Unread(error) => put_unread(words, o.file, error, store, said, line),
         Outcome::Unwritten(error) => put_unwritten(error, said),
     }
@@ -312,13 +269,9 @@ fn head_of(outcome: Outcome) -> Head {
 
 // A line on standard error. If that can't be written there is nobody to tell.
 fn say_line(errors: Stderr, head: Head, sentence: &[u8], json: bool, line: &mut [u8]) {
-    let written = messages_write::write(head, sentence, json, line);
-    match written {
-        Written::Wrote(n) => {
-            let k = command_texts::within(n, line);
-            let _ = errors.write_all(&line[..k]).map_err(outputs::number_of);
-        }
-        Written::Refused(_) => {}
+    if let Ok(n) = messages_write::write(head, sentence, json, line) {
+        let k = command_texts::within(n, line);
+        let _ = errors.write_all(&line[..k]).map_err(outputs::number_of);
     }
 }
 
@@ -345,10 +298,10 @@ fn say_empty(errors: Stderr, empty: bool, o: Options, said: &mut [u8], line: &mu
     say(errors, Head::Note, n, o, said, line)
 }
 
-fn say_mark(errors: Stderr, mark: usize, o: Options, said: &mut [u8], line: &mut [u8]) {
-    if mark == 0 {
+fn say_mark(errors: Stderr, mark: Option<usize>, o: Options, said: &mut [u8], line: &mut [u8]) {
+    let Some(mark) = mark else {
         return;
-    }
+    };
     let a = command_texts::put(b"line ", 0, said);
     let b = command_texts::put_number(mark, a, said);
     let c = command_texts::put(
@@ -359,16 +312,11 @@ fn say_mark(errors: Stderr, mark: usize, o: Options, said: &mut [u8], line: &mut
     say(errors, Head::Note, c, o, said, line)
 }
 
-// The place of a refusal 13, or a place that no text has.
-fn misplaced_at(outcome: Outcome) -> usize {
+// The place of a refusal 13.
+fn misplaced_at(outcome: Outcome) -> Option<usize> {
     match outcome {
-        Outcome::Refused(number, _, place) => {
-            if number == refusals::MISPLACED {
-                return place;
-            }
-            TEXT_MAX
-        }
-        _ => TEXT_MAX,
+        Outcome::Refused(number, _, place) if number == Refusal::Misplaced.number() => Some(place),
+        _ => None,
     }
 }
 
@@ -384,11 +332,10 @@ fn put_all<E: Env>(
     line: &mut [u8],
 ) -> usize {
     let outcome = run.outcome;
-    let place = misplaced_at(outcome);
-    if place < TEXT_MAX {
-        return misplaced::put(place, run.size, text, table, store, said, line);
+    match misplaced_at(outcome) {
+        Some(place) => misplaced::put(place, run.size, text, table, store, said, line),
+        None => put_outcome(words, outcome, command, o, store, said, line),
     }
-    put_outcome(words, outcome, command, o, store, said, line)
 }
 
 // What was put together, and a note behind it.
@@ -396,7 +343,7 @@ fn say_last(
     errors: Stderr,
     outcome: Outcome,
     n: usize,
-    mark: usize,
+    mark: Option<usize>,
     o: Options,
     said: &mut [u8],
     line: &mut [u8],
