@@ -2,6 +2,7 @@
 -- Assumes nothing.
 use Rattle.std.specs.Prelude.{ℕ, ◌/◌, Bool, List, ◌≡◌, length}
 use Rattle.prelude.specs.Limits.{column_max}
+use Rattle.prelude.specs.Refusals.{number_of}
 use Rattle.tsv8.specs.Read.{SheetRead, read, unread}
 use Rattle.tsv8.specs.Answers.{read_text}
 use Rattle.command_outputs.specs.declared.outcomes.Outcome.{Outcome}
@@ -17,5 +18,5 @@ log_of table store text = read_text (record { names = column_max; types = column
 abbrev pub Listed : List ℕ → SheetRead → Bool → List ℕ → List ℕ → Outcome → List ℕ → List ℕ → Type 0
 Listed text (read ns ts cs bs) terminal page shown o page' shown' =
     AllPrinted (line_at text ns cs bs) (length cs) terminal page shown o page' shown'
-Listed text (unread number place) terminal page shown o page' shown' =
-    (o ≡ refused_at text number place) × (page' ≡ page) × (shown' ≡ shown)
+Listed text (unread refusal place) terminal page shown o page' shown' =
+    (o ≡ refused_at text (number_of refusal) place) × (page' ≡ page) × (shown' ≡ shown)

@@ -15,7 +15,6 @@ use command_outputs::pages::Page;
 use command_outputs::{outcomes, pages};
 use prelude::slices;
 use std::rt::Stdout;
-use tsv8::answers::Sheet;
 use tsv8::read;
 
 // Three numbers for each of 64 names, and one for each type: every log's find room.
@@ -143,11 +142,19 @@ pub fn list(
 {
     let mut names = [0u32; NAMES];
     let mut types = [0u32; TYPES];
-    let sheet = read::read(text, &mut names, &mut types, table, store);
-    match sheet {
-        Sheet::Done(columns, count, _) => list_cells(
-            output, count, columns, text, terminal, &names, table, store, page, shown,
+    match read::read(text, &mut names, &mut types, table, store) {
+        Ok(sheet) => list_cells(
+            output,
+            sheet.cells,
+            sheet.columns,
+            text,
+            terminal,
+            &names,
+            table,
+            store,
+            page,
+            shown,
         ),
-        Sheet::Refused(number, place) => outcomes::refused_at(text, number, place),
+        Err(f) => outcomes::refused_at(text, f.refusal.number(), f.place),
     }
 }
