@@ -13,14 +13,16 @@ use lib.Seq.{take-append_seam, drop-append_seam}
 use borrow.Author.Tests.{leb-true, le-leb, le-ltb, ltb-false}
 use Rattle.prelude.specs.Limits.{text_max, column_max}
 use Rattle.prelude.specs.Pick.{pick}
-use Rattle.prelude.specs.Refusals.{too_long, no_room}
+use Rattle.prelude.specs.declared.refusals.Refusal.{Refusal}
+use Rattle.prelude.specs.Refusals.{too_long, no_room, number_of}
 use Rattle.prelude.proofs.Cases.{split, never, and_left, and_right}
-use Rattle.prelude.proofs.Numbers.{text_apart}
-use Rattle.tsv8_cells.specs.Types.{ColumnType, type_number}
+use Rattle.prelude.proofs.Numbers.{number_positive, number_injective}
+use Rattle.tsv8_cells.specs.declared.columns.ColumnType.{ColumnType}
+use Rattle.tsv8_cells.specs.Types.{type_number}
 use Rattle.tsv8_cells.specs.Cells.{Cell}
 use Rattle.tsv8.specs.Read.{SheetRead, read, unread, read_all}
 use Rattle.tsv8.specs.Answers.{Rooms, rooms_of, has_room, fitted, read_text, flat, front}
-use Rattle.tsv8_claims.specs.Claims.{Accepted, cell_max, Numbered}
+use Rattle.tsv8_claims.specs.Claims.{Accepted, cell_max}
 use Rattle.tsv8_claims.proofs.Claims.{accepted_in_any_room, columns_counted, places_inside, refusals_numbered, refusals_placed, no_larger_than_the_text, cells_take_bytes, cells_counted, rooms_suffice, ranges_inside, names_are_strs, kinds_fit_types, texts_fit_types, cells_show_their_texts}
 use Rattle.tsv8_claims.proofs.Counting.{flat_length}
 use Rattle.structs.specs.declared.sheets.J8Sheet.{J8Sheet}
@@ -95,9 +97,9 @@ module _ (text names types cells store : List ℕ) where
         cells = front (flat cs) cells;
         store = front bs store;
       }))
-      → ((number at : ℕ) → read_text rooms text ≡ unread number at
+      → ((refusal : Refusal) (at : ℕ) → read_text rooms text ≡ unread refusal at
       → P (record {
-        result = record { number = number; place = at; columns = 0; cells = 0; stored = 0 };
+        result = record { number = number_of refusal; place = at; columns = 0; cells = 0; stored = 0 };
         names = names;
         types = types;
         cells = cells;
@@ -108,7 +110,7 @@ module _ (text names types cells store : List ℕ) where
     where
       go : (q : SheetRead) → read_text rooms text ≡ q → P ran
       go (read ns ts cs bs) e = rw e (f ns ts cs bs e)
-      go (unread number at) e = rw e (g number at e)
+      go (unread refusal at) e = rw e (g refusal at e)
 
   -- a call on an accepted text
   module _ (ns : List Cell) (ts : List ColumnType) (cs : List Cell) (bs : List ℕ) (e : read_text rooms text ≡ read ns ts cs bs) where
@@ -172,25 +174,20 @@ module _ (text names types cells store : List ℕ) where
               };
         }
 
-  -- a refusal's number isn't 0
-  refusal_number : (n : ℕ) → Numbered n → n ≡ 0 → ⊥
-  refusal_number n (inl a) z = omega arith
-  refusal_number n (inr (inl a)) z = omega (arith, (text_apart n a).0)
-  refusal_number n (inr (inr (inl a))) z = omega (arith, a.0)
-  refusal_number n (inr (inr (inr a))) z = omega arith
-
   pub sheet_done : ran.result.number ≡ 0 → SheetDone text ran names types cells store
   sheet_done =
       by_read (λ r. r.result.number ≡ 0 → SheetDone text r names types cells store) (λ ns ts cs bs e z. done ns ts cs bs e)
-      (λ number at e z. absurd (refusal_number number (refusals_numbered rooms text number at e) z))
+      (λ refusal at e z. absurd (omega (arith, z, number_positive refusal)))
 
   pub done_or_refused : (ran.result.number ≡ 0) ⊎ SheetRefused text ran names types cells store
   done_or_refused =
       by_read (λ r. (r.result.number ≡ 0) ⊎ SheetRefused text r names types cells store) (λ ns ts cs bs e. inl refl)
-      (λ number at e. inr (record {
-        numbered = refusals_numbered rooms text number at e;
-        inside = omega (arith, places_inside rooms text number at e);
-        placed = refusals_placed rooms text number at e;
+      (λ refusal at e. inr (record {
+        refusal = refusal;
+        told = refl;
+        numbered = refusals_numbered rooms text refusal at e;
+        inside = omega (arith, places_inside rooms text refusal at e);
+        placed = refusals_placed rooms text refusal at e;
         no_columns = refl;
         no_cells = refl;
         nothing_stored = refl;
@@ -222,15 +219,15 @@ module _ (s : List ℕ) where
   faultless : (r : Rooms) (l : length s ≤ text_max) (q : SheetRead) → read_all s ≡ q → (at : ℕ) → fitted r q ≡ unread no_room at → Held
   unfolding read_text pick
   faultless r l (read ns ts cs bs) e at h = (ns, (ts, (cs, (bs, record { short = l; accepted = e }))))
-  faultless r l (unread number p) e at h =
-      let z : number ≡ no_room = cc in
+  faultless r l (unread refusal p) e at h =
+      let z : refusal ≡ no_room = cc in
       let f : read_text ample s ≡ unread no_room p = rw (le-ltb text_max (length s) l, e, z) in
       absurd (rooms_suffice ample (lit≤ tt) (lit≤ tt) (lit≤ tt) (lit≤ tt) s p f)
 
   no_room_left : (r : Rooms) (at : ℕ) → read_text r s ≡ unread no_room at → Held
   unfolding read_text pick
   no_room_left r at h =
-      split (ltb text_max (length s)) (λ g. let z = rw g at h in let n : too_long ≡ no_room = cc in absurd (omega (arith, n)))
+      split (ltb text_max (length s)) (λ g. let z = rw g at h in let n : too_long ≡ no_room = cc in absurd (omega (arith, ap number_of n)))
       (λ g. faultless r (ltb-false text_max (length s) g) (read_all s) refl at (rw g at h))
 
   -- how much an accepted text can hold
@@ -287,7 +284,7 @@ stored_length : SheetCalls (λ text r. length (read_store r) ≡ r.result.stored
 stored_length text names types cells store =
     by_read text names types cells store (λ r. r.result.number ≡ 0 → length (read_store r) ≡ r.result.stored)
     (λ ns ts cs bs e z. ap (λ (w : List ℕ). length w) (take-append_seam bs (drop (length bs) store)))
-    (λ number at e z. refl)
+    (λ refusal at e z. refl)
 
 pub ranges_in : CRangesInside
 ranges_in text names types cells store z =
@@ -304,17 +301,17 @@ pub texts_shown : CCellsShowTheirTexts
 texts_shown text names types cells store z = (of_buffers _ cells_show_their_texts text names types cells store z).1.1
 
 module _ (text names types cells store : List ℕ) where
-  pub room_last : (tsv8_read text names types cells store).result.number ≡ no_room → Held text
+  pub room_last : (tsv8_read text names types cells store).result.number ≡ number_of no_room → Held text
   room_last =
-      by_read text names types cells store (λ r. r.result.number ≡ no_room → Held text)
-      (λ ns ts cs bs e z. let n : 0 ≡ no_room = z in absurd (omega (arith, n)))
-      (λ number at e z. no_room_left text (rooms_of names types cells store) at (rw (sym z) e))
+      by_read text names types cells store (λ r. r.result.number ≡ number_of no_room → Held text)
+      (λ ns ts cs bs e z. let n : 0 ≡ number_of no_room = z in absurd (omega (arith, n)))
+      (λ refusal at e z. no_room_left text (rooms_of names types cells store) at (e ∙ ap (λ (r : Refusal). unread r at) (number_injective refusal no_room z)))
 
   pub room_enough : names_room ≤ length names → types_room ≤ length types
       → (cells_room ≤ length cells) ⊎ (text_cells_room (length text) ≤ length cells) → store_room (length text) ≤ length store
-      → (tsv8_read text names types cells store).result.number ≡ no_room → ⊥
+      → (tsv8_read text names types cells store).result.number ≡ number_of no_room → ⊥
   room_enough a b c d z =
       let (ns, (ts, (cs, (bs, h)))) = room_last z in
       let e = ap (λ (r : J8Sheet). r.number)
       (sheet_read text names types cells store ns ts cs bs h (ample_room text ns ts cs bs h names types cells store a b c d)) in
-      let n : 0 ≡ no_room = sym e ∙ z in omega (arith, n)
+      let n : 0 ≡ number_of no_room = sym e ∙ z in omega (arith, n)

@@ -3,34 +3,24 @@
 use Prim.Native.Nat.{ℕ}
 use mathlib.Core.Bool.{true}
 use mathlib.Core.List.{List}
-use mathlib.Core.Logic.{inl, inr}
 use mathlib.Core.Path.{◌≡◌, refl}
 use native.Mathlib.Omega.{arith}
 use lib.ListN.{length, take, drop}
 use lib.Seq.{take-append_seam}
-use Rattle.prelude.proofs.Numbers.{text_apart}
+use Rattle.prelude.proofs.Numbers.{number_positive}
 use Rattle.utf8.specs.Utf8.{valid_utf8}
 use Rattle.notation.specs.declared.styles.Style.TheVariants.{Unicode}
 use Rattle.notation.specs.Marks.{opens, opening}
 use Rattle.strings.specs.Read.{StringRead, accepted, refused, read_text, decoded_of, read_into}
 use Rattle.string_claims.proofs.Claims.{unicode_is_utf8}
-use Rattle.string_claims.specs.Claims.{Numbered}
-use Rattle.string_claims.proofs.Numbers.{ReadNumbered, text_numbered}
 use Rattle.structs.specs.Results.{decoded_result}
 use Rattle.j8.specs.Runs.{string_read}
 
--- a refusal's number isn't 0
-told_apart : (number : ℕ) → Numbered number → number ≡ 0 → ⊥
-told_apart number (inl e) z = omega arith
-told_apart number (inr (inl e)) z = omega arith
-told_apart number (inr (inr (inl f))) z = omega (arith, (text_apart number f).0)
-told_apart number (inr (inr (inr e))) z = omega arith
-
 pub unicode_read : (text out : List ℕ) (n : ℕ) → opening text ≡ opens Unicode n → (string_read text out).result.number ≡ 0
     → valid_utf8 (take (string_read text out).result.length (string_read text out).out) ≡ true
-unicode_read text out n o z = go (read_text (length out) text) refl (text_numbered (length out) text) z
+unicode_read text out n o z = go (read_text (length out) text) refl z
   where
-    go : (r : StringRead) → read_text (length out) text ≡ r → ReadNumbered r → (decoded_result (decoded_of r)).number ≡ 0
+    go : (r : StringRead) → read_text (length out) text ≡ r → (decoded_result (decoded_of r)).number ≡ 0
         → valid_utf8 (take (decoded_result (decoded_of r)).length (read_into r out)) ≡ true
-    go (accepted bs e) q f z = rw (take-append_seam bs (drop (length bs) out)) (unicode_is_utf8 (length out) text bs n e o q)
-    go (refused number at) q f z = absurd (told_apart number f z)
+    go (accepted bs e) q z = rw (take-append_seam bs (drop (length bs) out)) (unicode_is_utf8 (length out) text bs n e o q)
+    go (refused refusal at) q z = absurd (omega (arith, z, number_positive refusal))

@@ -3,7 +3,7 @@
 use Rattle.std.specs.Prelude.{ℕ, ◌*◌, ◌/◌, ◌≤◌, true, false, List, [], ◌++◌, map, ◌⊎◌, ◌≡◌, length, take, drop}
 use Rattle.prelude.specs.Bytes.{IsBytes}
 use Rattle.prelude.specs.Limits.{text_max, line_max, upload_max, column_max}
-use Rattle.prelude.specs.Refusals.{no_room}
+use Rattle.prelude.specs.Refusals.{no_room, number_of}
 use Rattle.utf8.specs.Utf8.{valid_utf8}
 use Rattle.notation.specs.declared.styles.Style.TheVariants.{Unicode}
 use Rattle.notation.specs.Marks.{opens, opening}
@@ -18,11 +18,12 @@ use Rattle.j8_lines.specs.Lists.{Call, joined, finished, defined}
 use Rattle.j8_lines.specs.Lines.{cut}
 use Rattle.string_claims.specs.Claims.{Numbered as StringNumbered}
 use Rattle.json8.specs.Claims.{Numbered as TableNumbered}
-use Rattle.upload_claims.specs.Claims.{Answered, defined_answers, Finished, first_refusal, EndedWith, Within}
+use Rattle.upload_claims.specs.Claims.{NumberOf, Answered, defined_answers, Finished, first_refusal, EndedWith, Within}
 use Rattle.structs.specs.Results.{done, refusal}
 use Rattle.structs.specs.Uploads.{answer_of, given}
 use Rattle.tsv8_cells.specs.Parts.{lines_of}
-use Rattle.tsv8_cells.specs.Types.{ColumnType, strs}
+use Rattle.tsv8_cells.specs.declared.columns.ColumnType.{ColumnType}
+use Rattle.tsv8_cells.specs.declared.columns.ColumnType.TheVariants.{Str as strs}
 use Rattle.tsv8_cells.specs.Cells.{Cell}
 use Rattle.tsv8_claims.specs.Claims.{Each, InRange, KindFits, TextFits, Table, OneForOne, Shows, name_parts, data_parts}
 use Rattle.j8.specs.Runs.{Ran, string_write, string_read, lines_write, sentence_write, json8_write, RanNodes, json8_read, RanSheet, tsv8_read, RanCall, ran_call}
@@ -101,12 +102,12 @@ CTablesReturn =
 
 -- include/j8.h, "Each call can answer only these": 0, or what its text can be refused with; `j8_tsv8_read` by `CSheetsDoneOrRefused`
 abbrev pub CStringsNumbered : Type 0
-CStringsNumbered = (text out : List ℕ) → ((string_read text out).result.number ≡ 0) ⊎ StringNumbered (string_read text out).result.number
+CStringsNumbered = (text out : List ℕ) → ((string_read text out).result.number ≡ 0) ⊎ NumberOf StringNumbered (string_read text out).result.number
 
 abbrev pub CTablesNumbered : Type 0
 CTablesNumbered =
     (text table store : List ℕ)
-    → ((json8_read text table store).result.number ≡ 0) ⊎ TableNumbered (json8_read text table store).result.number
+    → ((json8_read text table store).result.number ≡ 0) ⊎ NumberOf TableNumbered (json8_read text table store).result.number
 
 -- the last call of every list that begins with `j8_upload_fresh()`, so each call
 abbrev pub CCallsNumbered : Type 0
@@ -120,10 +121,10 @@ CExampleFaults = (out table store names types cells : List ℕ) → Every (Passe
 abbrev pub CFaultsInOrder : Type 0
 CFaultsInOrder =
     (out table store names types cells : List ℕ)
-    → Every (λ (e : Ordered). (string_read e.text out).result ≡ refusal e.number e.place) ordered_strings
-    × Every (λ (e : Ordered). (json8_read e.text table store).result ≡ record { number = e.number; place = e.place; nodes = 0; stored = 0 }) ordered_tables
+    → Every (λ (e : Ordered). (string_read e.text out).result ≡ refusal e.refusal e.place) ordered_strings
+    × Every (λ (e : Ordered). (json8_read e.text table store).result ≡ record { number = number_of e.refusal; place = e.place; nodes = 0; stored = 0 }) ordered_tables
     × Every
-    (λ (e : Ordered). (tsv8_read e.text names types cells store).result ≡ record { number = e.number; place = e.place; columns = 0; cells = 0; stored = 0 })
+    (λ (e : Ordered). (tsv8_read e.text names types cells store).result ≡ record { number = number_of e.refusal; place = e.place; columns = 0; cells = 0; stored = 0 })
     ordered_sheets
 
 -- J8_SENTENCE_ROOM bytes hold the sentence of every number
@@ -191,7 +192,7 @@ CSheetsDoneOrRefused =
 -- "last 12": only a text without any fault has it
 abbrev pub CRoomIsLast : Type 0
 CRoomIsLast =
-    (text names types cells store : List ℕ) → (tsv8_read text names types cells store).result.number ≡ no_room
+    (text names types cells store : List ℕ) → (tsv8_read text names types cells store).result.number ≡ number_of no_room
     → (ns : List Cell) × ((ts : List ColumnType) × ((cs : List Cell) × ((bs : List ℕ) × TextHolds text ns ts cs bs)))
 
 -- the rooms of include/j8.h always suffice
@@ -199,4 +200,4 @@ abbrev pub CSheetsHaveRoom : Type 0
 CSheetsHaveRoom =
     (text names types cells store : List ℕ) → names_room ≤ length names → types_room ≤ length types
     → (cells_room ≤ length cells) ⊎ (text_cells_room (length text) ≤ length cells) → store_room (length text) ≤ length store
-    → (tsv8_read text names types cells store).result.number ≡ no_room → ⊥
+    → (tsv8_read text names types cells store).result.number ≡ number_of no_room → ⊥

@@ -2,7 +2,10 @@
 -- Assumes nothing.
 use Rattle.std.specs.Prelude.{ℕ, zero, suc, ◌*◌, ◌/◌, ◌≤◌, List, [], ◌∷◌, map, ◌≡◌, length, get_or, take, drop}
 use Rattle.prelude.specs.Limits.{text_max, column_max}
-use Rattle.tsv8_cells.specs.Types.{ColumnType, type_number}
+use Rattle.prelude.specs.declared.refusals.Refusal.{Refusal}
+use Rattle.prelude.specs.Refusals.{number_of}
+use Rattle.tsv8_cells.specs.declared.columns.ColumnType.{ColumnType}
+use Rattle.tsv8_cells.specs.Types.{type_number}
 use Rattle.tsv8_cells.specs.Cells.{Cell, cell}
 use Rattle.tsv8.specs.Read.{read, read_all}
 use Rattle.tsv8_claims.specs.Claims.{Numbered, Placed}
@@ -56,11 +59,13 @@ pub record SheetDone (text : List ℕ) (r : RanSheet) (names types cells store :
   pub at_place : r.result.place ≡ 0
   pub kept : RestKept r names types cells store
 
--- "a refused text leaves the lent result as it was": one number and its place, no counts, and all four buffers as they were
+-- "a refused text leaves the lent result as it was": one refusal's number and its place, no counts, and all four buffers as they were
 pub record SheetRefused (text : List ℕ) (r : RanSheet) (names types cells store : List ℕ) : Type 0 where
-  pub numbered : Numbered r.result.number
+  pub refusal : Refusal
+  pub told : r.result.number ≡ number_of refusal
+  pub numbered : Numbered refusal
   pub inside : r.result.place ≤ length text
-  pub placed : Placed text r.result.number r.result.place
+  pub placed : Placed text refusal r.result.place
   pub no_columns : r.result.columns ≡ 0
   pub no_cells : r.result.cells ≡ 0
   pub nothing_stored : r.result.stored ≡ 0
