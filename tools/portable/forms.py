@@ -11,7 +11,7 @@ import re
 from dataclasses import dataclass
 
 from mir import Array, Bool, Int, Named, Ref, Slice, Unit, items, need, number, parts
-from shapes import c_name, pointee, size
+from shapes import c_name, is_tag, pointee, size
 
 
 @dataclass
@@ -43,7 +43,7 @@ class Variant:
 
 def same(want, got, what):
     """A value of one type may be stored where the other is wanted: both are equal, or both point to the same integers and what is const stays so."""
-    if isinstance(want, Ref) and isinstance(got, Ref) and isinstance(want.to, Named):
+    if isinstance(want, Ref) and isinstance(got, Ref) and isinstance(want.to, Named) and not is_tag(want.to):
         need(want.to == got.to and (got.mutable or not want.mutable), what, "is", got, "and not", want)
     elif isinstance(want, Ref) and isinstance(got, Ref):
         need(pointee(want.to) == pointee(got.to) and (got.mutable or not want.mutable), what, "is", got, "and not", want)
@@ -75,6 +75,9 @@ def field_step(w, spot, k):
         if k == 1:
             return Value(spot.text + ".len", Int(64), "", spot.checks)
         return Value(spot.text + ".at", Ref(spot.type.mutable, spot.type.of), times("%s.len" % spot.text, size(spot.type.of)), spot.checks)
+    if isinstance(spot.type, Variant) and is_tag(spot.type.enum):
+        need(k == 0, "a field of a tag")
+        return Value(spot.text, Int(8), "", spot.checks, spot.behind)
     if isinstance(spot.type, Variant):
         name, ty = w.shapes.variant_field(spot.type.enum, spot.type.number, k)
         live = ("%s.tag == %d" % (spot.text, spot.type.number),) if k > 0 else ()
@@ -85,9 +88,10 @@ def field_step(w, spot, k):
 
 
 def reached(spot):
-    """A place behind a pointer to a struct as that struct; C's pointer has its type."""
+    """A place behind a pointer to a struct or a tag as that; C's pointer has its type."""
     if isinstance(spot.type, Behind) and isinstance(spot.type.to, Named):
-        return Value("(*%s)" % spot.text, spot.type.to, "", spot.checks, spot.type.mutable)
+        inside = (within(spot, 1),) if is_tag(spot.type.to) else ()
+        return Value("(*%s)" % spot.text, spot.type.to, "", spot.checks + inside, spot.type.mutable)
     return spot
 
 
@@ -103,7 +107,7 @@ def deref_step(w, spot, to):
     element, which is the step's."""
     to = w.type_of(to)
     need(isinstance(spot.type, Ref), "a deref of", spot.type)
-    if isinstance(to, Named):
+    if isinstance(to, Named) and not is_tag(to):
         need(to == spot.type.to, "a deref of", spot.type, "at", to)
         return Value(spot.text, Behind(spot.type.mutable, to), "", spot.checks)
     first = pointee(spot.type.to) if isinstance(spot.type.to, Array) else None
@@ -243,7 +247,7 @@ def offset(a, b, target):
     to = pointee(a.type.to)
     same(target.type, Ref(a.type.mutable, to), "offset")
     text = "%s + (size_t)%s" % (a.text, b.text)
-    if to != Int(8):
+    if size(to) != 1:
         const = "" if a.type.mutable else "const "
         text = "(%suint%d_t *)(%svoid *)((%suint8_t *)%s)" % (const, to.width, const, const, text)
     return Value(text, Ref(a.type.mutable, to), "%s - %s" % (a.room, b.text), a.checks + b.checks + asked("%s <= %s" % (b.text, a.room)))
@@ -323,7 +327,7 @@ def address(w, term):
     if isinstance(spot.type, Array):
         return Value(spot.text + ".e", ty, str(size(spot.type)), spot.checks)
     need(isinstance(spot.type, (Int, Named)), "the address of", spot.type)
-    return Value("&" + spot.text, ty, str(size(spot.type)) if isinstance(spot.type, Int) else "", spot.checks)
+    return Value("&" + spot.text, ty, str(size(spot.type)) if isinstance(spot.type, Int) or is_tag(spot.type) else "", spot.checks)
 
 
 def aggregate_right(w, term, target):
@@ -334,6 +338,8 @@ def aggregate_right(w, term, target):
     need(len(types) == len(values), "an aggregate of", len(values), "parts for", ty)
     for want, value in zip(types, values):
         same(want, value.type, value.text)
+    if is_tag(ty):
+        return Value(values[0].text, ty)
     checks = sum((value.checks for value in values), ())
     if isinstance(ty, Slice):
         checks += asked("%s <= %s" % (times(values[1].text, size(ty.of)), values[0].room))
@@ -363,7 +369,7 @@ def repeat_right(w, term, target):
     only, count = parts(term, "repeat", 2)
     value = operand(w, only)
     need(isinstance(target.type, Array) and target.type.count == number(count) and target.type.of == value.type, "repeat", term, "for", target.type)
-    need(only[0] == "int", "repeat of", only)
+    w.check(value.checks)
     w.line("for (uint64_t i = 0; i < %s; i++) {" % count)
     w.line("    %s.e[i] = %s;" % (target.text, value.text))
     w.line("}")
@@ -401,11 +407,11 @@ def assign(w, term):
     need(right[0] in RIGHT, "unknown right-hand side", right)
     checks, pointer = target.checks, isinstance(target.type, Behind)
     if pointer:
-        need(target.type.mutable and isinstance(target.type.to, Int), "a store to", target.type)
+        need(target.type.mutable and (isinstance(target.type.to, Int) or is_tag(target.type.to)), "a store to", target.type)
         checks += (within(target, size(target.type.to)),)
         target = Value("*" + target.text, target.type.to)
     if target.type == Unit():
-        need(right[0] == "rv_opd" and operand(w, right[1]).type == Unit(), "a unit's value", right)
+        need(right == ["aggregate", ["list"]] or right[0] == "rv_opd" and operand(w, right[1]).type == Unit(), "a unit's value", right)
         return
     need(not isinstance(target.type, Variant), "a store to a variant")
     value = RIGHT[right[0]](w, right, target)

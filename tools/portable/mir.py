@@ -184,8 +184,14 @@ def slice_type(term):
     return Slice(fields[0].mutable, fields[0].to)
 
 
+# The structs without fields: a value of one is a unit.
+NOTHING = set()
+
+
 def named_type(term):
     symbol, lifetimes, types = parts(term, "ty_named", 3)
+    if str(symbol) in NOTHING:
+        return Unit()
     need(items(lifetimes) == [], "a declared type with lifetimes:", term)
     return Named(str(symbol), tuple(type_of(one) for one in items(types)))
 
@@ -247,8 +253,9 @@ def program_of(source, wanted):
         symbol = str(parts(one, "fn_def", 3)[0])
         need(symbol not in terms, "two functions are named", symbol)
         terms[symbol] = one
-    program = Program({}, {})
-    for symbol in reached(terms, wanted):
+    program, order = Program({}, {}), reached(terms, wanted)
+    NOTHING.update(str(entry[1]) for symbol in order for entry in items(terms[symbol][3]) if entry[3] == ["fields", ["list"]])
+    for symbol in order:
         for entry in items(terms[symbol][3]):
             name, kinds, shape = parts(entry, "entry", 3)
             need(set(items(kinds)) <= {"a_type"}, "a declared type of numbers:", entry)

@@ -9,18 +9,29 @@ def c_name(symbol):
     return symbol.replace("::", "_")
 
 
-def type_name(ty):
-    """The C name of a declared type, with those of the types that it is used at. C tells names apart by 63 letters at least."""
+def type_name(ty, inside=False):
+    """The C name of a declared type, with those of the types that it is used at: these by the last word of their paths, since C need tell names apart by 63
+    letters only."""
     if isinstance(ty, Named):
-        own = ty.symbol.split("::")[-1] if ty.symbol in STANDARD else c_name(ty.symbol)
-        return "_".join([own] + [type_name(one) for one in ty.types])
+        own = ty.symbol.split("::")[-1] if inside or ty.symbol in STANDARD else c_name(ty.symbol)
+        return "_".join([own] + [type_name(one, True) for one in ty.types])
     words = {Bool(): "bool", Unit(): "unit"}
     need(isinstance(ty, Int) or ty in words, "a declared type at", ty)
     return words.get(ty) or "u%d" % ty.width
 
 
+# The enums whose variants hold nothing: each is its tag alone, a byte.
+TAGS = set()
+
+
+def is_tag(ty):
+    return isinstance(ty, Named) and ty.symbol in TAGS
+
+
 def size(ty):
     """The bytes of what a pointer points to (logic/Prog/Memory.antt, size)."""
+    if is_tag(ty):
+        return 1
     if isinstance(ty, Array):
         return ty.count * size(ty.of)
     need(isinstance(ty, Int), "a pointer to", ty)
@@ -28,9 +39,9 @@ def size(ty):
 
 
 def pointee(ty):
-    """The element that a reference to an integer or to an array of them points to first."""
+    """The element that a reference to an integer, a tag or an array of them points to first."""
     of = ty.of if isinstance(ty, Array) else ty
-    need(isinstance(of, Int), "a pointer to", ty)
+    need(isinstance(of, Int) or is_tag(of), "a pointer to", ty)
     return of
 
 
@@ -38,7 +49,8 @@ class Shapes:
     """The C names of types; `made` has the definitions in their order."""
 
     def __init__(self, program, sources):
-        self.shapes, self.sources, self.made, self.fields = program.shapes, sources, {}, {}
+        self.shapes, self.sources, self.made, self.fields, self.named = program.shapes, sources, {}, {}, {}
+        TAGS.update(symbol for symbol, (form, held) in program.shapes.items() if form == "variants" and not any(held))
 
     def name(self, ty):
         kind = type(ty)
@@ -99,20 +111,20 @@ def unit_name(shapes, ty):
 
 def ref_name(shapes, ty):
     """vptr b o: a pointer to the first integer, or to a struct; const where nothing is stored through it."""
-    if isinstance(ty.to, Named):
+    if isinstance(ty.to, Named) and not is_tag(ty.to):
         return ("" if ty.mutable else "const ") + shapes.name(ty.to) + " *"
     return ("" if ty.mutable else "const ") + shapes.name(pointee(ty.to)) + " *"
 
 
 def array_name(shapes, ty):
     """vstruct of its elements: a struct, so that C copies, hands over and returns it as a value."""
-    name = "array_u%d_%d" % (pointee(ty).width, ty.count)
+    name = "array_%s_%d" % (type_name(pointee(ty)), ty.count)
     return shapes.define(name, [shapes.declare(ty.of, "e[%d]" % ty.count)])
 
 
 def slice_name(shapes, ty):
     """vstruct of a pointer and a count of elements."""
-    name = "slice_%su%d" % ("mut_" if ty.mutable else "", pointee(ty.of).width)
+    name = "slice_%s%s" % ("mut_" if ty.mutable else "", type_name(pointee(ty.of)))
     return shapes.define(name, [shapes.declare(Ref(ty.mutable, ty.of), "at"), "uint64_t len"])
 
 
@@ -120,9 +132,16 @@ def named_name(shapes, ty):
     """A struct is vstruct of its fields, an enum vstruct of its tag and the live variant's fields. In C every variant's fields stand side by side: gcc makes
     slower code of a union, and a field of a variant that isn't live is never read (its cells are poison, logic/Prog/Memory.antt)."""
     name = type_name(ty)
+    need(shapes.named.setdefault(name, ty) == ty, "two types are named", name)
     if name in shapes.made:
         return name
     need(ty.symbol in shapes.shapes, "no shape of", ty.symbol)
+    if is_tag(ty):
+        names = shapes.sources.variants(ty.symbol, shapes.shape(ty, "variants"))
+        shapes.fields[ty] = names
+        told = ", ".join("%d %s" % one for one in enumerate(names))
+        shapes.made[name] = "/* %s, %s: %s */\ntypedef uint8_t %s;\n" % (ty.symbol, shapes.sources.file(ty.symbol), told, name)
+        return name
     form = shapes.shapes[ty.symbol][0]
     held = shapes.shape(ty, form)
     if form == "fields":

@@ -12,7 +12,7 @@ import sys
 from forms import HELPERS, address, operand, statement
 from header import Header
 from mir import Array, Int, Named, Raw, Ref, Stop, Unit, calls_in, function_of, items, need, number, program_of, type_of
-from shapes import Shapes, c_name, size
+from shapes import Shapes, c_name, is_tag, size
 from sources import Sources
 
 HEAD = """\
@@ -93,7 +93,7 @@ class Writer:
     def room(self, at):
         """How many bytes from a local pointer on belong to what it was made from: of a reference to an array, the array's."""
         ty = self.locals[at]
-        if not isinstance(ty, Ref) or isinstance(ty.to, Named):
+        if not isinstance(ty, Ref) or isinstance(ty.to, Named) and not is_tag(ty.to):
             return ""
         return str(size(ty.to)) if isinstance(ty.to, Array) else "r%d" % at
 
