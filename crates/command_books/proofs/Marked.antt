@@ -1,6 +1,7 @@
 -- A mark is told by three bytes, one after another.
 -- Assumes nothing.
 use Rattle.std.proofs.Common.{◌≡◌, ℕ, true, false, eqb, List, get_or, sym, ap, ◌∙◌, eq-eqb, ne_eqb}
+use Rattle.std.specs.Prelude.{Some, None}
 use Rattle.prelude.proofs.Picks.{pick_true, pick_false}
 use Rattle.command_books.specs.Marks.{is_marked, marked_line}
 
@@ -21,10 +22,10 @@ module _ (s : List ℕ) {a : ℕ} (e : a ≡ get_or s 0 0) where
         ap (λ (x : ℕ). eqb x 0xbf) m
         ∙ sym (pick_true _ _ _ (eq-eqb (get_or s 0 0) 0xef (sym e ∙ g)) ∙ pick_true _ _ _ (eq-eqb (get_or s 1 0) 0xbb (sym h ∙ k)))
 
-pub marked : (s : List ℕ) (n : ℕ) → is_marked s ≡ true → n ≡ marked_line s n
+pub marked : (s : List ℕ) (n : ℕ) → is_marked s ≡ true → Some n ≡ marked_line s n
 unfolding marked_line
 marked s n e = sym (pick_true _ _ _ e)
 
-pub unmarked : (s : List ℕ) (n : ℕ) → is_marked s ≡ false → 0 ≡ marked_line s n
+pub unmarked : (s : List ℕ) (n : ℕ) → is_marked s ≡ false → None ≡ marked_line s n
 unfolding marked_line
 unmarked s n e = sym (pick_false _ _ _ e)

@@ -13,6 +13,6 @@ is_of_lines (Refused number (Text line column) place) = false
 is_of_lines (Refused number Quoted place) = false
 is_of_lines (Long size) = false
 is_of_lines (Mixed line) = true
-is_of_lines (Misused fault argument) = false
+is_of_lines (Misused wrong) = false
 is_of_lines (Unread error) = true
 is_of_lines (Unwritten error) = true

@@ -16,12 +16,12 @@ fn begins(s: &[u8]) -> bool
     slices::byte_at(s, 0, 2) == 0xbf
 }
 
-// The line n, if it begins with a mark, or 0.
-pub fn line_of(line: &[u8], n: usize) -> usize
+// The line n, if it begins with a mark.
+pub fn line_of(line: &[u8], n: usize) -> Option<usize>
     ensures { result ≡ marked_line line.now n }
 {
     if begins(line) {
-        return n;
+        return Some(n);
     }
-    0
+    None
 }

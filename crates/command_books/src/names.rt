@@ -2,16 +2,16 @@
 // that would refuse: a line that is too long, or a byte over the limit.
 use crate::uploads::{Job, Listing};
 use crate::{ends, uploads};
-use prelude::answers::Written;
 use prelude::limits::{LINE_MAX, UPLOAD_MAX};
-use prelude::{refusals, slices};
+use prelude::refusals::Refusal;
+use prelude::slices;
 use std::rt::Stdout;
 use strings_write::write;
 
-fn refused(l: Listing, number: u32, place: usize) -> Listing {
+fn refused(l: Listing, refusal: Refusal, place: usize) -> Listing {
     let mut l = l;
     let mut state = l.state;
-    state.refusal = number;
+    state.refusal = refusal.number();
     // Each name has a byte or more of the upload, so nothing wraps.
     state.line = std::num::wrapping_add_usize(state.lfs, 1);
     state.place = place;
@@ -38,10 +38,10 @@ fn put_string(
     let mut state = l.state;
     let n = string.len();
     if n > LINE_MAX {
-        return refused(l, refusals::TOO_LONG, LINE_MAX);
+        return refused(l, Refusal::TooLong, LINE_MAX);
     }
     if state.taken >= UPLOAD_MAX - n {
-        return refused(l, refusals::OVER_LIMIT, place_over(state.taken));
+        return refused(l, Refusal::OverLimit, place_over(state.taken));
     }
     state.taken = state.taken + n + 1;
     state.lfs = std::num::wrapping_add_usize(state.lfs, 1);
@@ -63,13 +63,12 @@ fn put_name(
 ) -> Listing {
     let state = l.state;
     let held = command_texts::within(state.held, line);
-    let written = write::write(&line[..held], out);
-    match written {
-        Written::Wrote(n) => {
+    match write::write(&line[..held], out) {
+        Ok(n) => {
             let n = command_texts::within(n, out);
             put_string(output, l, job, &out[..n], page, shown)
         }
-        Written::Refused(_) => refused(l, refusals::TOO_LONG, LINE_MAX),
+        Err(_) => refused(l, Refusal::TooLong, LINE_MAX),
     }
 }
 
@@ -80,7 +79,7 @@ fn hold(l: Listing, part: &[u8], line: &mut [u8]) -> Listing {
     let at = state.held;
     let held = command_texts::put(part, at, line);
     if held == at && part.len() > 0 {
-        return refused(l, refusals::TOO_LONG, LINE_MAX);
+        return refused(l, Refusal::TooLong, LINE_MAX);
     }
     state.held = held;
     l.state = state;

@@ -25,28 +25,26 @@ pub enum Job {
     Quote(u8),
 }
 
-// A job under way: its upload and page; the first line that begins with a byte order mark, and the first that can't be given (0 for none);
-// whether the input goes on, and whether it can't be read, with what the system says.
+// A job under way: its upload and page; the first line that begins with a byte order mark, and the first that can't be given; whether the input
+// goes on, and what the system says if it can't be read.
 #[derive(Clone, Copy)]
 pub struct Listing {
     pub state: Upload,
     pub page: Page,
-    pub mark: usize,
-    pub mixed: usize,
+    pub mark: Option<usize>,
+    pub mixed: Option<usize>,
     pub open: bool,
-    pub failed: bool,
-    pub error: i32,
+    pub failure: Option<i32>,
 }
 
 fn fresh(terminal: bool) -> Listing {
     Listing {
         state: Upload::fresh(),
         page: pages::fresh(terminal),
-        mark: 0,
-        mixed: 0,
+        mark: None,
+        mixed: None,
         open: true,
-        failed: false,
-        error: 0,
+        failure: None,
     }
 }
 
@@ -86,13 +84,13 @@ pub(crate) fn put_on(
 ) -> Listing {
     let mut l = l;
     if is_mixed(job, s) {
-        l.mixed = n;
+        l.mixed = Some(n);
         l.open = false;
         return l;
     }
     let p = l.page;
     let p = pages::add(output, p, form_of(job), n, s, page, shown);
-    l.open = l.open && !p.failed;
+    l.open = l.open && p.failure.is_none();
     l.page = p;
     l
 }
@@ -119,7 +117,7 @@ fn hand_on(
     }
     state.used = 0;
     l.state = state;
-    if l.mark == 0 {
+    if l.mark.is_none() {
         l.mark = marks::line_of(line, n);
     }
     put_on(output, l, job, n, &out[HEAD..used], page, shown)
@@ -197,18 +195,14 @@ fn take_piece(
 fn unread(l: Listing, error: i32) -> Listing {
     let mut l = l;
     l.open = false;
-    l.failed = true;
-    l.error = error;
+    l.failure = Some(error);
     l
 }
 
 // One read of at most so many bytes: how many there were, or what the system says.
 fn read_some<R: Read>(input: &mut R, size: usize, buf: &mut [u8]) -> Result<usize, i32> {
     let n = command_texts::within(size, buf);
-    match input.read(&mut buf[..n]) {
-        Ok(got) => Ok(got),
-        Err(error) => Err(outputs::number_of(error)),
-    }
+    input.read(&mut buf[..n]).map_err(outputs::number_of)
 }
 
 // Reads a piece of at most so many bytes, and takes it.
@@ -289,14 +283,8 @@ fn finish_book(
 
 // Whether something else than the input's end or a refusal stopped the job.
 fn is_cut(l: Listing) -> bool {
-    if l.failed {
-        return true;
-    }
-    if l.mixed != 0 {
-        return true;
-    }
     let p = l.page;
-    p.failed
+    l.failure.is_some() || l.mixed.is_some() || p.failure.is_some()
 }
 
 // The end of the input, unless something else stopped the job.
@@ -321,15 +309,15 @@ fn finish(
 fn outcome_of(l: Listing) -> Outcome
     ensures { is_of_lines result ≡ true }
 {
-    if l.failed {
-        return Outcome::Unread(l.error);
+    if let Some(error) = l.failure {
+        return Outcome::Unread(error);
     }
     let p = l.page;
-    if p.failed {
-        return Outcome::Unwritten(p.error);
+    if let Some(error) = p.failure {
+        return Outcome::Unwritten(error);
     }
-    if l.mixed != 0 {
-        return Outcome::Mixed(l.mixed);
+    if let Some(line) = l.mixed {
+        return Outcome::Mixed(line);
     }
     let state = l.state;
     if state.refusal != 0 {
@@ -339,13 +327,10 @@ fn outcome_of(l: Listing) -> Outcome
 }
 
 // The first line that begins with a mark: one that was put on the page, or the one that is refused.
-fn mark_of(l: Listing, line: &[u8]) -> usize {
+fn mark_of(l: Listing, line: &[u8]) -> Option<usize> {
     let state = l.state;
-    if l.mark != 0 {
+    if l.mark.is_some() || state.refusal == 0 {
         return l.mark;
-    }
-    if state.refusal == 0 {
-        return 0;
     }
     let held = command_texts::within(state.held, line);
     marks::line_of(&line[..held], state.line)
@@ -359,7 +344,7 @@ fn run_of(l: Listing, line: &[u8]) -> Run
         outcome: outcome_of(l),
         size: 0,
         mark: mark_of(l, line),
-        empty: state.taken == 0 && state.refusal == 0 && !l.failed,
+        empty: state.taken == 0 && state.refusal == 0 && l.failure.is_none(),
     }
 }
 
