@@ -13,12 +13,10 @@ ghost use Rattle.command_tables.specs.Runs.{ByWritten, Listed, Rewritten};
 use command_outputs::outcomes::Outcome;
 use command_outputs::pages::{Form, Page};
 use command_outputs::{outcomes, outputs, pages};
-use json8::answers::Parsed;
 use json8_read::read;
 use json8_show::show;
 use json8_show::show::Shown;
 use json8_write::write;
-use prelude::answers::Written;
 use prelude::limits::TEXT_MAX;
 use std::rt::Stdout;
 
@@ -59,10 +57,9 @@ fn print_table(
 ) -> Outcome
     ensures { ByWritten text.now (wrote_tree (length page.old) (tree_of (nodes_in table.now) text.now store.now)) result }
 {
-    let written = write::write(table, text, store, page);
-    match written {
-        Written::Wrote(n) => print_written(output, n, terminal, page, shown),
-        Written::Refused(number) => outcomes::refused_at(text, number, 0),
+    match write::write(table, text, store, page) {
+        Ok(n) => print_written(output, n, terminal, page, shown),
+        Err(refusal) => outcomes::refused_at(text, refusal.number(), 0),
     }
 }
 
@@ -80,10 +77,9 @@ pub fn rewrite(
     ensures nodes { table.new ≡ table_after (read_of (length table.old / 4) (length store.old) text.now) table.old }
     ensures bytes { store.new ≡ store_after (read_of (length table.old / 4) (length store.old) text.now) store.old }
 {
-    let parsed = read::read(text, table, store);
-    match parsed {
-        Parsed::Done(_, _) => print_table(output, text, table, store, terminal, page, shown),
-        Parsed::Refused(number, place) => outcomes::refused_at(text, number, place),
+    match read::read(text, table, store) {
+        Ok(_) => print_table(output, text, table, store, terminal, page, shown),
+        Err(f) => outcomes::refused_at(text, f.refusal.number(), f.place),
     }
 }
 
@@ -118,11 +114,14 @@ fn list_node(
     page: &mut [u8],
     shown: &mut [u8],
 ) -> Page {
-    let what = show::shown_at(table, text.len(), store.len(), node);
-    match what {
-        Shown::InText(place, size) => list_part(output, p, node, text, place, size, page, shown),
-        Shown::InStore(place, size) => list_part(output, p, node, store, place, size, page, shown),
-        Shown::Nowhere => p,
+    match show::shown_at(table, text.len(), store.len(), node) {
+        Some(Shown::InText(place, size)) => {
+            list_part(output, p, node, text, place, size, page, shown)
+        }
+        Some(Shown::InStore(place, size)) => {
+            list_part(output, p, node, store, place, size, page, shown)
+        }
+        None => p,
     }
 }
 
@@ -161,11 +160,17 @@ pub fn list(
     ensures nodes { table.new ≡ table_after (read_of (length table.old / 4) (length store.old) text.now) table.old }
     ensures bytes { store.new ≡ store_after (read_of (length table.old / 4) (length store.old) text.now) store.old }
 {
-    let parsed = read::read(text, table, store);
-    match parsed {
-        Parsed::Done(nodes, _) => list_nodes(
-            output, nodes, text, terminal, table, store, page, shown,
+    match read::read(text, table, store) {
+        Ok(parsed) => list_nodes(
+            output,
+            parsed.nodes,
+            text,
+            terminal,
+            table,
+            store,
+            page,
+            shown,
         ),
-        Parsed::Refused(number, place) => outcomes::refused_at(text, number, place),
+        Err(f) => outcomes::refused_at(text, f.refusal.number(), f.place),
     }
 }
