@@ -117,7 +117,7 @@ pub(crate) fn print(output: Stdout, command: Command) -> Outcome {
 // No word at all: the help, where it doesn't mix with an output.
 pub(crate) fn missing(errors: Stderr) -> Outcome {
     let _ = whole(&errors);
-    Outcome::Misused(0, 0)
+    Outcome::Misused(None)
 }
 
 pub(crate) fn version(output: Stdout) -> Outcome {

@@ -1,7 +1,7 @@
 // The command `j8`: prints what a backup holds, or says why it is refused, and answers a status.
 #![tactic(auto)]
 
-ghost use Rattle.std.specs.Prelude.{length, ◌≤◌};
+ghost use Rattle.std.specs.Prelude.{length, ◌≤◌, IfSome};
 
 mod help;
 mod inputs;
@@ -13,8 +13,7 @@ use command_books::{marks, uploads};
 use command_outputs::outcomes::{Outcome, Run};
 use command_reports::reports;
 use command_words::arguments;
-use command_words::arguments::{Command, Options};
-use inputs::{Filled, Input};
+use command_words::arguments::{Command, Fault, Options, Wrong};
 use prelude::slices;
 use std::io::Read;
 use std::rt::{Env, Stderr, Stdout};
@@ -24,7 +23,7 @@ fn ended(outcome: Outcome) -> Run {
     Run {
         outcome,
         size: 0,
-        mark: 0,
+        mark: None,
         empty: false,
     }
 }
@@ -60,10 +59,10 @@ fn run_text(
 }
 
 // The line that begins with a mark in a text that is refused.
-fn mark_of(outcome: Outcome, text: &[u8]) -> usize {
+fn mark_of(outcome: Outcome, text: &[u8]) -> Option<usize> {
     match outcome {
         Outcome::Refused(_, _, _) => marks::line_of(text, 1),
-        _ => 0,
+        _ => None,
     }
 }
 
@@ -80,9 +79,8 @@ fn run_whole<R: Read>(
     page: &mut [u8],
     shown: &mut [u8],
 ) -> Run {
-    let filled = inputs::fill(input, text);
-    match filled {
-        Filled::With(n) => {
+    match inputs::fill(input, text) {
+        Ok(n) => {
             let size = command_texts::within(n, text);
             let outcome = run_text(
                 output,
@@ -102,7 +100,7 @@ fn run_whole<R: Read>(
                 empty: size == 0,
             }
         }
-        Filled::Failed(error) => ended(Outcome::Unread(error)),
+        Err(error) => ended(Outcome::Unread(error)),
     }
 }
 
@@ -112,6 +110,10 @@ fn end_of(o: Options) -> u8 {
         return 0;
     }
     b'\n'
+}
+
+fn misused(fault: Fault, argument: Option<usize>) -> Outcome {
+    Outcome::Misused(Some(Wrong { fault, argument }))
 }
 
 // What is to be done: nothing more, or to read an input whole or in pieces.
@@ -145,11 +147,11 @@ fn plan_input(command: Command, o: Options) -> Plan {
     }
 }
 
-// A command that reads; the buffer is for the file's name. The number is what the system says of a file that it doesn't open, else 0.
+// A command that reads; the buffer is for the file's name. The error is what the system says of a file that it doesn't open.
 fn plan_file<E: Env>(
     words: &E,
     output: Stdout,
-    error: i32,
+    error: Option<i32>,
     command: Command,
     o: Options,
     path: &mut [u8],
@@ -157,13 +159,13 @@ fn plan_file<E: Env>(
     if o.flags & arguments::HELP != 0 {
         return Plan::Ended(help::print(output, command));
     }
-    if o.fault != 0 {
-        return Plan::Ended(Outcome::Misused(o.fault, o.wrong));
+    if o.wrong.is_some() {
+        return Plan::Ended(Outcome::Misused(o.wrong));
     }
-    if let Input::Misused(fault) = inputs::input_at(words, o.file, path) {
-        return Plan::Ended(Outcome::Misused(fault, 0));
+    if let Err(fault) = inputs::file_at(words, o.file, path) {
+        return Plan::Ended(misused(fault, None));
     }
-    if error != 0 {
+    if let Some(error) = error {
         return Plan::Ended(Outcome::Unread(error));
     }
     plan_input(command, o)
@@ -173,7 +175,7 @@ fn plan_file<E: Env>(
 fn run_help<E: Env>(words: &E, output: Stdout) -> Outcome {
     let command = words::command_at(words, 2);
     match command {
-        Command::Unknown => Outcome::Misused(arguments::NO_COMMAND, 2),
+        Command::Unknown => misused(Fault::NoCommand, Some(2)),
         _ => help::print(output, command),
     }
 }
@@ -182,7 +184,7 @@ fn plan_command<E: Env>(
     words: &E,
     output: Stdout,
     errors: Stderr,
-    error: i32,
+    error: Option<i32>,
     command: Command,
     o: Options,
     path: &mut [u8],
@@ -191,7 +193,7 @@ fn plan_command<E: Env>(
         Command::Help => Plan::Ended(run_help(words, output)),
         Command::Version => Plan::Ended(help::version(output)),
         Command::Missing => Plan::Ended(help::missing(errors)),
-        Command::Unknown => Plan::Ended(Outcome::Misused(arguments::NO_COMMAND, 1)),
+        Command::Unknown => Plan::Ended(misused(Fault::NoCommand, Some(1))),
         _ => plan_file(words, output, error, command, o, path),
     }
 }
@@ -201,7 +203,7 @@ fn run<E: Env, R: Read>(
     input: &mut R,
     output: Stdout,
     errors: Stderr,
-    error: i32,
+    error: Option<i32>,
     command: Command,
     o: Options,
     terminal: bool,
@@ -235,31 +237,31 @@ fn is_reader(command: Command) -> bool {
     }
 }
 
-// The bytes of the name of the file that `j8_run` is to read, put at the start of a buffer; 0 where it reads standard input, or nothing.
-pub fn j8_file<E: Env>(words: &E, path: &mut [u8]) -> usize
-    ensures prefix { result ≤ length path.new }
-    ensures short { result ≤ 4095 }
+// The bytes of the name of the file that `j8_run` is to read, put at the start of a buffer; None where it reads standard input, or nothing.
+pub fn j8_file<E: Env>(words: &E, path: &mut [u8]) -> Option<usize>
+    ensures prefix { IfSome result (λ n. n ≤ length path.new) }
+    ensures short { IfSome result (λ n. n ≤ 4095) }
 {
     let command = words::command_at(words, 1);
     let o = words::options_from(words, 2, arguments::options_of(command));
-    if !is_reader(command) || o.flags & arguments::HELP != 0 || o.fault != 0 {
-        return 0;
+    if !is_reader(command) || o.flags & arguments::HELP != 0 || o.wrong.is_some() {
+        return None;
     }
-    match inputs::input_at(words, o.file, path) {
-        Input::File(n) => slices::least(command_texts::within(n, path), inputs::NAME_MAX),
-        _ => 0,
+    match inputs::file_at(words, o.file, path) {
+        Ok(Some(n)) => Some(slices::least(command_texts::within(n, path), inputs::NAME_MAX)),
+        _ => None,
     }
 }
 
 // The command, with the words that the program was called with: the status, 0 to 3. It is given the input, which is the file of `j8_file` where
-// there is one, and what the system says if it doesn't open that, else 0. It is told whether standard output is a terminal, and is lent its large
+// there is one, and what the system says if it doesn't open that. It is told whether standard output is a terminal, and is lent its large
 // buffers, so that it takes little of the stack.
 pub fn j8_run<E: Env, R: Read>(
     words: &E,
     input: &mut R,
     output: Stdout,
     errors: Stderr,
-    error: i32,
+    error: Option<i32>,
     terminal: bool,
     text: &mut [u8],
     table: &mut [u32],

@@ -2,12 +2,10 @@
 use command_outputs::outcomes::Outcome;
 use command_outputs::outputs;
 use messages::Spot;
-use prelude::answers::Written;
 use prelude::limits::TEXT_MAX;
 use prelude::slices;
 use std::io::Print;
 use std::rt::Stdout;
-use strings::answers::Decoded;
 use strings::read;
 use strings_write::write;
 
@@ -32,10 +30,9 @@ pub(crate) fn quote(
     shown: &mut [u8],
 ) -> Outcome {
     let room = command_texts::within(TEXT_MAX, page);
-    let written = write::write(data, &mut page[..room]);
-    match written {
-        Written::Wrote(n) => print_string(output, n, terminal, page, shown),
-        Written::Refused(number) => Outcome::Refused(number, Spot::Quoted, 0),
+    match write::write(data, &mut page[..room]) {
+        Ok(n) => print_string(output, n, terminal, page, shown),
+        Err(refusal) => Outcome::Refused(refusal.number(), Spot::Quoted, 0),
     }
 }
 
@@ -65,13 +62,12 @@ fn without_end(text: &[u8]) -> usize {
 }
 
 fn unquote_text(output: Stdout, text: &[u8], out: &mut [u8]) -> Outcome {
-    let decoded = read::read(text, out);
-    match decoded {
-        Decoded::Done(n) => {
+    match read::read(text, out) {
+        Ok(n) => {
             let n = command_texts::within(n, out);
             outputs::ended(output.write_all(&out[..n]).map_err(outputs::number_of))
         }
-        Decoded::Refused(number, place) => Outcome::Refused(number, Spot::Quoted, place),
+        Err(f) => Outcome::Refused(f.refusal.number(), Spot::Quoted, f.place),
     }
 }
 
