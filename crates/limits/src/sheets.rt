@@ -2,6 +2,7 @@
 ghost use Rattle.std.specs.Prelude.{◌≡◌, length};
 
 use crate::{fields, numbers, show, tables, texts};
+use prelude::refusals::Refused;
 use tsv8::answers::Sheet;
 
 // The numbers of a name or cell.
@@ -25,10 +26,10 @@ fn filled() -> [u32; CELLS_MAX]
     [numbers::FILL; CELLS_MAX]
 }
 
-fn print_sheet(answer: Sheet) {
+fn print_sheet(answer: Result<Sheet, Refused>) {
     match answer {
-        Sheet::Done(columns, cells, bytes) => show::five(0, 0, columns, cells, bytes),
-        Sheet::Refused(number, place) => show::five(number as usize, place, 0, 0, 0),
+        Ok(s) => show::five(0, 0, s.columns, s.cells, s.stored),
+        Err(f) => show::five(f.refusal.number() as usize, f.place, 0, 0, 0),
     }
 }
 

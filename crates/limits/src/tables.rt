@@ -3,6 +3,7 @@ ghost use Rattle.std.specs.Prelude.{◌≡◌, length};
 
 use crate::{fields, numbers, show, texts};
 use json8::answers::Parsed;
+use prelude::refusals::Refused;
 
 // The numbers of a node.
 const NODE: usize = 4;
@@ -14,10 +15,10 @@ pub fn filled() -> [u32; fields::TABLE_MAX]
     [numbers::FILL; fields::TABLE_MAX]
 }
 
-fn print_parsed(answer: Parsed) {
+fn print_parsed(answer: Result<Parsed, Refused>) {
     match answer {
-        Parsed::Done(count, bytes) => show::four(0, 0, count, bytes),
-        Parsed::Refused(number, place) => show::four(number as usize, place, 0, 0),
+        Ok(p) => show::four(0, 0, p.nodes, p.stored),
+        Err(f) => show::four(f.refusal.number() as usize, f.place, 0, 0),
     }
 }
 

@@ -2,9 +2,9 @@
 ghost use Rattle.std.specs.Prelude.{◌≡◌, length};
 
 use crate::{fields, show};
-use lines::read::Line;
-use prelude::answers::Written;
-use strings::answers::{Decoded, Token};
+use lines::read::Payload;
+use prelude::refusals::{Refusal, Refused};
+use strings::answers::Token;
 
 // A buffer before a call.
 pub fn filled(b: u8) -> [u8; fields::ROOM_MAX]
@@ -13,34 +13,34 @@ pub fn filled(b: u8) -> [u8; fields::ROOM_MAX]
     [b; fields::ROOM_MAX]
 }
 
-fn print_decoded(answer: Decoded) {
+fn print_decoded(answer: Result<usize, Refused>) {
     match answer {
-        Decoded::Done(n) => show::three(0, 0, n),
-        Decoded::Refused(number, place) => show::three(number as usize, place, 0),
+        Ok(n) => show::three(0, 0, n),
+        Err(f) => show::three(f.refusal.number() as usize, f.place, 0),
     }
 }
 
 // With the place behind the string.
-fn print_token(answer: Token) {
+fn print_token(answer: Result<Token, Refused>) {
     match answer {
-        Token::Ended(end, n) => show::four(0, 0, n, end),
-        Token::Failed(number, place) => show::four(number as usize, place, 0, 0),
+        Ok(t) => show::four(0, 0, t.len, t.end),
+        Err(f) => show::four(f.refusal.number() as usize, f.place, 0, 0),
     }
 }
 
 // With the payload's kind.
-fn print_line(answer: Line) {
+fn print_line(answer: Result<Option<Payload>, Refused>) {
     match answer {
-        Line::Ignored => show::four(0, 0, 0, 0),
-        Line::Holds(kind, n) => show::four(0, 0, n, kind as usize),
-        Line::Refused(number, place) => show::four(number as usize, place, 0, 0),
+        Ok(None) => show::four(0, 0, 0, 0),
+        Ok(Some(p)) => show::four(0, 0, p.len, p.kind as usize),
+        Err(f) => show::four(f.refusal.number() as usize, f.place, 0, 0),
     }
 }
 
-pub fn print_written(answer: Written) {
+pub fn print_written(answer: Result<usize, Refusal>) {
     match answer {
-        Written::Wrote(n) => show::three(0, 0, n),
-        Written::Refused(number) => show::three(number as usize, 0, 0),
+        Ok(n) => show::three(0, 0, n),
+        Err(refusal) => show::three(refusal.number() as usize, 0, 0),
     }
 }
 
