@@ -1,4 +1,4 @@
-// The command for C: what command/main.c calls, each a call of the function of that name of `command`, with its clauses. A `Stdin`, `Stdout` or
+// The command for C: what command/main.c calls, each a call of the function of that name of `command`, with its clauses; 0 is None. A `Stdin`, `Stdout` or
 // `Stderr` takes no bytes, so C passes nothing for it.
 #![tactic(auto)]
 
@@ -22,9 +22,11 @@ pub extern "C" fn j8_file(words: &[u8], addresses: &[usize], path: &mut [u8]) ->
         },
         path,
     )
+    .unwrap_or(0)
 }
 
-// The command: its status, 0 to 3. Its input is standard input, in whose place C has put the file of `j8_file`.
+// The command: its status, 0 to 3. Its input is standard input, in whose place C has put the file of `j8_file`; the error is what the system says if
+// it doesn't open that, else 0.
 #[unsafe(no_mangle)]
 pub extern "C" fn j8_run(
     input: Stdin,
@@ -44,6 +46,7 @@ pub extern "C" fn j8_run(
     ensures { result ≤ 3 }
 {
     let mut input = input;
+    let error = if error == 0 { None } else { Some(error) };
     command::j8_run(
         &Words {
             all: words,

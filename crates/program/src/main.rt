@@ -65,27 +65,36 @@ fn main(rt: HostRuntime) {
     let mut d = record();
     let mut e = page();
     let mut f = shown();
-    let n = command::j8_file(&rt, &mut a);
+    let file = command::j8_file(&rt, &mut a);
     let (mut input, output, errors) = (rt.stdin(), rt.stdout(), rt.stderr());
-    if n == 0 {
+    let Some(n) = file else {
         command::j8_run(
-            &rt, &mut input, output, errors, 0, false, &mut a, &mut b, &mut c, &mut d, &mut e,
+            &rt, &mut input, output, errors, None, false, &mut a, &mut b, &mut c, &mut d, &mut e,
             &mut f,
         );
         return;
-    }
+    };
     match open(&rt, &a[..n]) {
-        Ok(file) => {
-            let mut file = file;
+        Ok(mut file) => {
             command::j8_run(
-                &rt, &mut file, output, errors, 0, false, &mut a, &mut b, &mut c, &mut d, &mut e,
-                &mut f,
+                &rt, &mut file, output, errors, None, false, &mut a, &mut b, &mut c, &mut d,
+                &mut e, &mut f,
             );
         }
         Err(error) => {
             command::j8_run(
-                &rt, &mut input, output, errors, error, false, &mut a, &mut b, &mut c, &mut d,
-                &mut e, &mut f,
+                &rt,
+                &mut input,
+                output,
+                errors,
+                Some(error),
+                false,
+                &mut a,
+                &mut b,
+                &mut c,
+                &mut d,
+                &mut e,
+                &mut f,
             );
         }
     }
