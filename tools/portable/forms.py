@@ -438,7 +438,7 @@ def lend_static(w, term):
 
 
 def call(w, term):
-    """call: the values of the operands are handed over, and the result is stored to the place, which here is a whole local."""
+    """call: the values of the operands are handed over, but for units, which hold nothing, and the result is stored to the place, which here is a whole local."""
     how, given, to = parts(term, "call", 3)
     symbol, given_types = parts(how, "fn", 2)
     need(given_types == "no_args", "a call at types:", how)
@@ -447,13 +447,12 @@ def call(w, term):
     values = [operand(w, one) for one in items(given)]
     need(len(values) == len(types) - 1, "a call of", symbol, "with", len(values), "values")
     for want, value in zip(types[1:], values):
-        need(not isinstance(want, Unit), "a unit handed to", symbol)
         same(want, value.type, value.text)
     target = place(w, to)
     need(items(to[2]) == [], "a call that stores to a part")
     same(target.type, types[0], "result of " + symbol)
     w.check(sum((value.checks for value in values), ()))
-    made = "%s(%s);" % (c_name(symbol), ", ".join(value.text for value in values))
+    made = "%s(%s);" % (c_name(symbol), ", ".join(value.text for value in values if value.type != Unit()))
     w.line(made if types[0] == Unit() else "%s = %s" % (target.text, made))
 
 

@@ -173,7 +173,8 @@ class Writer:
 
     def head(self):
         """Inline, so that gcc -O2 puts a block's loop where its length is a number that it knows."""
-        params = [self.shapes.declare(self.locals[at], "v%d" % at) for at in range(1, self.function.params + 1)]
+        taken = [at for at in range(1, self.function.params + 1) if self.locals[at] != Unit()]
+        params = [self.shapes.declare(self.locals[at], "v%d" % at) for at in taken]
         kind = "J8_PART" if self.function.symbol in self.files.parts else "inline"
         return ("static %s %s %s(%s)" % (kind, self.shapes.name(self.locals[0]), c_name(self.function.symbol), ", ".join(params) or "void")).replace("* ", "*")
 
@@ -183,7 +184,7 @@ class Writer:
         count, params = len(self.locals), self.function.params
         used = self.stored | self.read
         own = [at for at in range(count) if not 1 <= at <= params and at in used and self.locals[at] != Unit()]
-        spare = [at for at in range(1, params + 1) if at not in used] + [at for at in own if at not in self.read]
+        spare = [at for at in range(1, params + 1) if at not in used and self.locals[at] != Unit()] + [at for at in own if at not in self.read]
         need(not any(self.room(at).startswith("r") for at in range(params + 1)), "a parameter or a result that points to one integer")
         out = ["/* %s, %s */" % (self.function.symbol, self.files.sources.file(self.function.symbol)), self.head(), "{"]
         out += ["    %s;" % self.shapes.declare(self.locals[at], "v%d" % at) for at in own]
