@@ -47,7 +47,9 @@ pub struct Classes {
 }
 
 impl Classes {
-    pub fn new() -> Classes {
+    pub fn new() -> Classes
+        ensures { IsTable result.entries }
+    {
         Classes { entries: CLASS }
     }
 
