@@ -154,7 +154,13 @@ def copy_operand(w, term):
     return Value("*" + spot.text, spot.type.to, "", spot.checks + (within(spot, size(spot.type.to)),))
 
 
-OPERANDS = {"int": int_operand, "copy": copy_operand}
+def number_operand(w, term):
+    """num_of: the number that stands in a type's place, of its width."""
+    width, held = parts(term, "num_of", 2)
+    return int_operand(w, ["int", width, parts(held, "ty_const", 1)[0]])
+
+
+OPERANDS = {"int": int_operand, "copy": copy_operand, "num_of": number_operand}
 
 
 def within(pointer, count):

@@ -95,6 +95,7 @@ TYPES = {
     "Struct": lambda of: ["ty_struct", Text(of[0]), listed(map(type_term, of[1]))],
     "Named": named_type,
     "Param": lambda of: ["ty_param", count(of)],
+    "Const": lambda of: ["ty_const", count(of)],
 }
 
 
@@ -117,6 +118,8 @@ def operand(held):
     if isinstance(held, str):
         return named(OPERANDS, held)
     name, of = only(held)
+    if name == "NumOf":
+        return ["num_of", width(of[0]), type_term(of[1])]
     need(name in ("Copy", "Int"), "unknown operand", name)
     return ["copy", place(of)] if name == "Copy" else integer(of)
 
@@ -239,10 +242,9 @@ def definition(symbol, held):
     lifetimes, outlives, params, generics, types, own, statements = fields(held, "lifetimes", "outlives", "params", "generics", "types", "locals", "body")
     kinds, type_outlives, bounds, _, trait_lifetimes, impls = fields(generics, "types", "outlives", "bounds", "method_of", "trait_lifetimes", "impls")
     need(outlives == [] and type_outlives == [] and trait_lifetimes == 0, symbol, "has bounds of lifetimes")
-    need(all(one["const_bits"] is None for one in kinds), symbol, "takes numbers in the place of types")
     held = Held(statements, {one["name"]: one["methods"] for one in impls})
     local_terms = [["local", type_term(ty), named(WORDS, home)] for ty, home in (fields(one, "ty", "home") for one in own)]
-    taken = [listed(["a_type"] * len(kinds)), count(len(bounds)), count(params)]
+    taken = [listed("a_type" if one["const_bits"] is None else "a_number" for one in kinds), count(len(bounds)), count(params)]
     term = ["function", count(lifetimes), listed([])] + taken + [listed(local_terms), body(held)]
     need(next(held.left, None) is None, symbol, "has statements behind its body")
     return ["fn_def", Text(symbol), term, listed(map(entry, types))]

@@ -17,8 +17,8 @@ DEFINITION = re.compile(r"^(?:abbrev|unfoldable) pub (\S+) :\s(?:.*?)^\1 =\s(.*?
 USE = re.compile(r"^use (\S+)(?: as (\S+))?$", re.M)
 TOKEN = re.compile(r'\s*(?:([(){},;=])|"([^"\\]*)"|([^\s(){},;="\\]+))')
 NAMES = ("Syntax", "MapTy", "Table")
-CONS = {"List.◌∷◌", "Syntax.tcons", "Syntax.ttcons", "Syntax.ccons"}
-NIL = {"List.[]", "Syntax.tnil", "Syntax.ttnil", "Syntax.cnil"}
+CONS = {"List.◌∷◌", "Syntax.tcons", "Syntax.ttcons", "Syntax.ccons", "Syntax.dcons"}
+NIL = {"List.[]", "Syntax.tnil", "Syntax.ttnil", "Syntax.cnil", "Syntax.dnil"}
 FIELDS = ("lifetimes", "outlives", "ty_params", "givens", "params", "locals", "body")
 
 
@@ -131,18 +131,21 @@ class Stated:
             self.modules[path] = Module(path)
         return self.modules[path]
 
-    def callee(self, module, word):
-        """The symbol of a function that another module names: its Key states it."""
+    def callee(self, module, word, given="no_args"):
+        """The function that another module names, at these arguments: its Key states its symbol. One of the standard library, whose Keys aren't here, is named by
+        the last words of its path."""
         alias, _, name = word.partition(".")
         need(name == "name" and alias in module.uses, "unknown word", word, "in", module.path)
         found = re.fullmatch(r"Rattle\.(\w+)\.(?:proofs\.(.*)\.Symbol|specs\.contracts\.(.*)\.Key)", module.uses[alias])
         need(found, "no function:", module.uses[alias])
         crate, place = found.group(1), (found.group(2) or found.group(3)).split(".")
+        if crate == "std":
+            return ["fn", last(place), given]
         key = self.module("Rattle-%s-specs" % crate, "contracts", *place, "Key")
-        need(key.get("name") == ["Syntax.fn₀", "symbol"], key.path, "has another name")
+        need(key.get("name") in (["Syntax.fn₀", "symbol"], ["Syntax.fn", "symbol"]), key.path, "has another name")
         symbol = key.get("symbol")
         need(isinstance(symbol, Text) and symbol == "::".join([crate] + place), key.path, "is of", symbol)
-        return ["fn", symbol, "no_args"]
+        return ["fn", symbol, given]
 
     def term(self, module, held):
         """A term of libraries.py."""
@@ -172,6 +175,8 @@ class Stated:
                 held = held[2]
             need(held in NIL, "a list that ends in", held)
             return made
+        if isinstance(head, str) and head.partition(".")[2] == "name" and len(rest) == 1 and isinstance(rest[0], Tuple):
+            return self.callee(module, head, ["args"] + [self.term(module, one) for one in rest[0]])
         need(isinstance(head, str) and head.partition(".")[0] in NAMES, "unknown head", head, "in", module.path)
         name, given = head.partition(".")[2], [self.term(module, one) for one in rest]
         if name == "ty_struct":
@@ -221,6 +226,19 @@ def difference(one, other):
     return "%s and %s" % (shown(one), shown(other))
 
 
+def last(path):
+    return Text("::".join(path[-2:]))
+
+
+def spoken(term):
+    """A term with the standard library's functions by the last words of their paths."""
+    if not isinstance(term, list):
+        return term
+    if term[:1] == ["fn"] and term[1].startswith("core::"):
+        term = ["fn", last(term[1].split("::")), term[2]]
+    return [spoken(one) for one in term]
+
+
 def held(term):
     """The declared types that a term names, but for those that it only points to."""
     if not isinstance(term, list) or term[:1] == ["ty_ref"]:
@@ -249,7 +267,7 @@ def main():
     for one in printed:
         symbol = str(parts(one, "fn_def", 3)[0])
         other = stated.definition(symbol)
-        one, other = without_pointed_to(one), without_pointed_to(other)
+        one, other = spoken(without_pointed_to(one)), spoken(without_pointed_to(other))
         need(one == other, symbol, "isn't what is proved:", difference(one, other))
     print("portable: %d functions are what the proofs are about" % len(printed))
 

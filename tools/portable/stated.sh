@@ -10,7 +10,7 @@ made=target/portable
 stated=$(mktemp -d)
 trap 'rm -rf "$stated"' EXIT
 all=("$@")
-[ $# -gt 0 ] || mapfile -t all < <(sed -nE 's/^\(fn_def "([a-z0-9_]+)::.*/\1/p' $made/j8.mir | sort -u)
+[ $# -gt 0 ] || mapfile -t all < <(sed -nE 's/^\(fn_def "([a-z0-9_]+)::.*/\1/p' $made/j8.mir | sort -u | grep -vx core)
 for crate in "${all[@]}"; do
   mapfile -t below < <(crates_of "$crate")
   if [ "${J8_PROVED:-}" = 1 ] && left_by_ci "${below[@]}"; then

@@ -336,14 +336,16 @@ fn chars_until(t: &Classes, s: &[u8], from: usize, end: usize) -> usize
     at
 }
 
-// Whether a text is valid UTF-8, with the table lent. What ends the blocks is passed one by one, and then they are tried again.
-pub fn valid_in(t: &Classes, s: &[u8]) -> bool
+// Whether a text is valid UTF-8, by blocks of N bytes of ASCII. What ends the blocks is passed one by one, and then they are tried again. A block
+// is compared at once only where its length is a constant, so each length has a function of its own.
+fn valid_by<const N: usize>(t: &Classes, s: &[u8]) -> bool
+    requires { 0 < N }
     ensures { result ≡ valid_utf8 s.now }
 {
     let mut at = 0;
     while at < s.len() {
-        let mid = ascii_blocks(s, at, 16);
-        let end = slices::soon(s.len(), mid, 16);
+        let mid = ascii_blocks(s, at, N);
+        let end = slices::soon(s.len(), mid, N);
         let next = chars_until(t, s, mid, end);
         if next < end {
             return false;
@@ -353,22 +355,18 @@ pub fn valid_in(t: &Classes, s: &[u8]) -> bool
     true
 }
 
-// The same by blocks of eight, for a text that is short or soon has a character of several bytes. It has a loop of its own, since a block is
-// compared at once only where its length is a constant.
+// Whether a text is valid UTF-8, with the table lent.
+pub fn valid_in(t: &Classes, s: &[u8]) -> bool
+    ensures { result ≡ valid_utf8 s.now }
+{
+    valid_by::<16>(t, s)
+}
+
+// The same for a text that is short or soon has a character of several bytes.
 pub fn valid_near(t: &Classes, s: &[u8]) -> bool
     ensures { result ≡ valid_utf8 s.now }
 {
-    let mut at = 0;
-    while at < s.len() {
-        let mid = ascii_blocks(s, at, 8);
-        let end = slices::soon(s.len(), mid, 8);
-        let next = chars_until(t, s, mid, end);
-        if next < end {
-            return false;
-        }
-        at = next;
-    }
-    true
+    valid_by::<8>(t, s)
 }
 
 // Whether a text is valid UTF-8.

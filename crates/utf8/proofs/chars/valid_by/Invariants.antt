@@ -2,12 +2,12 @@
 use Prim.Native.Nat.{◌-◌}
 use lib.ListN.{length}
 use Rattle.utf8.specs.inner.Checks.{ValidAs}
-use Rattle.utf8.proofs.chars.valid_in.Given as goal
+use Rattle.utf8.proofs.chars.valid_by.Given as goal
 
 abbrev pub invariant-loop-at : goal.invariant-loop-at
-invariant-loop-at l =
+invariant-loop-at g l =
     ValidAs l.s 0 l.at
 
 abbrev pub decreases-loop-at : goal.decreases-loop-at
-decreases-loop-at l =
+decreases-loop-at g l =
     length l.s - l.at
