@@ -6,14 +6,12 @@ pub(crate) fn find(s: &[u8], from: usize, x: u8) -> usize
     requires { from ≤ length s.now }
     ensures { (from ≤ result) × (result ≤ length s.now) }
 {
-    let mut i = from;
-    while i < s.len() {
+    for i in from..s.len() {
         if s[i] == x {
             return i;
         }
-        i += 1;
     }
-    i
+    s.len()
 }
 
 // The place behind the next such byte, or the end of the slice.

@@ -246,13 +246,11 @@ fn take_all<R: Read>(
     shown: &mut [u8],
 ) -> Listing {
     let mut l = l;
-    let mut left = PIECES_MAX;
-    while left > 0 {
+    for _ in 0..PIECES_MAX {
         if !l.open {
             return l;
         }
         l = read_piece(input, output, size, l, job, piece, line, out, page, shown);
-        left -= 1;
     }
     l
 }

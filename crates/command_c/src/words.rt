@@ -16,14 +16,12 @@ fn end_from(all: &[u8], from: usize) -> usize
     requires { from ≤ length all.now }
     ensures { (from ≤ result) × (result ≤ length all.now) }
 {
-    let mut i = from;
-    while i < all.len() {
+    for i in from..all.len() {
         if all[i] == 0 {
             return i;
         }
-        i += 1;
     }
-    i
+    all.len()
 }
 
 // The place of word i, from 0, or the end.

@@ -116,12 +116,10 @@ fn list_cells<'a>(
     ensures { AllPrinted (table_line columns text.now names.now cells.now store.now) count terminal page.old shown.old result page.new shown.new }
 {
     let mut p = pages::fresh(terminal);
-    let mut k = 0;
-    while k < count {
+    for k in 0..count {
         p = list_cell(
             output, p, k, columns, text, names, cells, store, page, shown,
         );
-        k += 1;
     }
     pages::outcome_of(pages::flush(output, p, page, shown))
 }

@@ -138,10 +138,8 @@ fn list_nodes(
     ensures { is_printed result ≡ true }
 {
     let mut p = pages::fresh(terminal);
-    let mut node = 0;
-    while node < nodes {
+    for node in 0..nodes {
         p = list_node(output, p, text, table, store, node, page, shown);
-        node += 1;
     }
     pages::outcome_of(pages::flush(output, p, page, shown))
 }

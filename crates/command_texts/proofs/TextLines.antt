@@ -24,11 +24,12 @@ pub looking_first : (s : List ℕ) (n : ℕ) → Looking s n n 0
 looking_first s n = record { inside = omega arith; same = refl }
 
 module _ (s : List ℕ) (n left i : ℕ) (l : Looking s n left i) where
-  pub looking_end : length s ≤ i → drop i s ≡ from_line [] s n
+  pub looking_end : length s ≤ i → drop (length s) s ≡ from_line [] s n
   unfolding from_line
   looking_end h =
       let e : drop i s ≡ [] = drop_of_length-le s h in
-      e ∙ sym (l.same ∙ ap (λ (t : List ℕ). from_line [] t left) e)
+      let f : drop (length s) s ≡ [] = drop_of_length-le s (let z : length s ≤ length s = omega arith in z) in
+      f ∙ sym (l.same ∙ ap (λ (t : List ℕ). from_line [] t left) e)
 
   module _ (h : i < length s) where
     here : drop i s ≡ get_or s i 0 ∷ drop (i + 1) s

@@ -98,19 +98,16 @@ fn line_at(s: &[u8], n: usize) -> usize
     ensures { (result ≤ length s.now) × (drop result s.now ≡ from_line [] s.now n) }
 {
     let mut left = n;
-    let mut i = 0;
-    while i < s.len() {
+    for i in 0..s.len() {
         if left == 0 {
             return i;
         }
         if s[i] != b'\n' {
-            i += 1;
             continue;
         }
         left -= 1;
-        i += 1;
     }
-    i
+    s.len()
 }
 
 // A line of a text, from 0, without its end.

@@ -158,8 +158,7 @@ fn size_of(word: &[u8]) -> Option<usize>
     ensures { result ≡ size_of word.now }
 {
     let mut size = 0;
-    let mut i = 0;
-    while i < word.len() {
+    for i in 0..word.len() {
         let x = word[i];
         if x < b'0' {
             return None;
@@ -171,7 +170,6 @@ fn size_of(word: &[u8]) -> Option<usize>
         if size > PIECE {
             return None;
         }
-        i += 1;
     }
     if size == 0 {
         return None;

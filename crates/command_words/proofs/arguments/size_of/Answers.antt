@@ -20,12 +20,6 @@ overflow_add-size c = omega (arith, c.loop-i.invariant.few, c.if-x-gt57.false)
 pub returns-then-size-gt-PIECE : goal.returns-then-size-gt-PIECE
 returns-then-size-gt-PIECE c = counted_over _ _ _ c.loop-i.invariant c.loop-i-test.true c.if-x-lt48.false c.if-x-gt57.false c.if-size-gt-PIECE.true
 
-pub overflow_add-i : goal.overflow_add-i
-overflow_add-i c = omega (arith, c.loop-i-test.true)
-
-pub loop-i-smaller : goal.loop-i-smaller
-loop-i-smaller c = omega (arith, c.loop-i-test.true)
-
 pub loop-i-preserved : goal.loop-i-preserved
 loop-i-preserved c = counted_next _ _ _ c.loop-i.invariant c.loop-i-test.true c.if-x-lt48.false c.if-x-gt57.false c.if-size-gt-PIECE.false
 
