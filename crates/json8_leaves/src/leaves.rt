@@ -40,7 +40,9 @@ pub fn mark(t: &Classes, text: &[u8], at: usize) -> Result<Step, Refused>
     blank(t, text, at)
 }
 
-// Whitespace and comments before a token: none or one space is the common case.
+// Whitespace and comments before a token: none or one space is the common case. The hint is for LLVM, which else leaves a call here: a
+// fifth to a quarter more instructions for dense texts, and more stack for each bracket.
+#[inline]
 pub fn next(t: &Classes, text: &[u8], at: usize) -> Result<Step, Refused>
     requires { (at ≤ length text.now) × (length text.now ≤ text_max) }
     ensures { Stepped text.now (spaces at 0 0 (drop at text.now)) at result }

@@ -97,7 +97,9 @@ fn spells(s: &[u8], at: usize, k: usize, a: u8, b: u8, c: u8) -> bool
     !is_word(slices::byte_at(s, at, k + 3))
 }
 
-// The length of the word at a place, which begins with the byte x, where it names a value.
+// The length of the word at a place, which begins with the byte x, where it names a value. LLVM is told to compile it into its callers:
+// called, JSON8's readers took 2 to 4 % more instructions.
+#[inline(always)]
 pub fn name_len(s: &[u8], at: usize, x: u8) -> Option<usize>
     requires { x ≡ get_or (drop at s.now) 0 0 }
     ensures { IfSome result (λ n. (0 < n) × Named (drop at s.now) x n) }

@@ -1,5 +1,4 @@
 -- Over the digits (Grammar).
-use native.Mathlib.Omega.{arith}
 use Rattle.tokens.proofs.Grammar.{exp_over}
 use Rattle.tokens.proofs.numbers.in_exp.Goals as goal
 

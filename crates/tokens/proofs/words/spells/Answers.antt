@@ -4,7 +4,6 @@ use Rattle.tokens.specs.Words.{is_word}
 use mathlib.Core.Bool.{true, false}
 use mathlib.Core.Path.{◌≡◌}
 use borrow.Author.Tests.{not-true}
-use native.Mathlib.Omega.{arith}
 use Rattle.prelude.proofs.Cases.{never}
 use Rattle.tokens.proofs.words.spells.Goals as goal
 
