@@ -5,25 +5,19 @@ ghost use Rattle.std.specs.Prelude.{Bool, ◌≡◌, ℕ, ◌+◌, ◌<◌, ◌�
 ghost use Rattle.std.proofs.lemmas.List.Edits.{sets};
 ghost use Rattle.eights.specs.inner.Words.{Bytes, word, bit, is_odd, is_other, First};
 
-fn wide(b: u8) -> u64
-    ensures { (result ≡ b) × (result < 256) }
-{
-    b as u64
-}
-
 // The first eight bytes as a number, the first lowest. By constant places, so that any compiler makes it one load.
 fn front(p: &[u8]) -> u64
     requires { 8 ≤ length p.now }
     ensures { (result ≡ word (λ k. get_or p.now k 0) 8) × Bytes (λ k. get_or p.now k 0) 8 }
 {
-    wide(p[0])
-        + (wide(p[1]) << 8)
-        + (wide(p[2]) << 16)
-        + (wide(p[3]) << 24)
-        + (wide(p[4]) << 32)
-        + (wide(p[5]) << 40)
-        + (wide(p[6]) << 48)
-        + (wide(p[7]) << 56)
+    p[0] as u64
+        + ((p[1] as u64) << 8)
+        + ((p[2] as u64) << 16)
+        + ((p[3] as u64) << 24)
+        + ((p[4] as u64) << 32)
+        + ((p[5] as u64) << 40)
+        + ((p[6] as u64) << 48)
+        + ((p[7] as u64) << 56)
 }
 
 // Eight bytes from a place on.

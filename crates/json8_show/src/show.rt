@@ -38,12 +38,6 @@ fn shown_by(kind: u32, place: usize, size: usize, text: usize, store: usize) -> 
     None
 }
 
-fn widen(x: u32) -> usize
-    ensures { result ≡ x }
-{
-    x as usize
-}
-
 // Where the string of a node stands, in a text and a store of so many bytes, if it is shown.
 pub fn shown_at(table: &[u32], text: usize, store: usize, node: usize) -> Option<Shown>
     ensures { result ≡ shown_at table.now text store node }
@@ -52,8 +46,8 @@ pub fn shown_at(table: &[u32], text: usize, store: usize, node: usize) -> Option
         return None;
     }
     let at = 4 * node;
-    let place = widen(table[at + 2]);
-    let size = widen(table[at + 3]);
+    let place = table[at + 2] as usize;
+    let size = table[at + 3] as usize;
     shown_by(table[at], place, size, text, store)
 }
 

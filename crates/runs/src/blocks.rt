@@ -58,19 +58,6 @@ fn any_odd_beside(q: u8, s: &[u8], a: usize, b: usize, n: usize) -> bool
     found
 }
 
-fn narrow(k: usize) -> u8
-    requires { k < 32 }
-    ensures { result ≡ k }
-{
-    k as u8
-}
-
-fn wide(k: u8) -> usize
-    ensures { result ≡ k }
-{
-    k as usize
-}
-
 // A place where something was found, and past all places else.
 fn place_of(found: bool, k: u8) -> u8
     ensures { found ≡ true → result ≡ k }
@@ -92,9 +79,9 @@ pub(crate) fn first_odd(q: u8, s: &[u8], at: usize) -> usize
 {
     let mut first: u8 = 32;
     for k in 0..32 {
-        first = lesser(first, place_of(odd(q, s[at + k]), narrow(k)));
+        first = lesser(first, place_of(odd(q, s[at + k]), k as u8));
     }
-    wide(first)
+    first as usize
 }
 
 // Whether one of n bytes is odd beside the next.

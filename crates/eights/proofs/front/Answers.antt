@@ -1,3 +1,4 @@
+use mathlib.Core.Path.{refl}
 -- Eight bytes, each shifted to its place, add up to the word (Marks).
 use native.Mathlib.Omega.{arith}
 use lib.ListN.{get_or}
@@ -27,4 +28,4 @@ overflow_add-result-7 c = omega arith
 
 pub returns : goal.returns
 returns c =
-    (sum_is (λ k. get_or c.args.p.now k 0) _ _ _ _ _ _ _ _ c.wide.ensures c.wide-2.ensures c.wide-3.ensures c.wide-4.ensures c.wide-5.ensures c.wide-6.ensures c.wide-7.ensures c.wide-8.ensures, λ k l. (c.shared_slice_known-1.given k).fits)
+    (sum_is (λ k. get_or c.args.p.now k 0) _ _ _ _ _ _ _ _ (refl, omega arith) (refl, omega arith) (refl, omega arith) (refl, omega arith) (refl, omega arith) (refl, omega arith) (refl, omega arith) (refl, omega arith), λ k l. (c.shared_slice_known-1.given k).fits)
