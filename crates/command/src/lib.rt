@@ -238,7 +238,7 @@ fn is_reader(command: Command) -> bool {
 }
 
 // The bytes of the name of the file that `j8_run` is to read, put at the start of a buffer; None where it reads standard input, or nothing.
-pub fn j8_file<E: Env>(words: &E, path: &mut [u8]) -> Option<usize>
+pub fn file_named<E: Env>(words: &E, path: &mut [u8]) -> Option<usize>
     ensures prefix { IfSome result (λ n. n ≤ length path.new) }
     ensures short { IfSome result (λ n. n ≤ 4095) }
 {
@@ -251,6 +251,14 @@ pub fn j8_file<E: Env>(words: &E, path: &mut [u8]) -> Option<usize>
         Ok(Some(n)) => Some(slices::least(command_texts::within(n, path), inputs::NAME_MAX)),
         _ => None,
     }
+}
+
+// The same for C, with 0 for None.
+pub fn j8_file<E: Env>(words: &E, path: &mut [u8]) -> usize
+    ensures prefix { result ≤ length path.new }
+    ensures short { result ≤ 4095 }
+{
+    file_named(words, path).unwrap_or(0)
 }
 
 // The command, with the words that the program was called with: the status, 0 to 3. It is given the input, which is the file of `j8_file` where

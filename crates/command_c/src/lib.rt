@@ -1,4 +1,4 @@
-// The command for C: what command/main.c calls, each a call of the function of that name of `command`, with its clauses; 0 is None. A `Stdin`, `Stdout` or
+// The command for C: what command/main.c calls, each a call of the function of that name of `command`, with its clauses. A `Stdin`, `Stdout` or
 // `Stderr` takes no bytes, so C passes nothing for it.
 #![tactic(auto)]
 
@@ -22,7 +22,6 @@ pub extern "C" fn j8_file(words: &[u8], addresses: &[usize], path: &mut [u8]) ->
         },
         path,
     )
-    .unwrap_or(0)
 }
 
 // The command: its status, 0 to 3. Its input is standard input, in whose place C has put the file of `j8_file`; the error is what the system says if

@@ -65,7 +65,7 @@ fn main(rt: HostRuntime) {
     let mut d = record();
     let mut e = page();
     let mut f = shown();
-    let file = command::j8_file(&rt, &mut a);
+    let file = command::file_named(&rt, &mut a);
     let (mut input, output, errors) = (rt.stdin(), rt.stdout(), rt.stderr());
     let Some(n) = file else {
         command::j8_run(
