@@ -36,6 +36,7 @@ fn put_blocks(s: &[u8], out: &mut [u8]) -> usize
     ensures { (result ≤ length s.now) × Onward s.now 0 result out.old out.new }
 {
     let mut at = 0;
+    // By while: a turn takes a whole block, and what is left at last is less than one.
     while 16 <= s.len() - at {
         if blocks::any_odd(b'"', s, at, 16) {
             return at;
@@ -159,6 +160,7 @@ fn put_threes(s: &[u8], from: usize, out: &mut [u8]) -> usize
     ensures { (result ≤ length s.now) × Onward s.now from result out.old out.new }
 {
     let mut at = from;
+    // By while: a turn takes a whole block, and what is left at last is less than one.
     while 18 <= s.len() - at {
         if !blocks::any_odd(b'"', s, at, 16) {
             put_sixteen(s, at, out);

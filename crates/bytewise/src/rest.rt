@@ -135,6 +135,7 @@ pub fn put_rest(t: &Classes, s: &[u8], from: usize, start: usize, out: &mut [u8]
 {
     let mut at = from;
     let mut o = start;
+    // By while: a turn takes a whole block, and what is left at last is less than one.
     while 8 <= s.len() - at {
         if any_control(s, at) {
             let p = put_past(t, s, at, o, out);

@@ -181,6 +181,7 @@ fn take_piece(
     let mut l = l;
     let end = end_of(job);
     let mut from = 0;
+    // By while: a turn goes on by as much as what stands there takes.
     while from < piece.len() {
         if !l.open {
             return l;

@@ -97,6 +97,7 @@ fn with_digit(n: usize, d: u8) -> usize {
 fn digits(s: &[u8], from: usize) -> Decimal {
     let mut value = 0;
     let mut at = from;
+    // By while: a turn goes on by as much as what stands there takes.
     while at < s.len() {
         let d = digit(s[at]);
         if d > 9 {
@@ -185,6 +186,7 @@ pub fn bytes(s: &[u8], out: &mut [u8]) -> usize {
     let mut times = 0;
     let mut barred = s.len() == 0;
     let mut left = STEPS_MAX;
+    // By while: a turn goes on by as much as what stands there takes.
     while at < s.len() {
         if left == 0 {
             return WRONG;
@@ -237,6 +239,7 @@ pub fn table(s: &[u8], out: &mut [u32]) -> usize {
     let mut part = 0;
     let mut times = 0;
     let mut left = STEPS_MAX;
+    // By while: a turn goes on by as much as what stands there takes.
     while at < s.len() {
         if left == 0 {
             return WRONG;

@@ -69,6 +69,7 @@ fn step(s: &[u8], from: usize, end: usize) -> usize {
 fn print_runs(s: &[u8]) {
     let mut from = 0;
     let mut at = 0;
+    // By while: a turn goes on by as much as what stands there takes.
     while at < s.len() {
         at += 1;
         from = step(s, from, at);

@@ -35,6 +35,7 @@ pub fn lf_from(p: &[u8], from: usize) -> usize
     ensures { result ≡ from + line_run (drop from p.now) }
 {
     let mut i = from;
+    // By while: a turn takes a whole block, and what is left at last is less than one.
     while 32 <= p.len() - i {
         if any_lf(p, i) {
             return lf_near(p, i);

@@ -14,6 +14,7 @@ fn check_from(t: &Classes, s: &[u8], from: usize) -> Result<(), Refused>
     ensures { result ≡ bare_from from 0 (drop from s.now) }
 {
     let mut at = from;
+    // By while: a turn goes on by as much as what stands there takes.
     while at < s.len() {
         let x = s[at];
         let k = t.class(x);

@@ -31,6 +31,7 @@ pub fn trim(s: &[u8]) -> usize
     ensures { result ≡ length (trimmed s.now) }
 {
     let mut e = s.len();
+    // By while: it goes backwards, which a range would need an iterator for.
     while 0 < e {
         if !is_blank(s[e - 1]) {
             return e;

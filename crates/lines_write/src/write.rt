@@ -39,6 +39,7 @@ fn right_records(t: &Classes, s: &[u8]) -> bool
     ensures { result ≡ right_records 0 s.now }
 {
     let mut at = 0;
+    // By while: a turn goes on by as much as what stands there takes.
     while at < s.len() {
         if !right_record(t, s, at) {
             return false;
@@ -67,6 +68,7 @@ fn pass(t: &Classes, s: &[u8], room: usize, out: &mut [u8]) -> usize
 {
     let mut at = 0;
     let mut o: usize = 0;
+    // By while: a turn goes on by as much as what stands there takes.
     while at < s.len() {
         o = put_line(t, s, at, room, o, out);
         if room < o {

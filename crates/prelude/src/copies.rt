@@ -29,6 +29,7 @@ fn copy_blocks(s: &[u8], at: usize, n: usize, o: usize, out: &mut [u8]) -> usize
     ensures { (result ≤ n) × (n ≤ result + 64) × Further (drop at s.now) o 0 result out.old out.new }
 {
     let mut i = 0;
+    // By while: a turn takes a whole block, and what is left at last is less than one.
     while 64 < n - i {
         copy_thirty_two(s, at + i, o + i, out);
         copy_thirty_two(s, at + i + 32, o + i + 32, out);

@@ -113,6 +113,7 @@ fn alone_blocks(s: &[u8], from: usize, style: Style, n: usize) -> usize
     ensures { Running style s.now from result }
 {
     let mut at = from;
+    // By while: a turn takes a whole block, and what is left at last is less than one.
     while n <= s.len() - at {
         if any_odd(styles::quote_of(style), s, at, n) {
             return at;
@@ -128,6 +129,7 @@ pub(crate) fn thirty_twos(s: &[u8], from: usize, style: Style) -> usize
     ensures { Running style s.now from result }
 {
     let mut at = from;
+    // By while: a turn takes a whole block, and what is left at last is less than one.
     while 32 <= s.len() - at {
         let k = first_odd(styles::quote_of(style), s, at);
         if k < 32 {
@@ -155,6 +157,7 @@ fn pair_blocks(s: &[u8], from: usize, style: Style) -> usize
     ensures { Running style s.now from result }
 {
     let mut at = from;
+    // By while: a turn takes a whole block, and what is left at last is less than one.
     while 33 <= s.len() - at {
         if continues(s[at]) {
             return at;

@@ -70,6 +70,7 @@ fn common_before(t: &Classes, s: &[u8], from: usize, end: usize) -> usize
     ensures { (st : Style) → Running st s.now from result }
 {
     let mut at = from;
+    // By while: a turn goes on by as much as what stands there takes.
     while at < end {
         let k = t.class(s[at]);
         if k == 0 {
@@ -100,6 +101,7 @@ fn chars_before(t: &Classes, s: &[u8], from: usize, style: Style, end: usize) ->
     ensures { Ran style s.now from end result }
 {
     let mut at = from;
+    // By while: a turn goes on by as much as what stands there takes.
     while at < end {
         let k = t.class(s[at]);
         if k == 0 {
@@ -133,6 +135,7 @@ pub fn literal_run(t: &Classes, s: &[u8], from: usize, style: Style) -> usize
     ensures { result ≡ from + literal_run style 0 (drop from s.now) }
 {
     let mut at = from;
+    // By while: a turn goes on by as much as what stands there takes.
     while at < s.len() {
         let mid = several(t, s, at, style);
         let end = slices::soon(s.len(), mid, 64);
@@ -152,6 +155,7 @@ fn run_on(t: &Classes, s: &[u8], from: usize, style: Style) -> usize
     ensures { result ≡ from + literal_run style 0 (drop from s.now) }
 {
     let mut at = from;
+    // By while: a turn goes on by as much as what stands there takes.
     while at < s.len() {
         let mid = blocks::thirty_twos(s, at, style);
         if blocks::ends(s, mid, style) {

@@ -22,6 +22,7 @@ pub(crate) fn one_by_one(s: &[u8], from: usize, style: Style) -> usize
 {
     let q = styles::quote_of(style);
     let mut at = from;
+    // By while: a turn goes on by as much as what stands there takes.
     while at < s.len() {
         let b = s[at];
         if blocks::odd(q, b) {

@@ -101,6 +101,7 @@ fn fill_units(t: &Classes, s: &[u8], from: usize, style: Style, out: &mut [u8])
 {
     let mut at = from;
     let mut o: usize = 0;
+    // By while: a turn goes on by as much as what stands there takes.
     while o < out.len() {
         let k = front(s, at, o, out);
         at += k;

@@ -49,6 +49,7 @@ pub fn plains_on(s: &[u8], from: usize) -> usize
     ensures { Plains s.now from result }
 {
     let mut at = from;
+    // By while: a turn takes a whole block, and what is left at last is less than one.
     while 8 <= s.len() - at {
         let a = eights::odds(eights::eight(s, at));
         if a != 0 {

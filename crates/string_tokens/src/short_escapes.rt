@@ -60,7 +60,9 @@ fn joined(s: &[u8], at: usize, v: u32) -> u32
     }
 }
 
-// The code point that a number in double quotes denotes.
+// The code point that a number in double quotes denotes. LLVM is told to compile it into its callers: called, reading escapes took 2 % more
+// instructions.
+#[inline(always)]
 pub(crate) fn point_at(s: &[u8], at: usize, style: Style) -> Option<u32>
     requires { at ≤ length s.now }
     ensures { IfSome result (λ v. (v < 0x110000) × (unit_at style (drop at s.now) ≡ took (len_of v) (encode v))) }

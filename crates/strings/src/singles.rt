@@ -32,6 +32,7 @@ fn singles_before(
 {
     let mut at = from;
     let mut count = o;
+    // By while: a turn goes on by as much as what stands there takes.
     while at < end {
         let b = s[at];
         if t.class(b) == 0 {

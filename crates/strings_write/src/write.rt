@@ -53,6 +53,7 @@ fn pass(t: &Classes, form: Form, s: &[u8], room: usize, out: &mut [u8]) -> Optio
     let cap = room - 1;
     let mut o = first;
     let mut at = 0;
+    // By while: a turn goes on by as much as what stands there takes.
     while at < s.len() {
         let e = literals::short_run(t, s, at, style);
         if e == at {

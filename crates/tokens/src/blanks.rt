@@ -29,6 +29,7 @@ pub fn skip(t: &Classes, s: &[u8], from: usize) -> Result<usize, Refused>
 {
     let mut at = from;
     let mut inside = false;
+    // By while: a turn goes on by as much as what stands there takes.
     while at < s.len() {
         let x = s[at];
         if inside {

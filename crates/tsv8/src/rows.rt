@@ -152,6 +152,7 @@ pub(crate) fn judge_lines(
     let mut at = from;
     let mut count: usize = 0;
     let mut stored = m;
+    // By while: a turn goes on by as much as what stands there takes.
     while at < text.len() {
         let line = judge_line(t, text, at, 0 < count, n, types, stored)?;
         match line {

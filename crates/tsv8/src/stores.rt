@@ -132,6 +132,7 @@ pub(crate) fn put_lines(
     let mut at = from;
     let mut i: usize = 0;
     let mut j = m;
+    // By while: a turn goes on by as much as what stands there takes.
     while at < text.len() {
         if text[at] != b'\t' {
             at = line_ends::lf_from(text, at) + 1;

@@ -65,6 +65,7 @@ pub fn tabs(text: &[u8], from: usize) -> usize
 {
     let mut at = from;
     let mut n: usize = 0;
+    // By while: a turn goes on by as much as what stands there takes.
     while at < text.len() {
         if text[at] != b'\t' {
             return n;
@@ -113,6 +114,7 @@ pub fn line_from(text: &[u8], from: usize) -> usize
     ensures { Left text.now from result }
 {
     let mut at = from;
+    // By while: a turn goes on by as much as what stands there takes.
     while at < text.len() {
         let e = gap(text, at);
         if !is_end(text, e) {

@@ -273,6 +273,7 @@ fn ascii_blocks(s: &[u8], from: usize, n: usize) -> usize
     ensures { LowBlocks s.now from n result }
 {
     let mut at = from;
+    // By while: a turn takes a whole block, and what is left at last is less than one.
     while n <= s.len() - at {
         if any_high(s, at, n) {
             return at;
@@ -318,6 +319,7 @@ fn chars_until(t: &Classes, s: &[u8], from: usize, end: usize) -> usize
     ensures { ValidUntil s.now from end result }
 {
     let mut at = from;
+    // By while: a turn goes on by as much as what stands there takes.
     while at < end {
         let k = t.class(s[at]);
         if k < 5 {
@@ -343,6 +345,7 @@ fn valid_by<const N: usize>(t: &Classes, s: &[u8]) -> bool
     ensures { result ≡ valid_utf8 s.now }
 {
     let mut at = 0;
+    // By while: a turn goes on by as much as what stands there takes.
     while at < s.len() {
         let mid = ascii_blocks(s, at, N);
         let end = slices::soon(s.len(), mid, N);

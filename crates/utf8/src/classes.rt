@@ -83,6 +83,7 @@ pub fn plain_eights(t: &Classes, s: &[u8], from: usize) -> usize
     ensures { result ≡ from + 8 * (plain_run (drop from s.now) / 8) }
 {
     let mut i = from;
+    // By while: a turn takes a whole block, and what is left at last is less than one.
     while 8 <= s.len() - i {
         if !plain_eight(t, s, i) {
             return i;
