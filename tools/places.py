@@ -92,7 +92,7 @@ def together():
 
 POINTS = {
     "1 enums of the shape of Option or Result": enums,
-    "1 refusals by number": lambda: lines(r"refusals::[A-Z]"),
+    "1 refusals by number": lambda: lines(r"refusals::[A-Z0-9_]{4,}"),
     "1 a number that says nothing": nothing,
     "1 a flag or number beside a value": flags,
     "1 kinds and types by number": lambda: lines(r"\b(kind|ty): (u8|u32|u64)\b|\[u8; COLUMN_MAX\]|-> u32$"),
