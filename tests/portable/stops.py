@@ -59,7 +59,8 @@ MIR = [
     ("a division by 0", r"(\(div unsigned\) \(copy \(place \d+ \(list\)\)\)) \(int w64 \d+\)", r"\1 (int w64 0)", "this doesn't hold"),
     ("a key twice", r"\(arm \(list 1\)", "(arm (list 0)", "keys of a switch"),
     ("a call of what isn't there", r'\(fn "strings::read::\w+"', '(fn "strings::read::nothing"', "no function is named strings::read::nothing"),
-    ("a call by a pointer", r"\(call \(fn ", "(call (method ", "no fn of 2 parts"),
+    ("a call in a thread", r"\(call \(fn ", "(call (forked ", "no fn of 2 parts"),
+    ("a call at a type of a function of none", r'(\(fn "strings::read::\w+") no_args', r"\1 (args (list ty_bool) (list))", "at (ty_bool)"),
     ("a bracket less", r"\(exit 1\)", "(exit 1", "bracket"),
     ("a store through a shared reference", r'(ty_ref \(named \d+\)) mut \(ty_int w8\)', r"\1 imm (ty_int w8)", "mutable"),
 ]
@@ -73,7 +74,7 @@ HEADER = [
 ]
 SOURCE = [
     ("two fields swapped in the source", "crates/structs/src/results.rt", r"(    pub number: u32,\n)(    pub place: usize,\n)", r"\2\1", "is no"),
-    ("a variant less in the source", "crates/json8_show/src/show.rt", r"    Nowhere,\n", "", "variants and in its source"),
+    ("a variant less in the source", "crates/json8_show/src/show.rt", r"    InStore\(usize, usize\),\n", "", "variants and in its source"),
     ("a parameter's name in the source", "crates/j8/src/lib.rt", r"fn j8_string_read\(text:", "fn j8_string_read(bytes:", "j8.h has text and not bytes"),
 ]
 
@@ -109,11 +110,12 @@ def source_stops(program, header, folder):
 LIBRARY = [
     ("a constant of another form", r'"Copy"', '"Global"', "unknown operand Global"),
     ("a statement of another form", r'"Return"', '"Drop"', "unknown statement Drop"),
-    ("a call of a bound's method", r'"Fn"', '"Method"', "a call of no function"),
-    ("a call at types", r'"types": \[\], "dicts"', '"types": ["Bool"], "dicts"', "a call of no function"),
+    ("a method of no dictionary", r'"Fn"', '"Method"', "no form of one name"),
+    ("a call by a pointer", r'"Fn"', '"Pointer"', "a call of no function"),
+    ("a dictionary of no impl", r'"dicts": \[\]', '"dicts": [{"Impl": ["none", [], []]}]', "unknown dictionary"),
     ("a type of another form", r'\{"Int": 64\}', '{"Float": 64}', "unknown type Float"),
     ("a field more", r'"params":', '"inline": true, "params":', "not the fields"),
-    ("a function of types", r'"type_params": 0', '"type_params": 1', "isn't plain"),
+    ("a type that owns memory", r'"owns": false', '"owns": true', "isn't plain"),
 ]
 
 
