@@ -60,7 +60,7 @@ def place(w, term):
     at, steps = parts(term, "place", 2)
     at = number(at)
     need(at < len(w.locals), "no local", at)
-    spot = Value("v%d" % at, w.locals[at], w.room(at))
+    spot = Value(w.held.pop(at, "v%d" % at), w.locals[at], w.room(at))
     for step in items(steps):
         need(isinstance(step, list) and step[0] in STEPS, "unknown step", step)
         spot = STEPS[step[0]](w, spot, parts(step, step[0], 1)[0])
@@ -389,12 +389,37 @@ RIGHT = {"rv_opd": opd_right, "op2": op2_right, "op1": op1_right, "addr_of": add
 
 
 def statement(w, term):
+    listed = []
     while isinstance(term, list) and term and term[0] == "seq":
         first, term = parts(term, "seq", 2)
-        statement(w, first)
-    head = term if isinstance(term, str) else term[0]
-    need(head in STATEMENTS, "unknown statement", term)
-    STATEMENTS[head](w, term)
+        listed.append(first)
+    listed.append(term)
+    handed = w.handed_on(listed)
+    scopes = w.scopes(listed, handed) if len(listed) > 1 else []
+    for at, one in enumerate(listed):
+        for begin, _, own in scopes:
+            if begin == at:
+                w.open_scope(own)
+        if at in handed:
+            hold(w, one, handed[at])
+        elif isinstance(one, list) and one[:1] == ["seq"]:
+            statement(w, one)
+        else:
+            head = one if isinstance(one, str) else one[0]
+            need(head in STATEMENTS, "unknown statement", one)
+            STATEMENTS[head](w, one)
+        for _, end, _ in scopes:
+            if end == at:
+                w.close_scope()
+
+
+def hold(w, term, at):
+    """An assign or a call of an array, or of a struct of one, that the next statement alone names, and whole: that statement gets its C in the local's place, so that nothing is stored
+    twice. Nothing else happens between, and behind a call nothing else is read there."""
+    target = Value("", w.locals[at])
+    value = call_value(w, term, target) if term[0] == "call" else RIGHT[term[2][0]](w, term[2], target)
+    w.check(value.checks)
+    w.held[at] = value.text
 
 
 def skip(w, term):
@@ -445,7 +470,16 @@ def lend_static(w, term):
 
 def call(w, term):
     """call: the values of the operands are handed over, but for units, which hold nothing, and the result is stored to the place, which here is a whole local."""
-    how, given, to = parts(term, "call", 3)
+    to = parts(term, "call", 3)[2]
+    target = place(w, to)
+    need(items(to[2]) == [], "a call that stores to a part")
+    made = call_value(w, term, target)
+    w.check(made.checks)
+    w.line(made.text + ";" if target.type == Unit() else "%s = %s;" % (target.text, made.text))
+
+
+def call_value(w, term, target):
+    how, given, _ = parts(term, "call", 3)
     symbol, given_types = parts(how, "fn", 2)
     need(given_types == "no_args", "a call at types:", how)
     symbol = str(symbol)
@@ -454,12 +488,9 @@ def call(w, term):
     need(len(values) == len(types) - 1, "a call of", symbol, "with", len(values), "values")
     for want, value in zip(types[1:], values):
         same(want, value.type, value.text)
-    target = place(w, to)
-    need(items(to[2]) == [], "a call that stores to a part")
     same(target.type, types[0], "result of " + symbol)
-    w.check(sum((value.checks for value in values), ()))
-    made = "%s(%s);" % (c_name(symbol), ", ".join(value.text for value in values if value.type != Unit()))
-    w.line(made if types[0] == Unit() else "%s = %s" % (target.text, made))
+    text = "%s(%s)" % (c_name(symbol), ", ".join(value.text for value in values if value.type != Unit()))
+    return Value(text, types[0], "", sum((value.checks for value in values), ()))
 
 
 def if_(w, term):

@@ -24,6 +24,11 @@ def type_name(ty, inside=False):
 TAGS = set()
 
 
+def is_union(held):
+    """Whether an enum has several variants that hold something: of these one is live, so that they may share their place (J8_EITHER)."""
+    return sum(1 for variant in held if any(one != Unit() for one in variant)) > 1
+
+
 def is_tag(ty):
     return isinstance(ty, Named) and ty.symbol in TAGS
 
@@ -72,6 +77,11 @@ class Shapes:
     def is_enum(self, ty):
         return isinstance(ty, Named) and ty.symbol in self.shapes and self.shapes[ty.symbol][0] == "variants"
 
+    def holds_array(self, ty):
+        """Whether a type is a struct of an array alone."""
+        found, held = self.shapes.get(ty.symbol, ("", [])) if isinstance(ty, Named) else ("", [])
+        return found == "fields" and len(held) == 1 and isinstance(held[0], Array)
+
     def field(self, ty, k):
         """The C name and the type of a struct's field."""
         held = self.shape(ty, "fields")
@@ -84,11 +94,13 @@ class Shapes:
         held = self.shape(ty, "variants")
         need(variant < len(held) and k <= len(held[variant]), ty.symbol, "has no field", k, "of variant", variant)
         self.name(ty)
-        return ("tag", Int(8)) if k == 0 else ("%s_%d" % (self.fields[ty][variant], k), held[variant][k - 1])
+        called = self.fields[ty][variant]
+        name = "J8_OF(%s, %s_%d)" % (called, called, k) if is_union(held) else "%s_%d" % (called, k)
+        return ("tag", Int(8)) if k == 0 else (name, held[variant][k - 1])
 
     def define(self, name, members, comment=""):
         if name not in self.made:
-            body = "".join("    %s;\n" % one for one in members)
+            body = "".join("    %s\n" % one if one.endswith("J8_EITHER_END") else "    %s;\n" % one for one in members)
             self.made[name] = "%stypedef struct {\n%s} %s;\n" % ("/* %s */\n" % comment if comment else "", body, name)
         return name
 
@@ -129,7 +141,7 @@ def slice_name(shapes, ty):
 
 
 def named_name(shapes, ty):
-    """A struct is vstruct of its fields, an enum vstruct of its tag and the live variant's fields. In C every variant's fields stand side by side: gcc makes
+    """A struct is vstruct of its fields, an enum vstruct of its tag and the live variant's fields. In C every variant's fields stand side by side for gcc on x86-64, which makes
     slower code of a union, and a field of a variant that isn't live is never read (its cells are poison, logic/Prog/Memory.antt)."""
     name = type_name(ty)
     need(shapes.named.setdefault(name, ty) == ty, "two types are named", name)
@@ -151,7 +163,11 @@ def named_name(shapes, ty):
         need(len(held) <= 256, ty.symbol, "has more variants than a tag has numbers")
         names = shapes.sources.variants(ty.symbol, held)
         members = ["uint8_t tag"]
-        members += [shapes.declare(one, "%s_%d" % (called, k)) for variant, called in zip(held, names) for k, one in enumerate(variant, 1) if one != Unit()]
+        own = []
+        for variant, called in zip(held, names):
+            fields = [shapes.declare(one, "%s_%d" % (called, k)) for k, one in enumerate(variant, 1) if one != Unit()]
+            own += ["J8_CASE_BEGIN\n%s    J8_CASE_END(%s)" % ("".join("        %s;\n" % one for one in fields), called)] if fields and is_union(held) else fields
+        members += ["J8_EITHER_BEGIN\n%s    J8_EITHER_END" % "".join("    %s\n" % one for one in own)] if is_union(held) else own
     shapes.fields[ty] = names
     return shapes.define(name, members, ty.symbol if ty.symbol in STANDARD else "%s, %s" % (ty.symbol, shapes.sources.file(ty.symbol)))
 

@@ -58,6 +58,21 @@ HEAD = """\
 #define J8_ROOM(statement)
 #endif
 
+/* What the variants of an enum hold, of which one is live: in one place; for gcc on x86-64 side by side, since it keeps that in registers. */
+#if defined __x86_64__ && defined __GNUC__ && !defined __clang__ && !defined __OPTIMIZE_SIZE__
+#define J8_EITHER_BEGIN
+#define J8_EITHER_END
+#define J8_CASE_BEGIN
+#define J8_CASE_END(name)
+#define J8_OF(name, field) field
+#else
+#define J8_EITHER_BEGIN union {
+#define J8_EITHER_END } u;
+#define J8_CASE_BEGIN struct {
+#define J8_CASE_END(name) } name;
+#define J8_OF(name, field) u.name.field
+#endif
+
 /* A part of its one caller in a ring of calls, so that each turn of the ring takes one frame of the stack and not several. */
 #if defined __GNUC__ && !defined J8_PLAIN
 #define J8_PART inline __attribute__((always_inline))
@@ -65,6 +80,10 @@ HEAD = """\
 #define J8_PART inline
 #endif
 """
+
+
+# How many statements such a block may have, less one.
+SCOPE_MAX = 6
 
 
 class Writer:
@@ -75,8 +94,9 @@ class Writer:
         self.locals = list(function.locals)
         self.lines, self.depth, self.targets, self.labels = [], 1, [], 0
         self.type_of = type_of
-        self.stored, self.read = set(), {0}
+        self.stored, self.read, self.scoped, self.counted, self.held = set(), {0}, set(), {}, {}
         self.note_uses(function.body)
+        self.uses = self.count(function.body)
         self.type_raws()
 
     # -- what the forms ask
@@ -134,6 +154,82 @@ class Writer:
         self.targets[-1 - n][1] = True
         return self.targets[-1 - n][0]
 
+    # A struct that stands between few statements of a list gets a block of its own: compilers give two such one place on the stack, which matters where each
+    # step may refuse (`?`). An array, and what is a copy already, isn't stored to be copied at once.
+
+    def count(self, term):
+        """How often each local is named."""
+        if not isinstance(term, list):
+            return {}
+        if id(term) not in self.counted:
+            made = {number(term[1]): 1} if term[:1] == ["place"] else {}
+            for part in term:
+                for at, times in self.count(part).items():
+                    made[at] = made.get(at, 0) + times
+            self.counted[id(term)] = made
+        return self.counted[id(term)]
+
+    def scopes(self, listed, handed):
+        """Which locals get a block from which statement of a list to which: (first, last, locals), none of which overlap. What is handed on is written where it
+        arrives."""
+        found, spans = [self.count(one) for one in listed], []
+        written = list(range(len(listed)))
+        for k in sorted(handed, reverse=True):
+            written[k] = written[k + 1]
+        for at in sorted(set().union(*found)):
+            where = [k for k, one in enumerate(found) if at in one]
+            ends = written[where[-1]]
+            own = at > self.function.params and at in self.read and not self.function.in_memory[at] and at not in self.scoped
+            struct = isinstance(self.locals[at], (Named, Array)) and not is_tag(self.locals[at])
+            if own and struct and 0 < ends - where[0] <= SCOPE_MAX and sum(found[k][at] for k in where) == self.uses[at]:
+                spans.append((where[0], ends, [at]))
+        made = []
+        for begin, end, own in sorted(spans):
+            if made and begin <= made[-1][1]:
+                if max(end, made[-1][1]) - made[-1][0] <= SCOPE_MAX:
+                    made[-1] = (made[-1][0], max(end, made[-1][1]), made[-1][2] + own)
+            else:
+                made.append((begin, end, own))
+        return made
+
+    def handed_on(self, listed):
+        """Which statements of a list store an array, a struct of one or a copy of a struct that the next one alone names, once and whole: their places in the list, with
+        the local."""
+        made = {}
+        for k, (one, other) in enumerate(zip(listed, listed[1:])):
+            stored = {"assign": 1, "call": 3}.get(one[0]) if isinstance(one, list) else None
+            if stored is None or not isinstance(other, list) or other[0] not in ("assign", "call") or one[stored][2] != ["list"]:
+                continue
+            at = number(one[stored][1])
+            copied = one[0] == "assign" and one[2][0] == "rv_opd" and isinstance(self.locals[at], Named) and not is_tag(self.locals[at])
+            struct = copied or isinstance(self.locals[at], Array) or self.shapes.holds_array(self.locals[at])
+            own = at > self.function.params and not self.function.in_memory[at] and self.uses[at] == 2
+            operands = self.whole_operands(other)
+            whole = operands is not None and operands.count(at) == 1
+            if own and struct and whole and (one[0] == "assign" and one[2][0] in ("rv_opd", "aggregate") or one[0] == "call" and operands == [at]):
+                made[k] = at
+                self.scoped.add(at)
+        return made
+
+    def whole_operands(self, term):
+        """The locals that an assign or a call copies: each, where all are copied whole; numbers apart."""
+        given = {"rv_opd": [term[2][1]], "aggregate": term[2][1][1:]}.get(term[2][0]) if term[0] == "assign" else term[2][1:]
+        if given is None:
+            return None
+        places = [one[1] for one in given if isinstance(one, list) and one[0] == "copy"]
+        return [number(one[1]) if one[2] == ["list"] else -1 for one in places]
+
+    def open_scope(self, own):
+        self.line("{")
+        self.depth += 1
+        for at in own:
+            self.scoped.add(at)
+            self.line("%s;" % self.shapes.declare(self.locals[at], "v%d" % at))
+
+    def close_scope(self):
+        self.depth -= 1
+        self.line("}")
+
     # -- before and after
 
     def note_uses(self, term):
@@ -183,7 +279,7 @@ class Writer:
         statement(self, self.function.body)
         count, params = len(self.locals), self.function.params
         used = self.stored | self.read
-        own = [at for at in range(count) if not 1 <= at <= params and at in used and self.locals[at] != Unit()]
+        own = [at for at in range(count) if not 1 <= at <= params and at in used and at not in self.scoped and self.locals[at] != Unit()]
         spare = [at for at in range(1, params + 1) if at not in used and self.locals[at] != Unit()] + [at for at in own if at not in self.read]
         need(not any(self.room(at).startswith("r") for at in range(params + 1)), "a parameter or a result that points to one integer")
         out = ["/* %s, %s */" % (self.function.symbol, self.files.sources.file(self.function.symbol)), self.head(), "{"]
