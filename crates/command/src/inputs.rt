@@ -49,7 +49,7 @@ fn read_from<R: Read>(input: &mut R, buf: &mut [u8], from: usize) -> Result<usiz
 // Reads until buf is full or the input ends.
 pub(crate) fn fill<R: Read>(input: &mut R, buf: &mut [u8]) -> Result<usize, i32> {
     let mut n = 0;
-    // By while: a turn goes on by as much as what stands there takes.
+    // By while: a turn goes on by as many bytes as the input gives.
     while n < buf.len() {
         let got = read_from(input, buf, n)?;
         let k = command_texts::within(got, &buf[n..]);
