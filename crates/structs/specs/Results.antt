@@ -10,6 +10,10 @@ use Rattle.structs.specs.declared.results.J8Result.{J8Result}
 abbrev pub done : ℕ → J8Result
 done n = record { number = 0; place = 0; length = n }
 
+-- a refusal by its number, whatever that is
+abbrev pub numbered : ℕ → ℕ → J8Result
+numbered number place = record { number = number; place = place; length = 0 }
+
 abbrev pub refusal : Refusal → ℕ → J8Result
 refusal r place = record { number = number_of r; place = place; length = 0 }
 

@@ -1,6 +1,6 @@
 -- JSON8's structs of include/j8.h.
 -- Assumes nothing.
-use Rattle.std.specs.Prelude.{Option, Some, None, Result, Ok, Err}
+use Rattle.std.specs.Prelude.{ℕ, Option, Some, None, Result, Ok, Err}
 use Rattle.prelude.specs.declared.refusals.Refused.{Refused}
 use Rattle.prelude.specs.Refusals.{unfit, number_of}
 use Rattle.json8_show.specs.declared.show.Shown.{Shown}
@@ -8,6 +8,10 @@ use Rattle.json8_show.specs.declared.show.Shown.TheVariants.{InText, InStore}
 use Rattle.json8.specs.declared.answers.Parsed.{Parsed}
 use Rattle.structs.specs.declared.tables.J8Nodes.{J8Nodes}
 use Rattle.structs.specs.declared.tables.J8Shown.{J8Shown}
+
+-- a refusal by its number, whatever that is
+abbrev pub unread : ℕ → ℕ → J8Nodes
+unread number place = record { number = number; place = place; nodes = 0; stored = 0 }
 
 -- "number 0: done; place is 0, nodes is how many nodes the table holds, at least one, and stored how many bytes the store holds.
 -- Otherwise number is the refusal and place its place; nodes and stored are 0."

@@ -1,6 +1,6 @@
 // `j8_result`: a string read; a string, records as lines or a table written.
 ghost use Rattle.std.specs.Prelude.{◌≡◌};
-ghost use Rattle.structs.specs.Results.{done, refusal, decoded_result, written_result};
+ghost use Rattle.structs.specs.Results.{done, numbered, refusal, decoded_result, written_result};
 
 use prelude::refusals::{Refusal, Refused};
 
@@ -30,6 +30,19 @@ fn refusal(why: Refused) -> J8Result
         number: why.refusal.number(),
         place: why.place,
         length: 0,
+    }
+}
+
+// A refusal by its number and place, whatever these are.
+impl From<(u32, usize)> for J8Result {
+    ghost from_gives = { λ told r. r ≡ numbered told.0 told.1 };
+
+    fn from(told: (u32, usize)) -> J8Result {
+        J8Result {
+            number: told.0,
+            place: told.1,
+            length: 0,
+        }
     }
 }
 

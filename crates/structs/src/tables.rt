@@ -1,6 +1,6 @@
 // `j8_nodes` and `j8_shown`: a JSON8 text read, and where a string of a table stands.
 ghost use Rattle.std.specs.Prelude.{◌≡◌};
-ghost use Rattle.structs.specs.Tables.{nodes_result, shown_result};
+ghost use Rattle.structs.specs.Tables.{unread, nodes_result, shown_result};
 
 use json8::answers::Parsed;
 use json8_show::show::Shown;
@@ -24,6 +24,20 @@ pub struct J8Shown {
     pub stored: u32,
     pub place: usize,
     pub length: usize,
+}
+
+// A refusal by its number and place, whatever these are.
+impl From<(u32, usize)> for J8Nodes {
+    ghost from_gives = { λ told r. r ≡ unread told.0 told.1 };
+
+    fn from(told: (u32, usize)) -> J8Nodes {
+        J8Nodes {
+            number: told.0,
+            place: told.1,
+            nodes: 0,
+            stored: 0,
+        }
+    }
 }
 
 pub fn of_parsed(answer: Result<Parsed, Refused>) -> J8Nodes

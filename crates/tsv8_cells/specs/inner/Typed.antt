@@ -1,9 +1,13 @@
 -- The kinds of bare texts: this speaks of the code alone, and no rule cites it.
 -- Assumes nothing.
-use Rattle.std.specs.Prelude.{ℕ, List, Option, Some, None}
+use Rattle.std.specs.Prelude.{ℕ, List, Option, Some, None, ltb, eqb}
 use Rattle.prelude.specs.Pick.{pick}
 use Rattle.tokens.specs.Words.{same_bytes, false_word, true_word}
 use Rattle.tsv8_cells.specs.Types.{ColumnType, bools, ints, floats, strs, is_int, is_float, Named, named, unnamed}
+
+-- the type of a number, whatever that is
+unfoldable pub type_by : ℕ → ColumnType
+type_by x = pick (ltb 3 x) strs (pick (eqb x 1) bools (pick (eqb x 2) ints floats))
 
 -- the type that a text names
 abbrev pub type_of : Named → Option ColumnType
