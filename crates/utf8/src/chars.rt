@@ -215,7 +215,8 @@ fn fault_at(s: &[u8], at: usize) -> Option<Refusal>
     fault_from(s, at + 1, a)
 }
 
-// What is refused at a place where no character stands.
+// What is refused at a place where no character stands. Never put where it is called, so that `long_at` stays small.
+#[inline(never)]
 fn no_char(s: &[u8], at: usize) -> Result<usize, Refusal>
     ensures { result ≡ refused_by (char_fault (drop at s.now)) }
 {
@@ -225,7 +226,8 @@ fn no_char(s: &[u8], at: usize) -> Result<usize, Refusal>
     }
 }
 
-// The character at a place that begins with a byte of class k, no ASCII. Apart from `char_at`, so that it stays small enough to be put where it is called.
+// The character at a place that begins with a byte of class k, no ASCII. Put where it is called: a Result that is handed back costs what reading the character does.
+#[inline(always)]
 pub fn long_at(s: &[u8], at: usize, k: u8) -> Result<usize, Refusal>
     requires { (at < length s.now) × (k ≡ class_of (get_or s.now at 0)) × (5 ≤ k) }
     ensures { result ≡ char_at (drop at s.now) }
@@ -240,7 +242,8 @@ pub fn long_at(s: &[u8], at: usize, k: u8) -> Result<usize, Refusal>
     Ok(n)
 }
 
-// The length of the character at a place, or its fault.
+// The length of the character at a place, or its fault. Never put where it is called, so that its callers stay small: most characters they know without it.
+#[inline(never)]
 pub fn char_at(t: &Classes, s: &[u8], at: usize) -> Result<usize, Refusal>
     ensures { result ≡ char_at (drop at s.now) }
 {
