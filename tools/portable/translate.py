@@ -73,14 +73,23 @@ HEAD = """\
 #define J8_OF(name, field) u.name.field
 #endif
 
-/* A part of its one caller in a ring of calls, so that each turn of the ring takes one frame of the stack and not several. */
+/* Put where it is called: a part of its one caller in a ring of calls, so that each turn of the ring takes one frame of the stack and not several (J8_PART); and by
+   gcc what the source has so, since a struct that is handed back costs more than what is done. Clang sees that by itself (J8_NEAR). */
 #if defined __GNUC__ && !defined J8_PLAIN
 #define J8_PART inline __attribute__((always_inline))
 #else
 #define J8_PART inline
 #endif
+#if defined __clang__
+#define J8_NEAR inline
+#else
+#define J8_NEAR J8_PART
+#endif
 """
 
+
+# Besides the functions that a source's hint says it of, what gcc is to put where it is called: LLVM does so without a hint.
+NEAR = {"json8_leaves::leaves::mark"}
 
 # How many statements such a block may have, less one.
 SCOPE_MAX = 6
@@ -271,7 +280,8 @@ class Writer:
         """Inline, so that gcc -O2 puts a block's loop where its length is a number that it knows."""
         taken = [at for at in range(1, self.function.params + 1) if self.locals[at] != Unit()]
         params = [self.shapes.declare(self.locals[at], "v%d" % at) for at in taken]
-        kind = "J8_PART" if self.function.symbol in self.files.parts else "inline"
+        near = self.function.symbol in NEAR or self.files.sources.is_hinted(self.function.symbol)
+        kind = "J8_PART" if self.function.symbol in self.files.parts else "J8_NEAR" if near else "inline"
         return ("static %s %s %s(%s)" % (kind, self.shapes.name(self.locals[0]), c_name(self.function.symbol), ", ".join(params) or "void")).replace("* ", "*")
 
     def whole(self):
@@ -301,6 +311,7 @@ class File:
         for symbol, term in program.terms.items():
             with_name(symbol, lambda: self.functions.update({symbol: function_of(symbol, term)}))
         self.parts = parts_of(program.terms)
+        need(NEAR <= set(program.terms), "no function of", NEAR)
 
     def constant(self, ty, numbers):
         """A constant array's name: it stands once in the file, and a function copies it."""
