@@ -1,6 +1,6 @@
 #!/usr/bin/env python3
 """Holds the MIR of the proved libraries, as libraries.py prints it, to the MIR that the proofs are about, as rt writes it out for a person to read: types, locals and
-body of every function, and the declared types that it names.
+body of every function, and the declared types that it names. The functions of the kit's library `core`, of which rt writes out nothing, it holds to core.py.
 
     same.py MIR STATED
 
@@ -11,6 +11,7 @@ import os
 import re
 import sys
 
+from core import CORE
 from mir import WIDTHS, Stop, Text, items, need, number, parse, parts, shown
 
 DEFINITION = re.compile(r"^(?:abbrev|unfoldable) pub (\S+) :\s(?:.*?)^\1 =\s(.*?)(?=\n\n|\Z)", re.M | re.S)
@@ -257,19 +258,36 @@ def without_pointed_to(definition):
     return [head, symbol, function, ["list"] + [one for one in entries if str(one[1]) in wanted]]
 
 
+def held_to_core(printed):
+    """Holds the functions of core to what core.py states: each as it stands there, and no others."""
+    left = {}
+    for promise, text in CORE:
+        (one,) = parse(text)
+        left[str(parts(one, "fn_def", 3)[0])] = (promise, one)
+    for one in printed:
+        symbol = str(one[1])
+        need(symbol in left, symbol, "isn't stated in core.py")
+        promise, other = left.pop(symbol)
+        need(one == other, symbol, "isn't as core.py states it (%s):" % promise, difference(one, other))
+    need(not left, "core.py states, and there is none:", *left)
+
+
 def main():
     need(len(sys.argv) == 3, "usage: same.py MIR STATED")
     sys.setrecursionlimit(100000)
     stated = Stated(sys.argv[2])
     with open(sys.argv[1], encoding="utf-8") as file:
         printed = parse(file.read())
-    need(printed, "no functions")
-    for one in printed:
-        symbol = str(parts(one, "fn_def", 3)[0])
+    core = [one for one in printed if str(parts(one, "fn_def", 3)[0]).startswith("core::")]
+    held_to_core(core)
+    proved = [one for one in printed if one not in core]
+    need(proved, "no functions")
+    for one in proved:
+        symbol = str(one[1])
         other = stated.definition(symbol)
         one, other = spoken(without_pointed_to(one)), spoken(without_pointed_to(other))
         need(one == other, symbol, "isn't what is proved:", difference(one, other))
-    print("portable: %d functions are what the proofs are about" % len(printed))
+    print("portable: %d functions are what the proofs are about, and %d of core as stated" % (len(proved), len(core)))
 
 
 if __name__ == "__main__":
