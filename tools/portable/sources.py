@@ -108,14 +108,14 @@ class Sources:
             names.append(found.group(1))
         return names
 
-    def is_hinted(self, symbol):
-        """Whether a function's source asks the compiler, by `inline` or `inline(always)`, to put it where it is called."""
+    def hint(self, symbol):
+        """What a function's source asks of the compiler, `inline` or `inline(always)`: to put it where it is called."""
         if symbol.startswith("core::"):
-            return False
+            return ""
         name = re.sub(r"::\d+$", "", symbol).split("::")[-1]
         found = re.findall(r"(?:^ *#\[(inline(?:\(\w+\))?)\]\n)?^ *(?:pub(?:\(crate\))? )?fn %s\b" % name, self.text(symbol), re.M)
         need(found, self.file(symbol), "has no function", symbol)
-        return len(set(found)) == 1 and found[0] in ("inline", "inline(always)")
+        return found[0] if len(set(found)) == 1 and found[0] != "inline(never)" else ""
 
     def params(self, symbol, types):
         """The names of a function's parameters."""

@@ -85,10 +85,18 @@ HEAD = """\
 #else
 #define J8_NEAR J8_PART
 #endif
+/* The same where the stack isn't what counts. */
+#if SIZE_MAX < UINT64_MAX
+#define J8_NEAR_64 inline
+#else
+#define J8_NEAR_64 J8_NEAR
+#endif
 """
 
 
-# Besides the functions that a source's hint says it of, what gcc is to put where it is called: LLVM does so without a hint.
+# What a source's hint is in C.
+KINDS = {"": "inline", "inline": "J8_NEAR", "inline(always)": "J8_NEAR_64"}
+# What gcc is to put where it is called besides: LLVM does so without a hint.
 NEAR = {"json8_leaves::leaves::mark"}
 
 # How many statements such a block may have, less one.
@@ -280,8 +288,8 @@ class Writer:
         """Inline, so that gcc -O2 puts a block's loop where its length is a number that it knows."""
         taken = [at for at in range(1, self.function.params + 1) if self.locals[at] != Unit()]
         params = [self.shapes.declare(self.locals[at], "v%d" % at) for at in taken]
-        near = self.function.symbol in NEAR or self.files.sources.is_hinted(self.function.symbol)
-        kind = "J8_PART" if self.function.symbol in self.files.parts else "J8_NEAR" if near else "inline"
+        symbol = self.function.symbol
+        kind = "J8_PART" if symbol in self.files.parts else "J8_NEAR" if symbol in NEAR else KINDS[self.files.sources.hint(symbol)]
         return ("static %s %s %s(%s)" % (kind, self.shapes.name(self.locals[0]), c_name(self.function.symbol), ", ".join(params) or "void")).replace("* ", "*")
 
     def whole(self):
@@ -311,7 +319,6 @@ class File:
         for symbol, term in program.terms.items():
             with_name(symbol, lambda: self.functions.update({symbol: function_of(symbol, term)}))
         self.parts = parts_of(program.terms)
-        need(NEAR <= set(program.terms), "no function of", NEAR)
 
     def constant(self, ty, numbers):
         """A constant array's name: it stands once in the file, and a function copies it."""
@@ -367,6 +374,7 @@ def main():
     sys.setrecursionlimit(100000)
     with open(sys.argv[1], encoding="utf-8") as mir, open(sys.argv[2], encoding="utf-8") as header:
         file = File(mir.read(), header.read(), sys.argv[3])
+    need(NEAR <= set(file.functions), "no function of", *NEAR)
     sys.stdout.write(file.text())
     print("portable: %d functions, %d of them in j8.h, %d types" % (len(file.functions), len(file.header.functions), len(file.shapes.made)), file=sys.stderr)
 
