@@ -74,13 +74,14 @@ HEAD = """\
 #endif
 
 /* Put where it is called: a part of its one caller in a ring of calls, so that each turn of the ring takes one frame of the stack and not several (J8_PART); and by
-   gcc what the source has so, since a struct that is handed back costs more than what is done. Clang sees that by itself (J8_NEAR). */
+   gcc what the source has so, since a struct that is handed back costs more than what is done. Clang sees that by itself, and without optimization it costs
+   stack alone (J8_NEAR). */
 #if defined __GNUC__ && !defined J8_PLAIN
 #define J8_PART inline __attribute__((always_inline))
 #else
 #define J8_PART inline
 #endif
-#if defined __clang__
+#if defined __clang__ || !defined __OPTIMIZE__
 #define J8_NEAR inline
 #else
 #define J8_NEAR J8_PART
