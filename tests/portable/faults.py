@@ -65,6 +65,7 @@ FAULTS = [
     ("a block of its own for what is pointed to", "translate.py", "at in self.read and not self.function.in_memory[at] and at not in", "at in self.read and at not in"),
     ("a block of its own for what is used behind it", "translate.py", " and sum(found[k][at] for k in where) == self.uses[at]", ""),
     ("a block that ends before what is handed on arrives", "translate.py", "written[k] = written[k + 1]", "written[k] = k"),
+    ("what takes something as a constant", "translate.py", "if self.functions[symbol].params == 0}", "if self.functions[symbol].params >= 0}"),
     ("a value that is handed on and not taken", "forms.py", 'w.held.pop(at, "v%d" % at)', '"v%d" % at'),
     ("usize in 32 bits", "shapes.py", 'return "uint%d_t" % ty.width', 'return "uint%d_t" % min(ty.width, 32)'),
     ("constants in 32 bits", "forms.py", 'return Value("UINT%d_C(%d)" % (ty.width, value), ty)', 'return Value("UINT%d_C(%d)" % (ty.width, value % 2**32), ty)'),

@@ -469,7 +469,8 @@ def lend_static(w, term):
 
 
 def call(w, term):
-    """call: the values of the operands are handed over, but for units, which hold nothing, and the result is stored to the place, which here is a whole local."""
+    """call: the values of the operands are handed over, but for units, which hold nothing, and the result is stored to the place, which here is a whole local. What
+    a function gives that takes nothing and does nothing else stands in the call's place."""
     to = parts(term, "call", 3)[2]
     target = place(w, to)
     need(items(to[2]) == [], "a call that stores to a part")
@@ -489,7 +490,7 @@ def call_value(w, term, target):
     for want, value in zip(types[1:], values):
         same(want, value.type, value.text)
     same(target.type, types[0], "result of " + symbol)
-    text = "%s(%s)" % (c_name(symbol), ", ".join(value.text for value in values if value.type != Unit()))
+    text = w.files.given.get(symbol) or "%s(%s)" % (c_name(symbol), ", ".join(value.text for value in values if value.type != Unit()))
     return Value(text, types[0], "", sum((value.checks for value in values), ()))
 
 

@@ -109,13 +109,13 @@ class Sources:
         return names
 
     def hint(self, symbol):
-        """What a function's source asks of the compiler, `inline` or `inline(always)`: to put it where it is called."""
+        """What a function's source asks of the compiler: `inline` or `inline(always)`, to put it where it is called, or `inline(never)`."""
         if symbol.startswith("core::"):
             return ""
         name = re.sub(r"::\d+$", "", symbol).split("::")[-1]
         found = re.findall(r"(?:^ *#\[(inline(?:\(\w+\))?)\]\n)?^ *(?:pub(?:\(crate\))? )?fn %s\b" % name, self.text(symbol), re.M)
         need(found, self.file(symbol), "has no function", symbol)
-        return found[0] if len(set(found)) == 1 and found[0] != "inline(never)" else ""
+        return found[0] if len(set(found)) == 1 else ""
 
     def params(self, symbol, types):
         """The names of a function's parameters."""

@@ -92,13 +92,19 @@ HEAD = """\
 #else
 #define J8_NEAR_64 J8_NEAR
 #endif
+/* Never put where it is called: by clang, which then sees that what calls it is small; gcc puts it there as it likes. */
+#if defined __clang__ && !defined J8_PLAIN
+#define J8_APART __attribute__((noinline))
+#else
+#define J8_APART inline
+#endif
 """
 
 
 # What a source's hint is in C.
-KINDS = {"": "inline", "inline": "J8_NEAR", "inline(always)": "J8_NEAR_64"}
-# What gcc is to put where it is called besides: LLVM does so without a hint.
-NEAR = {"json8_leaves::leaves::mark"}
+KINDS = {"": "inline", "inline": "J8_NEAR", "inline(always)": "J8_NEAR_64", "inline(never)": "J8_APART"}
+# What gcc is to put where it is called besides, since a struct is handed back or over: LLVM does so without a hint.
+NEAR = {"json8_leaves::leaves::mark", "json8_show::show::shown_at", "upload::uploads::stop"}
 
 # How many statements such a block may have, less one.
 SCOPE_MAX = 6
@@ -308,6 +314,12 @@ class Writer:
         out += ["    J8_ROOM((void)r%d;)" % at for at in own if self.room(at).startswith("r")]
         return "\n".join(out + self.lines + ["}", ""])
 
+    def value(self):
+        """What the function gives, if it does nothing else."""
+        if len(self.lines) != 2 or not self.lines[0].startswith("    v0 = ") or self.lines[1] != "    return v0;":
+            return ""
+        return self.lines[0][len("    v0 = ") : -1]
+
 
 class File:
     """The C file: types, constant arrays, functions, and the functions of the header."""
@@ -316,10 +328,12 @@ class File:
         self.header, self.sources = Header(header), Sources(root)
         program = program_of(mir, self.header.functions)
         self.shapes, self.constants, self.helpers = Shapes(program, self.sources), [], set()
-        self.functions = {}
+        self.functions, self.given = {}, {}
         for symbol, term in program.terms.items():
             with_name(symbol, lambda: self.functions.update({symbol: function_of(symbol, term)}))
         self.parts = parts_of(program.terms)
+        alone = [symbol for symbol, term in program.terms.items() if not calls_in(term) and symbol.split("::")[-1] not in self.header.functions]
+        self.constant_functions = {symbol for symbol in alone if self.functions[symbol].params == 0}
 
     def constant(self, ty, numbers):
         """A constant array's name: it stands once in the file, and a function copies it."""
@@ -330,14 +344,21 @@ class File:
         return name
 
     def text(self):
-        writers = [with_name(symbol, lambda: Writer(function, self)) for symbol, function in self.functions.items()]
-        bodies = [with_name(one.function.symbol, one.whole) for one in writers]
-        heads = [one.head() + ";\n" for one in writers]
+        writers = {symbol: with_name(symbol, lambda: Writer(function, self)) for symbol, function in self.functions.items()}
+        texts = {}
+        # What takes nothing and does nothing but give a value stands where it is called: so a table is copied once, and no second one lies on the stack.
+        for symbol in sorted(writers, key=lambda one: one not in self.constant_functions):
+            texts[symbol] = with_name(symbol, writers[symbol].whole)
+            if symbol in self.constant_functions and writers[symbol].value():
+                self.given[symbol] = writers[symbol].value()
+        own = [symbol for symbol in self.functions if symbol not in self.given]
+        bodies = [texts[symbol] for symbol in own]
+        heads = [writers[symbol].head() + ";\n" for symbol in own]
         wrappers = []
         for name in self.header.functions:
             symbol = [one for one in self.functions if one.split("::")[-1] == name][0]
             wrappers.append(with_name(name, lambda: self.header.wrapper(self.shapes, self.sources, name, self.functions[symbol])))
-        names = [c_name(symbol) for symbol in self.functions] + list(self.shapes.made) + list(self.header.functions)
+        names = [c_name(symbol) for symbol in own] + list(self.shapes.made) + list(self.header.functions)
         need(len({one[:63] for one in names}) == len(names), "two things of one name in C")
         types, helpers = self.shapes.made.values(), [HELPERS[one] for one in sorted(self.helpers)]
         made = [HEAD % {"version": self.header.version}, "\n".join(types), "\n".join(self.constants), "\n".join(helpers), "".join(heads)]
