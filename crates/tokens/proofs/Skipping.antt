@@ -55,6 +55,11 @@ good_len s n e = go (char_len s) refl e (char_le s)
         let z : ◌≡◌ {A = Result ℕ Refusal} (Err why) (Ok n) = rw f at e in never cc
     go (suc k) l e h = let q : suc k ≡ n = cc in (omega arith, omega arith)
 
+-- where the length isn't 0, the check gives it
+good_of : (s : List ℕ) (n : ℕ) → n ≡ char_len s → (n ≡ 0 → ⊥) → char_at s ≡ Ok n
+good_of s zero e h = absurd (h refl)
+good_of s (suc n) e h = rw (← e)
+
 pub comment_further : (s : List ℕ) (at n : ℕ) → char_at (drop at s) ≡ Ok n → 0 < n
 comment_further s at n e = (good_len (drop at s) n e).0
 
@@ -101,6 +106,9 @@ module _ (s : List ℕ) (from at : ℕ) (o : Bool) (i : Skipping s from at o) wh
 
       pub comment_plain : (get_or s at 0 ≡ 10 → ⊥) → (k : ℕ) → k ≡ class_of (get_or s at 0) → k ≡ 0 → Skipping s from (at + 1) o
       comment_plain ne k ek z = comment_char ne 1 (sym (is_one s at k h ek (omega arith)))
+
+      pub comment_long : (get_or s at 0 ≡ 10 → ⊥) → (n : ℕ) → n ≡ char_len (drop at s) → (n ≡ 0 → ⊥) → Skipping s from (at + n) o
+      comment_long ne n e z = comment_char ne n (good_of (drop at s) n e z)
 
       pub comment_ill : (get_or s at 0 ≡ 10 → ⊥) → (refusal : Refusal) → char_at (drop at s) ≡ Err refusal → Err (refused_at refusal (at - from)) ≡ blanks (drop from s)
       unfolding passing pick

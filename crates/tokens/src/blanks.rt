@@ -1,5 +1,7 @@
 // Whitespace and comments.
-ghost use Rattle.std.specs.Prelude.{◌≡◌, ◌≤◌, length, drop};
+ghost use Rattle.std.specs.Prelude.{◌≡◌, ◌<◌, ◌≤◌, length, get_or, drop};
+ghost use Rattle.utf8.specs.Class.{class_of};
+ghost use Rattle.utf8.specs.Utf8.{char_len};
 ghost use Rattle.tokens.specs.Blanks.{is_space, blanks};
 
 use prelude::refusals::Refused;
@@ -21,6 +23,21 @@ fn is_space(x: u8) -> bool
     x == b'\t'
 }
 
+// The length of the character at a place that begins with a byte of class k; 0 where none stands. Never put where it is called, so that `skip` stays small.
+#[inline(never)]
+fn char_len(s: &[u8], at: usize, k: u8) -> usize
+    requires { (at < length s.now) × (k ≡ class_of (get_or s.now at 0)) }
+    ensures { result ≡ char_len (drop at s.now) }
+{
+    if k < 5 {
+        return 1;
+    }
+    if k < 6 {
+        return 0;
+    }
+    chars::long_len(s, at, k)
+}
+
 // How many bytes of whitespace and comments stand from a place on, or a refusal, its place counted from there. Plain bytes of a comment
 // never call.
 pub fn skip(t: &Classes, s: &[u8], from: usize) -> Result<usize, Refused>
@@ -38,8 +55,15 @@ pub fn skip(t: &Classes, s: &[u8], from: usize) -> Result<usize, Refused>
                 at += 1;
                 continue;
             }
-            if t.class(x) == 0 {
+            let k = t.class(x);
+            if k == 0 {
                 at += 1;
+                continue;
+            }
+            // A Result that is handed back costs as much as reading the character.
+            let n = char_len(s, at, k);
+            if n != 0 {
+                at += n;
                 continue;
             }
             match chars::char_at(t, s, at) {

@@ -1,6 +1,6 @@
 use mathlib.Core.Path.{sym, ◌∙◌}
 use native.Mathlib.Omega.{arith}
-use Rattle.tokens.proofs.Skipping.{begun, ended, comment_end, comment_char, comment_plain, comment_ill, comment_further, space_on, mark_on, token_here}
+use Rattle.tokens.proofs.Skipping.{begun, ended, comment_end, comment_char, comment_plain, comment_long, comment_ill, comment_further, space_on, mark_on, token_here}
 use Rattle.tokens.proofs.blanks.skip.Goals as goal
 
 pub loop-at-init : goal.loop-at-init
@@ -9,8 +9,15 @@ loop-at-init c = begun _ _ c.requires
 pub loop-at-preserved-then-x-eq10 : goal.loop-at-preserved-then-x-eq10
 loop-at-preserved-then-x-eq10 c = comment_end _ _ _ _ c.loop-at.invariant (omega arith) c.if-inside.true c.if-x-eq10.true
 
-pub loop-at-preserved-then-class-eq0 : goal.loop-at-preserved-then-class-eq0
-loop-at-preserved-then-class-eq0 c = comment_plain _ _ _ _ c.loop-at.invariant (omega arith) c.if-inside.true c.if-x-eq10.false _ c.class.ensures c.if-class-eq0.true
+pub loop-at-preserved-then-k-eq0 : goal.loop-at-preserved-then-k-eq0
+loop-at-preserved-then-k-eq0 c = comment_plain _ _ _ _ c.loop-at.invariant (omega arith) c.if-inside.true c.if-x-eq10.false _ c.class-k.ensures c.if-k-eq0.true
+
+pub overflow_add-at-then-n-ne0 : goal.overflow_add-at-then-n-ne0
+overflow_add-at-then-n-ne0 c =
+    let g = comment_long _ _ _ _ c.loop-at.invariant (omega arith) c.if-inside.true c.if-x-eq10.false _ c.char_len-n.ensures c.if-n-ne0.true in record { fits = omega (arith, g.inside) }
+
+pub loop-at-preserved-then-n-ne0 : goal.loop-at-preserved-then-n-ne0
+loop-at-preserved-then-n-ne0 c = comment_long _ _ _ _ c.loop-at.invariant (omega arith) c.if-inside.true c.if-x-eq10.false _ c.char_len-n.ensures c.if-n-ne0.true
 
 pub overflow_add-at-in-Ok : goal.overflow_add-at-in-Ok
 overflow_add-at-in-Ok c =
